@@ -1,0 +1,84 @@
+"""Times networkx on the instances that bench/solver.cc wrote and prints the table.
+Usage: solver_networkx.py FOLDER. A time is the median processor time of calls on a built graph, for 0.2 s and at least 3.
+Its graphs hold one arc for each pair of vertices: of parallel lengths and costs the least counts, capacities add up."""
+import sys
+import time
+
+try:
+    import networkx
+except ImportError:
+    networkx = None
+
+ROUTE, DISCHARGE, PAIRING = 1, 2, 3
+NONE = -1
+
+
+def build(question, n, arcs):
+    graph = networkx.DiGraph()
+    for v in range(n):
+        graph.add_node(v, demand=(-1 if v < n // 2 else 1) if question == PAIRING else 0)
+    for a, b, w in arcs:
+        if graph.has_edge(a, b):
+            old = graph[a][b]["weight"]
+            w = old + w if question == DISCHARGE else min(old, w)
+        graph.add_edge(a, b, weight=w)
+    return graph
+
+
+def solve(question, s, t, graph):
+    try:
+        if question == ROUTE:
+            way = networkx.shortest_path(graph, s, t, weight="weight", method="dijkstra")
+            return sum(graph[a][b]["weight"] for a, b in zip(way, way[1:]))
+        if question == DISCHARGE:
+            return networkx.maximum_flow_value(graph, s, t, capacity="weight")
+        return networkx.network_simplex(graph)[0]  # minimum_weight_full_matching would need scipy
+    except (networkx.NetworkXNoPath, networkx.NetworkXUnfeasible):
+        return NONE
+
+
+def median(call):
+    times = []
+    while len(times) < 3 or sum(times) < 0.2:
+        before = time.thread_time()
+        answer = call()
+        times.append(time.thread_time() - before)
+    return answer, 1000 * sorted(times)[len(times) // 2]
+
+
+def shown(answer):
+    return "none" if answer == NONE else str(answer)
+
+
+def main(folder):
+    rows = {}
+    for line in open(folder + "/times"):
+        name, ours, lemon, broken, *times = line.rstrip("\n").split("\t")
+        rows[name] = int(ours), int(lemon), broken, [float(t) for t in times]
+    print("| family | ours ms | LEMON ms | ratio | LEMON with building ms | networkx ms |")
+    print("|---|---|---|---|---|---|")
+    bad = []
+    for line in open(folder + "/instances"):
+        name, *numbers = line.rstrip("\n").split("\t")
+        question, n, s, t = map(int, numbers[:4])
+        ours, lemon, broken, (time_ours, time_lemon, time_built) = rows[name]
+        third, time_third = lemon, None
+        if networkx:
+            graph = build(question, n, [tuple(map(int, arc.split())) for arc in numbers[4:]])
+            third, time_third = median(lambda: solve(question, s, t, graph))
+        last = "-" if time_third is None else f"{time_third:.1f}"
+        print(f"| {name} | {time_ours:.3f} | {time_lemon:.3f} | {time_ours / time_lemon:.2f} | {time_built:.3f} | {last} |", flush=True)
+        if broken or ours != lemon or lemon != third:
+            given = f"no certificate (broken rule: {broken})" if broken else shown(ours)
+            bad.append(f"{name}: ours {given}, LEMON {shown(lemon)}, networkx {shown(third) if networkx else 'not run'}")
+    print("\nratio: ours / LEMON without building; ours starts from the list of records, so the time with building is the like one.")
+    if not networkx:
+        print("networkx is not installed and was not run.")
+    for line in bad:
+        print("!!! MISMATCH !!! " + line)
+    if not bad:
+        print(f"The same answers from ours{', LEMON and networkx' if networkx else ' and LEMON'} on all {len(rows)} instances; all our certificates hold.")
+    return 1 if bad else 0
+
+
+sys.exit(main(sys.argv[1]))

@@ -1,0 +1,34 @@
+-- `checks::annotation::node_ok` meets its contract.
+-- Assumes nothing.
+use mathlib.Core.Path.{_≡_}
+use mir.Syntax.{w32}
+use mir.Facts.{toZ-ofZ}
+use borrow.Author.Needs.{needs}
+use Rattle.prelude.specs.Integers.{between}
+use Rattle.network.specs.Tests.{questionOf, claimOf, lowest, highest}
+use Rattle.checks.proofs.Laws.{returned, tested}
+use Rattle.checks.proofs.annotation.node_ok.Statement.{statement}
+use Rattle.checks.proofs.annotation.node_ok.Tie as tie
+
+-- what the call of `within` tells, at the numbers themselves
+in-range : (c : tie.After-within) →
+    let a = c .before .before .before .args in
+    let q = questionOf (a .st .question) in
+    let k = claimOf (a .claim) in
+    c .within .result ≡ between (lowest q k) (highest q k) (a .z)
+in-range c =
+    let low = c .before .before .lowest-node in
+    let high = c .before .highest-node in
+    let s = c .before .before .before in
+    simp (returned w32 (low .result) (low .ok) (low .ensures), returned w32 (high .result) (high .ok) (high .ensures), toZ-ofZ (s .fits .z)) at (c .within .ensures)
+
+pub node-ok-spec : {M : Type 1} → statement M
+node-ok-spec =
+    tie.close
+    (tie.spec
+    (λ c κs. search needs)
+    (λ c κs. search needs)
+    (λ c κs. search needs)
+    (λ c. let e = in-range (c .before) in search tested depth 12)
+    (λ c κs. search needs)
+    (λ c. let e = in-range (c .before .before) in let f = simp (toZ-ofZ (c .before .before .before .before .before .fits .z)) at (c .node-ends .ensures) in search tested depth 12))

@@ -1,0 +1,60 @@
+-- `checks::finishing::balances_ok` meets its contract. The loop's invariant: the vertices passed have the balances that they must have.
+-- Assumes nothing.
+use mathlib.Core.Path.{sym, _∙_}
+use Prim.Native.Nat.{_≤_, _-_}
+use native.Mathlib.Omega.{arith}
+use lib.Dec.{T}
+use mir.Syntax.{w64}
+use borrow.Author.Needs.{needs}
+use borrow.Author.Tests.{not-true, not-false}
+use Rattle.prelude.specs.Lists.{at}
+use Rattle.prelude.specs.Sums.{allTo}
+use Rattle.prelude.proofs.Booleans.{true→T}
+use Rattle.prelude.proofs.Signs.{back}
+use Rattle.network.specs.Tests.{questionOf, balanceFor}
+use Rattle.checks.specs.Setting.{asked}
+use Rattle.checks.proofs.Laws.{is-value, is-none}
+use Rattle.checks.proofs.Totals.{all-more, all-fails, all-end}
+use Rattle.checks.proofs.finishing.balances_ok.Statement.{statement}
+use Rattle.checks.proofs.finishing.balances_ok.Tie as tie
+
+abbrev Inv-loop : tie.InvT-loop
+Inv-loop st claim balances n v₀ v = (v ≤ st .n) × T (allTo v (λ u. balanceFor (questionOf (st .question)) (asked st) u (at balances u)))
+
+abbrev μ-loop : tie.MeasureT-loop
+μ-loop st claim balances n v₀ v = n - v
+
+loop-holds : tie.Need-loop-holds Inv-loop μ-loop
+unfolding allTo
+loop-holds c = (omega arith, tt)
+
+pub balances-ok-spec : {M : Type 1} → statement M
+balances-ok-spec =
+    tie.close
+    (tie.spec
+    Inv-loop
+    μ-loop
+    (λ c. rw (is-none _ (c .if1 .taken)))
+    loop-holds
+    (λ c. search needs)
+    (λ c. search needs)
+    (λ c. search needs)
+    (λ c κs. search needs)
+    (λ c.
+    let v = c .before .before .before .before .loop .v in
+    let a = c .before .before .before .before .before .before .args in
+    let e = simp (back w64 (at (a .t3) v) (c .before .before .b .given)) at (c .before .balance-ok .ensures) in
+    rw (is-value _ (c .before .before .before .before .before .if1 .left))
+    (sym (all-fails _ v _ (c .before .before .before .loop-test .taken) (sym e ∙ not-true _ (c .if2 .taken)))))
+    (λ c. search needs)
+    (λ c. search needs)
+    (λ c.
+    let v = c .before .before .before .before .loop .v in
+    let a = c .before .before .before .before .before .before .args in
+    let e = simp (back w64 (at (a .t3) v) (c .before .before .b .given)) at (c .before .balance-ok .ensures) in (
+      omega arith,
+      all-more _ v (c .before .before .before .before .loop .inv .1) (true→T _ (sym e ∙ not-false _ (c .if2 .left))),
+    ))
+    (λ c.
+    let i = c .before .loop .inv in
+    rw (is-value _ (c .before .before .if1 .left)) (all-end _ _ _ (i .0) (c .loop-test .left) (i .1))))

@@ -1,0 +1,18 @@
+-- `checks::finishing::more_pumps` meets its contract.
+-- Assumes nothing.
+use native.Mathlib.Nat.{zero-add, sub-zero}
+use borrow.Author.Needs.{needs}
+use Rattle.checks.proofs.finishing.more_pumps.Statement.{statement}
+use Rattle.checks.proofs.finishing.more_pumps.Tie as tie
+
+pub more-pumps-spec : {M : Type 1} → statement M
+more-pumps-spec =
+    tie.close
+    (tie.spec
+    (λ c. search needs)
+    (λ c κs. search needs)
+    (λ c κs. search needs)
+    (λ c.
+    let pumps = simp (zero-add, sub-zero) at (c .before .count-marked .ensures) in
+    let sites = c .count-marked2 .ensures in
+    rw (pumps, sites)))

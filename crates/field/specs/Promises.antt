@@ -1,0 +1,44 @@
+-- What is promised of keys and fingerprints; proofs/Promises.antt keeps it.
+-- Assumes nothing.
+use mathlib.Core.Path.{_≡_}
+use mathlib.Core.List.{List}
+use Prim.Native.Nat.{ℕ, _-_, _≤_, _<_}
+use lib.ListN.{length}
+use Rattle.prelude.specs.Lists.{Every, Perm, AtMost}
+use Rattle.prelude.specs.Sums.{count}
+use Rattle.field.specs.Field.{p, Prime, keyOf, Keyed, fingerprint, Agree, agree}
+
+-- "That p is prime is proved, never assumed."
+abbrev pub PrimeModulus : Type 0
+PrimeModulus = Prime p
+
+-- "Keys are below p, and different records have different keys."
+abbrev pub KeysBelow : Type 0
+KeysBelow = (tail head weight : ℕ) → Keyed tail head weight → keyOf tail head weight < p
+
+abbrev pub KeysDiffer : Type 0
+KeysDiffer =
+    (a b w c d x : ℕ) → Keyed a b w → Keyed c d x → keyOf a b w ≡ keyOf c d x → (a ≡ c) × (b ≡ d) × (w ≡ x)
+
+-- The lists are as long, their keys are below p, and they are no permutations of one another.
+pub record Different (ks ls : List ℕ) : Type 0 where
+  pub first-below : Every (λ k. k < p) ks
+  pub second-below : Every (λ k. k < p) ls
+  pub as-long : length ks ≡ length ls
+  pub unlike : ¬ (Perm ks ls)
+
+-- How many points may mislead, for m keys: m - 1, and none for m 0 or 1.
+abbrev pub misleading : ℕ → ℕ
+misleading m = m - 1
+
+-- Lists that are no permutations agree at m - 1 points at most.
+abbrev pub FewAgree : Type 0
+FewAgree = (ks ls : List ℕ) → Different ks ls → AtMost (misleading (length ks)) (Agree ks ls)
+
+-- The same as a count over the points 0 to p - 1.
+abbrev pub FewCounted : Type 0
+FewCounted = (ks ls : List ℕ) → Different ks ls → count (agree ks ls) p ≤ misleading (length ks)
+
+-- Permutations agree at every point.
+abbrev pub PermutationsAgree : Type 0
+PermutationsAgree = (ks ls : List ℕ) → Perm ks ls → (r : ℕ) → fingerprint r ks ≡ fingerprint r ls

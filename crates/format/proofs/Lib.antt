@@ -1,0 +1,7 @@
+pub mod Reading
+pub mod Writing
+pub mod Windows
+pub mod Layouts
+pub mod Records
+pub mod Codings
+pub mod Promises

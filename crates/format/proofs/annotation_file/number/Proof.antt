@@ -1,0 +1,19 @@
+-- `format::annotation_file::number` meets its contract.
+-- Assumes nothing.
+use mathlib.Core.Path.{sym}
+use Prim.Native.Nat.{_+_, _*_}
+use native.Mathlib.Omega.{arith}
+use borrow.Author.Needs.{needs}
+use Rattle.format.proofs.Reading.{signed-past}
+use Rattle.format.proofs.annotation_file.number.Statement.{statement}
+use Rattle.format.proofs.annotation_file.number.Tie as tie
+
+pub number-spec : {M : Type 1} → statement M
+number-spec =
+    tie.close
+    (tie.spec
+    (λ c. sym (signed-past (c .before .before .args .file .now) (8 + 4 * c .before .before .args .v) (omega arith)))
+    (λ c. search needs)
+    (λ c. search needs)
+    (λ c κs. search needs)
+    (λ c. search needs))

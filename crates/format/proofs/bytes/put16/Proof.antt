@@ -1,0 +1,25 @@
+-- `format::bytes::put16` meets its contract.
+-- Assumes nothing.
+use mathlib.Core.List.{[], _∷_}
+use Prim.Native.Nat.{_+_, _/_, _%_}
+use native.Mathlib.Omega.{arith}
+use borrow.Author.Needs.{needs}
+use Rattle.format.specs.Bytes.{byte16}
+use Rattle.format.proofs.Writing.{sets-past, then-sets}
+use Rattle.format.proofs.bytes.put16.Statement.{statement}
+use Rattle.format.proofs.bytes.put16.Tie as tie
+
+pub put16-spec : {M : Type 1} → statement M
+put16-spec =
+    tie.close
+    (tie.spec
+    (λ c. sets-past (c .before .before .args .buffer .now) (c .before .before .args .i) (byte16 (c .before .before .args .v)) (omega arith))
+    (λ c. search needs)
+    (λ c κs. search needs)
+    (λ c. search needs)
+    (λ c. search needs)
+    (λ c κs. search needs)
+    (λ c. search needs)
+    (λ c.
+    let s = c .before .before .before .before .before .before .before .before .before .before .args in
+    then-sets (s .buffer .now) (s .i) (s .v / 256 ∷ []) (s .v % 256 ∷ []) (s .i + 1) (c .before .before .before .before .before .before .put-byte .ensures) (omega arith) (c .before .before .put-byte2 .ensures)))

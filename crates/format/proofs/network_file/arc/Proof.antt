@@ -1,0 +1,26 @@
+-- `format::network_file::arc` meets its contract.
+-- Assumes nothing.
+use mathlib.Core.Path.{sym}
+use Prim.Native.Nat.{_+_, _*_}
+use native.Mathlib.Omega.{arith}
+use borrow.Author.Needs.{needs}
+use Rattle.format.proofs.Reading.{arc-past}
+use Rattle.format.proofs.network_file.arc.Statement.{statement}
+use Rattle.format.proofs.network_file.arc.Tie as tie
+
+pub arc-spec : {M : Type 1} → statement M
+arc-spec =
+    tie.close
+    (tie.spec
+    (λ c. let a = c .before .before .args in sym (arc-past (a .file .now) (11 + 4 * a .e) (omega arith)))
+    (λ c. search needs)
+    (λ c. search needs)
+    (λ c κs. search needs)
+    (λ c. search needs)
+    (λ c. search needs)
+    (λ c κs. search needs)
+    (λ c. search needs)
+    (λ c. search needs)
+    (λ c κs. search needs)
+    (λ c. search needs)
+    (λ c. cc))

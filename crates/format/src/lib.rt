@@ -1,0 +1,5 @@
+// The two files of a network and its annotation, read and written in bytes, most significant byte first.
+pub mod annotation_file;
+pub mod bytes;
+pub mod layout;
+pub mod network_file;

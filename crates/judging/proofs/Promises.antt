@@ -1,0 +1,195 @@
+-- The promises of specs/Promises.antt, kept: judging is an exchange whose steps the two files hold.
+-- Assumes nothing.
+use mathlib.Core.Path.{_≡_, sym, _∙_, ap, subst}
+use mathlib.Core.List.{List, [], _∷_, _++_, map, append-nil, append-assoc}
+use mathlib.Core.Logic.{inl, inr}
+use Prim.Native.Nat.{ℕ, suc, _+_, _≤_}
+use native.Mathlib.Omega.{arith}
+use lib.Dec.{lt→ltb, ltb→lt}
+use lib.IntN.{ℤ}
+use lib.ListN.{length, length-map, length-append}
+use Rattle.prelude.specs.Checks.{Check, _unless_, settle, Hold}
+use Rattle.prelude.specs.Lists.{Every, Some, at}
+use Rattle.prelude.proofs.Settle.{settled, settle-append, hold-append, hold-left, hold-right}
+use Rattle.prelude.proofs.Lists.{every-map}
+use Rattle.prelude.proofs.Permutations.{perm-length}
+use Rattle.field.specs.Field.{p}
+use Rattle.field.specs.Promises.{misleading}
+use Rattle.network.specs.Network.{Arc, Load}
+use Rattle.network.specs.Question.{Setting, Opened, Allowed, Answer, value, none, TrueAnswer}
+use Rattle.network.specs.Tests.{openingChecks, claimNumber, claimFor, claimOf, answerOf}
+use Rattle.network.proofs.Allowed.{size-rule, ends-rule, joins-rule, weight-rule}
+use Rattle.network.proofs.Promises.{certificates-sound}
+use Rattle.session.specs.Print.{Point, pointOk}
+use Rattle.session.specs.Session.{Said, accepted, gives, refused}
+use Rattle.session.specs.Steps.{openChecks}
+use Rattle.runs.specs.Run.{Step, read, end, claim, number, repeat, finish, runFrom, listFrom, listRead, Wrong, WrongAt}
+use Rattle.runs.specs.Exchange.{exchange, outcome, readRule, readRules, sumsAt, annotationRules, finalRules, Open}
+use Rattle.runs.proofs.Looks.{no-answer}
+use Rattle.runs.proofs.Meets.{given}
+use Rattle.runs.proofs.Bound.{wrong-held}
+use Rattle.runs.proofs.Promises.{first-broken, certificates-pass, few-wrong}
+use Rattle.format.specs.Files.{questionIn, nIn, sIn, tIn, arcsIn, claimIn, numbersIn, loadsIn, annotationFile, networkLayout, annotationLayout}
+use Rattle.format.specs.Promises.{Byte}
+use Rattle.format.proofs.Promises.{annotation-round-trip}
+use Rattle.judging.specs.Judging.{settingIn, numbersFor, loadsFor, networkChecks, annotationChecks, judged, JudgedWrong}
+use Rattle.judging.specs.Promises.{JudgedBySteps, FewJudgedWrong, OnlyAccepted, CertificatesJudged}
+
+-- ---- the list read of an exchange
+
+list-read : (st : Setting) (l es : List Arc) (rest : List Step) → Hold (readRules st (length l) es) → listFrom st l (map read es ++ (end ∷ rest)) ≡ l ++ es
+unfolding listFrom readRules
+list-read st l [] rest h = sym (append-nil l)
+list-read st l (e ∷ es) rest h =
+    let one = hold-left (readRule st (length l) e) (readRules st (suc (length l)) es) h in
+    let more = hold-right (readRule st (length l) e) (readRules st (suc (length l)) es) h in
+    ap (λ (k : List Arc). listFrom st k (map read es ++ (end ∷ rest))) (settled (λ why. l) (readRule st (length l) e) (l ++ e ∷ []) one)
+    ∙ list-read st (l ++ e ∷ []) es rest (subst (λ (n : ℕ). Hold (readRules st n es)) (omega (arith, length-append l (e ∷ []))) more)
+    ∙ append-assoc l (e ∷ []) es
+
+-- what comes out is what some step said
+said-by : (P : Said → Type 0) (l : List Said) (a : Answer) → outcome l ≡ gives a → P (gives a) → Some P l
+said-by P [] a e h = let z : _≡_ {A = ℕ} 0 1 = cc in absurd (omega arith)
+said-by P (accepted ∷ l) a e h = inr (said-by P l a e h)
+said-by P (gives b ∷ l) a e h = inl (subst P (sym e) h)
+said-by P (refused k ∷ l) a e h = absurd (no-answer k a e)
+
+-- ---- the checks of two files
+
+module _ (net ann : List ℕ) (r : Point) where
+  abbrev st : Setting
+  st = settingIn net
+
+  abbrev steps : List Step
+  steps = exchange (arcsIn net) (claimIn ann) (numbersFor net ann) (loadsFor net ann)
+
+  abbrev pub answer : Answer
+  answer = answerOf st (claimOf (claimIn ann)) (sumsAt (numbersFor net ann) (loadsFor net ann))
+
+  abbrev pub opens : List Check
+  opens = openChecks (questionIn net) (nIn net) (sIn net) (tIn net) r
+
+  abbrev pub reads : List Check
+  reads = readRules st 0 (arcsIn net)
+
+  abbrev pub notes : List Check
+  notes = annotationRules st (length (arcsIn net)) (claimIn ann) (numbersFor net ann) (loadsFor net ann)
+
+  abbrev pub ends : List Check
+  ends = finalRules st r (arcsIn net) (claimIn ann) (numbersFor net ann) (loadsFor net ann)
+
+  pub by-steps : Hold (networkLayout net) → Hold opens → Hold reads → Hold (annotationLayout (nIn net) ann)
+      → judged net ann r ≡ outcome (runFrom (questionIn net) (nIn net) (sIn net) (tIn net) r steps)
+  by-steps hl ho hr ha =
+      settle-append refused (networkChecks net r) (annotationChecks net ann r) (gives answer)
+      ∙ settled refused (networkChecks net r) (settle refused (annotationChecks net ann r) (gives answer)) (hold-append (networkLayout net) (opens ++ reads) hl (hold-append opens reads ho hr))
+      ∙ settle-append refused (annotationLayout (nIn net) ann) (notes ++ ends) (gives answer)
+      ∙ settled refused (annotationLayout (nIn net) ann) (settle refused (notes ++ ends) (gives answer)) ha
+      ∙ sym (settle-append refused reads (notes ++ ends) (gives answer) ∙ settled refused reads (settle refused (notes ++ ends) (gives answer)) hr)
+      ∙ sym (first-broken (questionIn net) (nIn net) (sIn net) (tIn net) r (arcsIn net) (claimIn ann) (numbersFor net ann) (loadsFor net ann) open-ok)
+    where
+      open-ok : Open (questionIn net) (nIn net) (sIn net) (tIn net) r
+      open-ok = record {
+        question = ho .0;
+        opened = record { sized = size-rule st (ho .1 .0); ends = ends-rule st (ho .1 .1 .0) };
+        point = ltb→lt r p (ho .1 .1 .1 .0);
+      }
+
+pub judged-by-steps : JudgedBySteps
+judged-by-steps net ann r h ha hr =
+    let rest = hold-right (networkLayout net) (openingChecks (questionIn net) (settingIn net) ++ readRules (settingIn net) 0 (arcsIn net)) h in
+    by-steps net ann r
+    (hold-left (networkLayout net) (openingChecks (questionIn net) (settingIn net) ++ readRules (settingIn net) 0 (arcsIn net)) h)
+    (hold-append (openingChecks (questionIn net) (settingIn net)) (4 unless pointOk r ∷ []) (hold-left (openingChecks (questionIn net) (settingIn net)) (readRules (settingIn net) 0 (arcsIn net)) rest) (lt→ltb r p hr, tt))
+    (hold-right (openingChecks (questionIn net) (settingIn net)) (readRules (settingIn net) 0 (arcsIn net)) rest)
+    ha
+
+pub only-accepted : OnlyAccepted
+only-accepted net ann r a e =
+    let h = given (networkChecks net r ++ annotationChecks net ann r) (answer net ann r) a e .0 in
+    let n = hold-left (networkChecks net r) (annotationChecks net ann r) h in
+    let rest = hold-right (networkLayout net) (opens net ann r ++ reads net ann r) n in
+    hold-append (networkLayout net) (openingChecks (questionIn net) (settingIn net) ++ readRules (settingIn net) 0 (arcsIn net))
+    (hold-left (networkLayout net) (opens net ann r ++ reads net ann r) n)
+    (hold-append (openingChecks (questionIn net) (settingIn net)) (reads net ann r)
+    (hold-left (openingChecks (questionIn net) (settingIn net)) (4 unless pointOk r ∷ []) (hold-left (opens net ann r) (reads net ann r) rest))
+    (hold-right (opens net ann r) (reads net ann r) rest))
+
+-- ---- how few points mislead
+
+module _ (net ann : List ℕ) where
+  abbrev exchanged : List Step
+  exchanged = exchange (arcsIn net) (claimIn ann) (numbersFor net ann) (loadsFor net ann)
+
+  abbrev WrongRun : Point → Type 0
+  WrongRun = WrongAt (questionIn net) (nIn net) (sIn net) (tIn net) exchanged
+
+  wrong-run : (r : Point) → JudgedWrong net ann r → (listRead (settingIn net) exchanged ≡ arcsIn net) × WrongRun r
+  wrong-run r w =
+      let u = wrong-held (settingIn net) (arcsIn net) (answer net ann r) (networkChecks net r ++ annotationChecks net ann r) (w .1) in
+      let n = hold-left (networkChecks net r) (annotationChecks net ann r) (u .0) in
+      let m = hold-right (networkChecks net r) (annotationChecks net ann r) (u .0) in
+      let rest = hold-right (networkLayout net) (opens net ann r ++ reads net ann r) n in
+      let hr = hold-right (opens net ann r) (reads net ann r) rest in
+      let same = list-read (settingIn net) [] (arcsIn net) (claim (claimIn ann) ∷ (map number (numbersFor net ann) ++ (map repeat (loadsFor net ann) ++ (finish ∷ [])))) hr in
+      let out = by-steps net ann r (hold-left (networkLayout net) (opens net ann r ++ reads net ann r) n) (hold-left (opens net ann r) (reads net ann r) rest) hr
+      (hold-left (annotationLayout (nIn net) ann) (notes net ann r ++ ends net ann r) m) in (
+        same,
+        (
+          w .0,
+          said-by (Wrong (settingIn net) (listRead (settingIn net) exchanged)) (runFrom (questionIn net) (nIn net) (sIn net) (tIn net) r exchanged) (answer net ann r)
+              (sym out ∙ settled refused (networkChecks net r ++ annotationChecks net ann r) (gives (answer net ann r)) (u .0))
+              (subst (λ (l : List Arc). ¬ (TrueAnswer (settingIn net) l (answer net ann r))) (sym same) (u .1)),
+        ),
+      )
+
+pub few-judged-wrong : FewJudgedWrong
+few-judged-wrong net ann [] d w = omega arith
+few-judged-wrong net ann (r ∷ rs) d w =
+    subst (λ (l : List Arc). length (r ∷ rs) ≤ misleading (length l)) (wrong-run net ann r (w .0) .0)
+    (few-wrong (questionIn net) (nIn net) (sIn net) (tIn net) (exchanged net ann) (r ∷ rs) d (every-map (λ q h. wrong-run net ann q h .1) (r ∷ rs) w))
+
+-- ---- certificates
+
+-- what the rules of reading say of the arcs
+arcs-few : (st : Setting) (i : ℕ) (es : List Arc) → i ≤ 4096 → Hold (readRules st i es) → i + length es ≤ 4096
+unfolding readRules
+arcs-few st i [] h u = omega arith
+arcs-few st i (e ∷ es) h u =
+    omega (
+      arith,
+      arcs-few st (suc i) es (omega (arith, ltb→lt i 4096 (hold-left (readRule st i e) (readRules st (suc i) es) u .0))) (hold-right (readRule st i e) (readRules st (suc i) es) u),
+    )
+
+arcs-allowed : (st : Setting) (i : ℕ) (es : List Arc) → Hold (readRules st i es) → Every (Allowed st) es
+unfolding readRules
+arcs-allowed st i [] u = tt
+arcs-allowed st i (e ∷ es) u =
+    let h = hold-left (readRule st i e) (readRules st (suc i) es) u in
+    (record { joins = joins-rule st e (h .1 .0); weight-within = weight-rule e (h .1 .1 .0) }, arcs-allowed st (suc i) es (hold-right (readRule st i e) (readRules st (suc i) es) u))
+
+claim-byte : (a : Answer) → Byte (claimNumber (claimFor a))
+claim-byte (value v) = omega arith
+claim-byte none = omega arith
+
+pub certificates-judged : CertificatesJudged
+certificates-judged net ys f a r h one-each signed fit d c hr =
+    let o = hold-right (networkLayout net) (openingChecks (questionIn net) (settingIn net) ++ readRules (settingIn net) 0 (arcsIn net)) h in
+    let oh = hold-left (openingChecks (questionIn net) (settingIn net)) (readRules (settingIn net) 0 (arcsIn net)) o in
+    let rh = hold-right (openingChecks (questionIn net) (settingIn net)) (readRules (settingIn net) 0 (arcsIn net)) o in
+    let opened : Opened (settingIn net) = record { sized = size-rule (settingIn net) (oh .1 .0); ends = ends-rule (settingIn net) (oh .1 .1 .0) } in
+    let allowed = arcs-allowed (settingIn net) 0 (arcsIn net) rh in
+    let few : length (arcsIn net) ≤ 4096 = omega (arith, arcs-few (settingIn net) 0 (arcsIn net) (omega arith) rh) in
+    let back = annotation-round-trip (claimNumber (claimFor a)) ys f (claim-byte a) signed (omega (arith, perm-length d, length-map f (λ l. l .arc))) fit in
+    let ann : List ℕ = annotationFile (claimNumber (claimFor a)) ys f in (
+      judged-by-steps net ann r h (subst (λ (n : ℕ). Hold (annotationLayout n ann)) one-each (back .passes)) hr
+          ∙ same-out net ann r (back .claim-back) (subst (λ (n : ℕ). numbersIn n ann ≡ ys) one-each (back .numbers-back)) (subst (λ (n : ℕ). loadsIn n ann ≡ f) one-each (back .loads-back))
+          ∙ certificates-pass (questionIn net) (nIn net) (sIn net) (tIn net) r (arcsIn net) ys f a
+          (record { question = oh .0; opened = opened; point = hr }) (record { allowed = allowed; few = few }) d one-each c,
+      certificates-sound (settingIn net) (arcsIn net) (at ys) f a opened allowed d c,
+    )
+  where
+    same-out : (net ann : List ℕ) (r : Point) {k : ℕ} {ys : List ℤ} {f : List Load} → claimIn ann ≡ k → numbersFor net ann ≡ ys → loadsFor net ann ≡ f
+        → outcome (runFrom (questionIn net) (nIn net) (sIn net) (tIn net) r (exchange (arcsIn net) (claimIn ann) (numbersFor net ann) (loadsFor net ann)))
+        ≡ outcome (runFrom (questionIn net) (nIn net) (sIn net) (tIn net) r (exchange (arcsIn net) k ys f))
+    same-out net ann r e1 e2 e3 = λ i. outcome (runFrom (questionIn net) (nIn net) (sIn net) (tIn net) r (exchange (arcsIn net) (e1 i) (e2 i) (e3 i)))

@@ -1,0 +1,52 @@
+-- One load more at the end, as a session repeats them: what each sum and rule becomes, and how large a sum can be.
+-- Assumes nothing.
+use mathlib.Core.Path.{_≡_, refl, ap}
+use mathlib.Core.Bool.{Bool}
+use mathlib.Core.List.{List, [], _∷_, _++_}
+use Prim.Native.Nat.{ℕ, _+_, _*_, _≤_}
+use native.Mathlib.Omega.{arith}
+use lib.IntN.{pos, _+ℤ_, _-ℤ_}
+use lib.ListN.{length}
+use Rattle.prelude.specs.Choice.{indicator}
+use Rattle.prelude.specs.Lists.{Every}
+use Rattle.prelude.proofs.Integers.{signed, parts-add, parts-sub}
+use Rattle.network.specs.Network.{Arc, Load, arcs, delta, sumOf, leaving, entering, balance, crosses, cut}
+use Rattle.network.proofs.Sound.{balance-parts}
+
+pub sumOf-snoc : (g : Arc → ℕ) (f : List Load) (l : Load) → sumOf g (f ++ l ∷ []) ≡ sumOf g f + l .amount * g (l .arc)
+unfolding sumOf
+sumOf-snoc g [] l = omega arith
+sumOf-snoc g (k ∷ f) l = omega (arith, sumOf-snoc g f l)
+
+pub arcs-snoc : (f : List Load) (l : Load) → arcs (f ++ l ∷ []) ≡ arcs f ++ l .arc ∷ []
+arcs-snoc [] l = refl
+arcs-snoc (k ∷ f) l = ap (λ (es : List Arc). k .arc ∷ es) (arcs-snoc f l)
+
+pub cut-snoc : (m : ℕ → Bool) (net : List Arc) (e : Arc) → cut m (net ++ e ∷ []) ≡ cut m net + e .weight * indicator (crosses m e)
+unfolding cut
+cut-snoc m [] e = omega arith
+cut-snoc m (d ∷ net) e = omega (arith, cut-snoc m net e)
+
+pub balance-snoc : (v : ℕ) (f : List Load) (l : Load)
+    → balance v (f ++ l ∷ []) ≡ (balance v f +ℤ pos (l .amount * delta (l .arc .tail) v)) -ℤ pos (l .amount * delta (l .arc .head) v)
+balance-snoc v f l =
+    omega (
+      signed,
+      balance-parts (leaving v (f ++ l ∷ [])) (entering v (f ++ l ∷ [])),
+      balance-parts (leaving v f) (entering v f),
+      sumOf-snoc (λ e. delta (e .tail) v) f l,
+      sumOf-snoc (λ e. delta (e .head) v) f l,
+      parts-add (balance v f) (pos (l .amount * delta (l .arc .tail) v)),
+      parts-sub (balance v f +ℤ pos (l .amount * delta (l .arc .tail) v)) (pos (l .amount * delta (l .arc .head) v)),
+    )
+
+-- where each load adds `most` at most
+pub sumOf-most : (g : Arc → ℕ) (most : ℕ) (f : List Load) → Every (λ l. l .amount * g (l .arc) ≤ most) f → sumOf g f ≤ length f * most
+unfolding sumOf
+sumOf-most g most [] e = omega arith
+sumOf-most g most (l ∷ f) e = omega (arith, e .0, sumOf-most g most f (e .1))
+
+pub cut-most : (m : ℕ → Bool) (most : ℕ) (net : List Arc) → Every (λ e. e .weight * indicator (crosses m e) ≤ most) net → cut m net ≤ length net * most
+unfolding cut
+cut-most m most [] e = omega arith
+cut-most m most (d ∷ net) e = omega (arith, e .0, cut-most m most net (e .1))

@@ -1,0 +1,11 @@
+pub mod Sums
+pub mod Paths
+pub mod Flows
+pub mod Assignments
+pub mod Orders
+pub mod Sound
+pub mod Append
+pub mod Allowed
+pub mod Tests
+pub mod Keys
+pub mod Promises

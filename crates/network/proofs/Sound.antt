@@ -1,0 +1,197 @@
+-- Each certificate's rules imply the true answer, for the arcs in any order.
+-- Assumes nothing.
+use mathlib.Core.Path.{_≡_, refl, sym, _∙_, ap}
+use mathlib.Core.Logic.{inl, inr}
+use mathlib.Core.Bool.{true, false}
+use mathlib.Core.List.{List, [], _∷_}
+use Prim.Native.Nat.{ℕ, zero, suc, _+_, _-_, _*_, _≤_, _<_}
+use native.Mathlib.Omega.{arith}
+use native.Mathlib.Decide.{decLt}
+use borrow.Author.Tests.{eq-eqb, ne-eqb, lt-ltb, le-ltb}
+use lib.IntN.{ℤ, pos, _-ℤ_}
+use lib.Signed.{_≤ℤ_}
+use Rattle.prelude.specs.Integers.{eqZ}
+use Rattle.prelude.specs.Lists.{Every, Perm}
+use Rattle.prelude.specs.Sums.{sumTo, sumToℤ}
+use Rattle.prelude.proofs.Integers.{posPart, negPart, parts-add, parts-sub, signed}
+use Rattle.prelude.proofs.Lists.{every-map, every-zip, image-every}
+use Rattle.prelude.proofs.Permutations.{perm-sym, perm-every}
+use Rattle.network.specs.Network.{Arc, Load, arcs, delta, sumOf, leaving, entering, balance, degree, cost, total, crosses}
+use Rattle.network.specs.Question.{Question, shortestPath, maximumFlow, assignment, Setting, pumps, sites, EndsFor, TwoVertices, SidesFor, PumpToSite, Allowed, Opened, Answer, value, none, Walk, ShortestPath, NoWalk, Flow, MaximumFlow, Assignment, CheapestAssignment, NoAssignment, TrueFor, TrueAnswer}
+use Rattle.network.specs.Certificate.{Potentials, SourceMarked, SinkUnmarked, marked, WithinCapacity, Feasible, PathCertificate, FlowCertificate, AssignmentCertificate, NoPathCertificate, NoAssignmentCertificate, CertifiedFor, Certified}
+use Rattle.network.proofs.Sums.{Compared, compared, Inside}
+use Rattle.network.proofs.Paths.{walk-above, no-walk, Unit-flow, Found, walk-in}
+use Rattle.network.proofs.Flows.{flow-below-cut}
+use Rattle.network.proofs.Assignments.{Between, enters-no-pump, leaves-no-site, assignment-above, closed-fewer}
+use Rattle.network.proofs.Orders.{any-order}
+
+-- ---- balances, as sums of natural numbers
+
+pub balance-parts : (a b : ℕ) → posPart (pos a -ℤ pos b) + b ≡ a + negPart (pos a -ℤ pos b)
+balance-parts a b = omega (arith, parts-sub (pos a) (pos b))
+
+-- ---- marks
+
+is-marked : (st : Setting) (y : ℕ → ℤ) → SourceMarked st y → marked y (st .s) ≡ true
+is-marked st y h = ap (λ (z : ℤ). eqZ z (pos 1)) h
+
+not-marked : (st : Setting) (y : ℕ → ℤ) → SinkUnmarked st y → marked y (st .t) ≡ false
+not-marked st y h = ap (λ (z : ℤ). eqZ z (pos 1)) h
+
+-- ---- maximum flow
+
+module _ (st : Setting) (y : ℕ → ℤ) (f : List Load) (v : ℕ) (ends : TwoVertices st) (inside : Every (Inside (st .n)) (arcs f)) (c : FlowCertificate st y f v) where
+  no-more : (g : List Load) → Flow st (arcs f) g → balance (st .s) g ≤ℤ pos v
+  no-more g fl =
+      omega (
+        signed,
+        balance-parts (leaving (st .s) g) (entering (st .s) g),
+        c .sums,
+        c .answer,
+        flow-below-cut st (marked y) (ends .source-below) (is-marked st y (c .source)) (not-marked st y (c .sink)) (arcs f) inside g fl,
+      )
+
+  flow-sound : MaximumFlow st (arcs f) v
+  flow-sound = record {
+    flow = f;
+    is-flow = record {
+      each = refl;
+      within = every-map (λ l (h : WithinCapacity l). omega arith) f (c .amounts);
+      conserved = λ u h ns nt. omega (signed, c .balances u h ns nt, balance-parts (leaving u f) (entering u f));
+    };
+    attained = c .answer;
+    greatest = no-more;
+  }
+
+-- ---- potentials, shifted by 8322818 to be natural numbers
+
+lift : ℤ → ℕ
+lift z = posPart z + 8322818 - negPart z
+
+sum-lifted : (k : ℕ) (z : ℕ → ℤ) → ((i : ℕ) → i < k → lift (z i) + negPart (z i) ≡ posPart (z i) + 8322818)
+    → sumTo k (λ i. lift (z i)) + negPart (sumToℤ k z) ≡ posPart (sumToℤ k z) + k * 8322818
+unfolding sumTo sumToℤ
+sum-lifted zero z h = refl
+sum-lifted (suc k) z h = omega (arith, sum-lifted k z (λ i b. h i (omega arith)), h k (omega arith), parts-add (sumToℤ k z) (z k))
+
+module _ (st : Setting) (y : ℕ → ℤ) (range : Potentials st y) where
+  lift-is : (v : ℕ) → v < st .n → lift (y v) + negPart (y v) ≡ posPart (y v) + 8322818
+  unfolding lift
+  lift-is v h = omega (signed, range v h .above)
+
+  lift-feasible : (l : Load) → Inside (st .n) (l .arc) → Feasible y l → lift (y (l .arc .head)) ≤ lift (y (l .arc .tail)) + l .arc .weight
+  lift-feasible l i h =
+      omega (signed, parts-add (y (l .arc .tail)) (pos (l .arc .weight)), lift-is (l .arc .tail) (i .0), lift-is (l .arc .head) (i .1))
+
+  feasible-lifted : (f : List Load) → Every (Inside (st .n)) (arcs f) → Every (Feasible y) f
+      → Every (λ e. lift (y (e .head)) ≤ lift (y (e .tail)) + e .weight) (arcs f)
+  feasible-lifted [] i e = tt
+  feasible-lifted (l ∷ f) i e = (lift-feasible l (i .0) (e .0), feasible-lifted f (i .1) (e .1))
+
+-- ---- shortest path
+
+module _ (st : Setting) (y : ℕ → ℤ) (f : List Load) (v : ℕ) (ends : TwoVertices st) (inside : Every (Inside (st .n)) (arcs f)) (c : PathCertificate st y f v) where
+  unit-flow : Unit-flow (st .n) (st .s) (st .t) f
+  unit-flow u h = go (compared (st .s) u) (compared (st .t) u)
+    where
+      go : Compared (st .s) u → Compared (st .t) u → leaving u f + delta (st .t) u ≡ entering u f + delta (st .s) u
+      go (inl (e, i)) (inl (d, j)) = absurd (ends .apart (e ∙ sym d))
+      go (inl (e, i)) (inr (d, j)) =
+          omega (signed, rw (eq-eqb u (st .s) (sym e)) at (c .balances u h), balance-parts (leaving u f) (entering u f))
+      go (inr (e, i)) (inl (d, j)) =
+          omega (signed, rw (ne-eqb u (st .s) (λ q. e (sym q)), eq-eqb u (st .t) (sym d)) at (c .balances u h), balance-parts (leaving u f) (entering u f))
+      go (inr (e, i)) (inr (d, j)) =
+          omega (signed, rw (ne-eqb u (st .s) (λ q. e (sym q)), ne-eqb u (st .t) (λ q. d (sym q))) at (c .balances u h), balance-parts (leaving u f) (entering u f))
+
+  path-above : (es : List Arc) → Walk st (arcs f) es → v ≤ total es
+  path-above es w =
+      omega (
+        signed,
+        walk-above (λ u. lift (y u)) (arcs f) (feasible-lifted st y (c .potentials) f inside (c .feasible)) es (st .s) (st .t) (w .over) (w .leads),
+        lift-is st y (c .potentials) (st .s) (ends .source-below),
+        lift-is st y (c .potentials) (st .t) (ends .sink-below),
+        c .source,
+        c .answer,
+      )
+
+  path-sound : ShortestPath st (arcs f) v
+  path-sound =
+      let w : Found (st .s) (st .t) f = walk-in (sumOf (λ e. 1) f) (st .n) (st .s) (st .t) f (ends .source-below) inside refl unit-flow in
+      let is-walk : Walk st (arcs f) (w .path) = record { over = w .over; leads = w .leads } in
+      record { path = w .path; is-walk = is-walk; attained = omega (signed, w .short, path-above (w .path) is-walk, c .sums, c .answer); least = path-above }
+
+no-path-sound : (st : Setting) (y : ℕ → ℤ) (f : List Load) → NoPathCertificate st y f → NoWalk st (arcs f)
+no-path-sound st y f c = no-walk st (marked y) (arcs f) (is-marked st y (c .source)) (not-marked st y (c .sink)) (image-every (λ l. l .arc) (λ e. crosses (marked y) e ≡ false) f (c .closed))
+
+-- ---- assignment
+
+whole : (st : Setting) → pumps st + sites st ≡ st .n
+whole st = omega arith
+
+between : (st : Setting) (e : Arc) → Inside (st .n) e → PumpToSite st e → Between (pumps st) (sites st) e
+between st e i p = record { low = p .from-pump; high = p .to-site; below = omega (arith, i .1, whole st) }
+
+module _ (st : Setting) (y : ℕ → ℤ) (f : List Load) (v : ℕ) (inside : Every (Inside (st .n)) (arcs f)) (rule : Every (Between (pumps st) (sites st)) (arcs f)) (c : AssignmentCertificate st y f v) where
+  touched-once : (u : ℕ) → u < st .n → degree u f ≡ 1
+  touched-once u b = go (decLt u (pumps st))
+    where
+      go : Dec (u < pumps st) → degree u f ≡ 1
+      go (yes l) =
+          omega (signed, rw (lt-ltb u (pumps st) l) at (c .balances u b), balance-parts (leaving u f) (entering u f), enters-no-pump (pumps st) (sites st) f rule u l)
+      go (no l) =
+          let k : pumps st ≤ u = omega arith in
+          omega (signed, rw (le-ltb u (pumps st) k) at (c .balances u b), balance-parts (leaving u f) (entering u f), leaves-no-site (pumps st) (sites st) f rule u k)
+
+  assignment-least : (g : List Load) → Assignment st (arcs f) g → v ≤ cost g
+  assignment-least g a =
+      omega (
+        signed,
+        c .answer,
+        c .sums,
+        parts-sub (sumToℤ (sites st) (λ i. y (pumps st + i))) (sumToℤ (pumps st) y),
+        sum-lifted (pumps st) y (λ i b. lift-is st y (c .potentials) i (omega (arith, whole st))),
+        sum-lifted (sites st) (λ i. y (pumps st + i)) (λ i b. lift-is st y (c .potentials) (pumps st + i) (omega (arith, whole st))),
+        assignment-above st (pumps st) (sites st) (whole st) (arcs f) rule g a (λ u. lift (y u)) (feasible-lifted st y (c .potentials) f inside (c .feasible)),
+        whole st,
+      )
+
+  assignment-sound : CheapestAssignment st (arcs f) v
+  assignment-sound = record {
+    chosen = f;
+    is-assignment = record { each = refl; chosen = c .amounts; once = touched-once };
+    attained = c .answer;
+    least = assignment-least;
+  }
+
+no-assignment-sound : (st : Setting) (y : ℕ → ℤ) (f : List Load) → Every (Between (pumps st) (sites st)) (arcs f) → NoAssignmentCertificate st y f → NoAssignment st (arcs f)
+no-assignment-sound st y f rule c g a =
+    omega (
+      arith,
+      c .more-pumps,
+      closed-fewer st (pumps st) (sites st) (whole st) (arcs f) rule g a (marked y) (image-every (λ l. l .arc) (λ e. crosses (marked y) e ≡ false) f (c .closed)),
+    )
+
+-- ---- all five, for the arcs in the order of the loads
+
+certified-for : (q : Question) (st : Setting) (y : ℕ → ℤ) (f : List Load) (a : Answer) → EndsFor q st → Every (Inside (st .n)) (arcs f) → Every (SidesFor q st) (arcs f)
+    → CertifiedFor q st y f a → TrueFor q st (arcs f) a
+certified-for shortestPath st y f (value v) ends inside sides c = path-sound st y f v ends inside c
+certified-for shortestPath st y f none ends inside sides c = no-path-sound st y f c
+certified-for maximumFlow st y f (value v) ends inside sides c = flow-sound st y f v ends inside c
+certified-for maximumFlow st y f none ends inside sides c = c
+certified-for assignment st y f (value v) ends inside sides c =
+    assignment-sound st y f v inside (every-zip (λ e i p. between st e i p) (arcs f) inside sides) c
+certified-for assignment st y f none ends inside sides c =
+    no-assignment-sound st y f (every-zip (λ e i p. between st e i p) (arcs f) inside sides) c
+
+pub certified-true : (st : Setting) (y : ℕ → ℤ) (f : List Load) (a : Answer) → Opened st → Every (Allowed st) (arcs f) → Certified st y f a → TrueAnswer st (arcs f) a
+certified-true st y f a o i c =
+    certified-for (st .question) st y f a (o .ends)
+    (every-map (λ e (h : Allowed st e). (h .joins .tail-below, h .joins .head-below)) (arcs f) i)
+    (every-map (λ e (h : Allowed st e). h .joins .sides) (arcs f) i)
+    c
+
+-- ---- and in any order
+
+pub sound : (st : Setting) (net : List Arc) (y : ℕ → ℤ) (f : List Load) (a : Answer) → Opened st → Every (Allowed st) net → Perm (arcs f) net → Certified st y f a → TrueAnswer st net a
+sound st net y f a o i d c = any-order st d a (certified-true st y f a o (perm-every (Allowed st) (perm-sym d) i) c)

@@ -1,0 +1,5 @@
+pub mod Network
+pub mod Question
+pub mod Certificate
+pub mod Tests
+pub mod Promises

@@ -1,0 +1,73 @@
+-- How many numbers below a bound pass a test: the count is k at most exactly where no k + 1 different numbers pass.
+-- Assumes nothing.
+use mathlib.Core.Path.{_≡_, refl, sym, _∙_, ap, subst}
+use mathlib.Core.Bool.{Bool, true, false, false≢true}
+use mathlib.Core.List.{List, [], _∷_}
+use Prim.Native.Nat.{ℕ, zero, suc, _+_, _≤_, _<_}
+use native.Mathlib.Nat.{le-trans}
+use native.Mathlib.Decide.{ℕ-discrete}
+use native.Mathlib.Omega.{arith}
+use lib.Dec.{T}
+use lib.ListN.{length}
+use Rattle.prelude.specs.Choice.{indicator}
+use Rattle.prelude.specs.Lists.{Every, Distinct, AtMost}
+use Rattle.prelude.specs.Sums.{sumTo, count}
+use Rattle.prelude.proofs.Booleans.{T→true}
+use Rattle.prelude.proofs.Lists.{every-map, every-zip, Without, without}
+
+-- the number x is below n and passes
+abbrev pub Passes : (ℕ → Bool) → ℕ → ℕ → Type 0
+Passes f n x = (x < n) × T (f x)
+
+-- the numbers below n that pass, as a list
+record Listed (f : ℕ → Bool) (n : ℕ) : Type 0 where
+  numbers : List ℕ
+  different : Distinct numbers
+  each : Every (Passes f n) numbers
+  counted : length numbers ≡ count f n
+
+listed : (f : ℕ → Bool) (n : ℕ) → Listed f n
+unfolding sumTo
+listed f zero = record { numbers = []; different = tt; each = tt; counted = refl }
+listed f (suc n) = go (f n) refl (listed f n)
+  where
+    wider : (w : Listed f n) → Every (Passes f (suc n)) (w .numbers)
+    wider w = every-map (λ x (a : Passes f n x). (omega arith, a .1)) (w .numbers) (w .each)
+
+    go : (b : Bool) → f n ≡ b → Listed f n → Listed f (suc n)
+    go false e w = record { numbers = w .numbers; different = w .different; each = wider w; counted = rw e (w .counted ∙ omega arith) }
+    go true e w =
+        record {
+          numbers = n ∷ w .numbers;
+          different = (every-map (λ x (a : Passes f n x). omega arith) (w .numbers) (w .each), w .different);
+          each = ((omega arith, subst T (sym e) tt), wider w);
+          counted = rw e (ap suc (w .counted) ∙ omega arith);
+        }
+
+-- different numbers that pass are no more than the count
+different-few : (f : ℕ → Bool) (n : ℕ) (l : List ℕ) → Distinct l → Every (Passes f n) l → length l ≤ count f n
+unfolding sumTo
+different-few f zero [] d e = omega arith
+different-few f zero (x ∷ l) d e = absurd (omega (arith, e .0 .0))
+different-few f (suc n) l d e = go (f n) refl (without ℕ-discrete n l d) (different-few f n)
+  where
+    go : (b : Bool) → f n ≡ b → Without n l → ((l : List ℕ) → Distinct l → Every (Passes f n) l → length l ≤ count f n) → length l ≤ count f n + indicator (f n)
+    go true q w below =
+        rw q (omega (
+          arith,
+          w .size,
+          below (w .rest) (w .distinct)
+              (every-zip (λ x (ne : ¬ (n ≡ x)) (a : Passes f (suc n) x). (omega arith, a .1)) (w .rest) (w .others) (w .part (Passes f (suc n)) e)),
+        ))
+    go false q w below = rw q (omega (arith, below l d (every-map (λ x (a : Passes f (suc n) x). lower x (a .0) (a .1)) l e)))
+      where
+        lower : (x : ℕ) → x < suc n → T (f x) → Passes f n x
+        lower x h t = (let ne : n ≡ x → ⊥ = (λ i. false≢true (sym q ∙ ap f i ∙ T→true (f x) t)) in omega arith, t)
+
+pub at-most→count : (f : ℕ → Bool) (n k : ℕ) → AtMost k (Passes f n) → count f n ≤ k
+at-most→count f n k h =
+    let w : Listed f n = listed f n in
+    subst (λ (m : ℕ). m ≤ k) (w .counted) (h (w .numbers) (w .different) (w .each))
+
+pub count→at-most : (f : ℕ → Bool) (n k : ℕ) → count f n ≤ k → AtMost k (Passes f n)
+count→at-most f n k h l d e = le-trans (different-few f n l d e) h

@@ -1,0 +1,80 @@
+-- What holds of every element of a list or of one, and a list of different elements without one of them.
+-- Assumes nothing.
+use mathlib.Core.Path.{_≡_, sym, subst}
+use mathlib.Core.Logic.{inl, inr}
+use mathlib.Core.Bool.{Bool}
+use mathlib.Core.List.{List, [], _∷_, _++_, map}
+use Prim.Native.Nat.{suc, _≤_, suc-le-suc}
+use native.Mathlib.Nat.{le-refl}
+use native.Mathlib.Omega.{arith}
+use lib.Dec.{T}
+use lib.ListN.{length}
+use Rattle.prelude.specs.Lists.{Every, Member, Distinct, all}
+use Rattle.prelude.proofs.Booleans.{and-left, and-right, both}
+
+pub every-map : {A : Type 0} {P Q : A → Type 0} → ((a : A) → P a → Q a) → (l : List A) → Every P l → Every Q l
+every-map k [] e = tt
+every-map k (a ∷ l) e = (k a (e .0), every-map k l (e .1))
+
+-- from two rules that hold of every element
+pub every-zip : {A : Type 0} {P Q R : A → Type 0} → ((a : A) → P a → Q a → R a) → (l : List A) → Every P l → Every Q l → Every R l
+every-zip k [] e f = tt
+every-zip k (a ∷ l) e f = (k a (e .0) (f .0), every-zip k l (e .1) (f .1))
+
+-- what holds of every element holds of each
+pub every-at : {A : Type 0} (P : A → Type 0) (l : List A) → Every P l → {a : A} → Member a l → P a
+every-at P [] e m = absurd m
+every-at P (b ∷ l) e (inl q) = subst P (sym q) (e .0)
+every-at P (b ∷ l) e (inr m) = every-at P l (e .1) m
+
+-- of the images under f
+pub every-image : {A B : Type 0} (f : A → B) (P : B → Type 0) (l : List A) → Every P (map f l) → Every (λ a. P (f a)) l
+every-image f P [] e = tt
+every-image f P (a ∷ l) e = (e .0, every-image f P l (e .1))
+
+pub image-every : {A B : Type 0} (f : A → B) (P : B → Type 0) (l : List A) → Every (λ a. P (f a)) l → Every P (map f l)
+image-every f P [] e = tt
+image-every f P (a ∷ l) e = (e .0, image-every f P l (e .1))
+
+-- a test of every element
+pub all→every : {A : Type 0} {P : A → Type 0} (p : A → Bool) → ((a : A) → T (p a) → P a) → (l : List A) → T (all p l) → Every P l
+all→every p k [] t = tt
+all→every p k (a ∷ l) t = (k a (and-left (p a) (all p l) t), all→every p k l (and-right (p a) (all p l) t))
+
+pub every→all : {A : Type 0} {P : A → Type 0} (p : A → Bool) → ((a : A) → P a → T (p a)) → (l : List A) → Every P l → T (all p l)
+every→all p k [] e = tt
+every→all p k (a ∷ l) e = both (p a) (all p l) (k a (e .0)) (every→all p k l (e .1))
+
+-- a list of different elements without k: it lacks k, and is shorter by one at most
+pub record Without {A : Type 0} (k : A) (l : List A) : Type 1 where
+  pub rest : List A
+  pub distinct : Distinct rest
+  pub others : Every (λ a. ¬ (k ≡ a)) rest
+  pub part : (P : A → Type 0) → Every P l → Every P rest
+  pub size : length l ≤ suc (length rest)
+
+pub without : {A : Type 0} → Discrete A → (k : A) (l : List A) → Distinct l → Without k l
+without dec k [] d = record { rest = []; distinct = tt; others = tt; part = λ P a. tt; size = omega arith }
+without {A} dec k (x ∷ xs) d = go (dec k x) (without dec k xs (d .1))
+  where
+    go : Dec (k ≡ x) → Without k xs → Without k (x ∷ xs)
+    go (yes e) w =
+        record {
+          rest = xs;
+          distinct = d .1;
+          others = subst (λ (y : A). Every (λ z. ¬ (y ≡ z)) xs) (sym e) (d .0);
+          part = λ P a. a .1;
+          size = le-refl _;
+        }
+    go (no n) w =
+        record {
+          rest = x ∷ w .rest;
+          distinct = (w .part (λ y. ¬ (x ≡ y)) (d .0), w .distinct);
+          others = (n, w .others);
+          part = λ P a. (a .0, w .part P (a .1));
+          size = suc-le-suc (w .size);
+        }
+
+pub every-snoc : {A : Type 0} (P : A → Type 0) (l : List A) (a : A) → Every P l → P a → Every P (l ++ a ∷ [])
+every-snoc P [] a e p = (p, tt)
+every-snoc P (b ∷ l) a e p = (e .0, every-snoc P l a (e .1) p)

@@ -1,0 +1,7 @@
+pub mod Choice
+pub mod Checks
+pub mod Lists
+pub mod Sums
+pub mod Integers
+pub mod Marks
+pub mod Masks

@@ -1,0 +1,13 @@
+pub mod Trace
+pub mod Tables
+pub mod Words
+pub mod Totals
+pub mod Good
+pub mod View
+pub mod Runs
+pub mod Finish
+pub mod Bound
+pub mod Looks
+pub mod Verdict
+pub mod Meets
+pub mod Promises

@@ -1,0 +1,237 @@
+-- Demand 2: a session answers exactly where the annotation meets every rule of the certificate, and what it answers on the arcs that were read is true.
+-- Assumes nothing.
+use mathlib.Core.Path.{_≡_, refl, sym, _∙_, ap, subst}
+use mathlib.Core.Logic.{_↔_}
+use mathlib.Core.Bool.{true, false, _&&_}
+use mathlib.Core.List.{List, [], _∷_, _++_}
+use Prim.Native.Nat.{ℕ, zero, suc, _+_, _≤_, _<_}
+use native.Mathlib.Omega.{arith}
+use native.Mathlib.Decide.{ℕ-discrete}
+use borrow.Author.Tests.{ne-eqb}
+use lib.Dec.{T, eqb, leb, eqb→eq, eqb-refl, leb→le, le→leb, ltb→lt, lt→ltb}
+use lib.IntN.{ℤ}
+use lib.ListN.{length, take, length-map}
+use lib.Seq.{take-all}
+use Rattle.prelude.specs.Checks.{Check, _unless_, settle, Hold}
+use Rattle.prelude.specs.Lists.{Every, all, at}
+use Rattle.prelude.proofs.Booleans.{and-left, and-right, both}
+use Rattle.prelude.proofs.Permutations.{perm-sym, perm-length, perm-every, perm-map}
+use Rattle.prelude.proofs.Settle.{settled, hold-append, hold-left, hold-right}
+use Rattle.prelude.proofs.Sums.{allTo-at, at-allTo}
+use Rattle.field.proofs.Promises.{permutations-agree}
+use Rattle.network.specs.Network.{Arc, Load, arcs, key}
+use Rattle.network.specs.Question.{Question, shortestPath, maximumFlow, assignment, Setting, Opened, Allowed, Answer}
+use Rattle.network.specs.Certificate.{marked}
+use Rattle.network.specs.Tests.{settingOf, Claim, ofValue, ofNone, claimNumber, claimOf, claimFor, mayClaim, claimOk, nodeOk, amountOk, ruleOk, Sums, answerFor, answerOf, Passed}
+use Rattle.network.proofs.Allowed.{joins-rule, joins-test, weight-rule, weight-test}
+use Rattle.network.proofs.Promises.{certificates-sound, tests-suffice, tests-needed}
+use Rattle.session.specs.Print.{Point, printOf, samePrint}
+use Rattle.session.specs.Session.{gives, refused}
+use Rattle.runs.specs.Run.{runFrom}
+use Rattle.runs.specs.Exchange.{exchange, last, sumsAt, readRules, numberRules, repeatRules, annotationRules, finalRules, verdict, Open, Readable, Meets}
+use Rattle.runs.specs.Promises.{Answers, Outcomes, TrueWhereSame, CertificatesPass}
+use Rattle.runs.proofs.Looks.{no-answer}
+use Rattle.runs.proofs.Verdict.{first-broken, last-gives}
+
+-- ---- an answer is given where every rule holds
+
+pub given : (cs : List Check) (v a : Answer) → settle refused cs (gives v) ≡ gives a → Hold cs × (v ≡ a)
+given [] v a e = (tt, cc)
+given ((k unless true) ∷ cs) v a e = let u = given cs v a e in ((tt, u .0), u .1)
+given ((k unless false) ∷ cs) v a e = absurd (no-answer k a e)
+
+-- ---- the claim
+
+claim-named : (k : ℕ) → T (leb 1 k && leb k 2) → claimNumber (claimOf k) ≡ k
+claim-named k t = go (ℕ-discrete k 1)
+  where
+    go : Dec (k ≡ 1) → claimNumber (claimOf k) ≡ k
+    go (yes e) = rw e refl
+    go (no ne) = rw (ne-eqb k 1 ne) (omega (arith, leb→le 1 k (and-left (leb 1 k) (leb k 2) t), leb→le k 2 (and-right (leb 1 k) (leb k 2) t)))
+
+claim-of-number : (c : Claim) → claimOf (claimNumber c) ≡ c
+claim-of-number ofValue = refl
+claim-of-number ofNone = refl
+
+claim-fits : (st : Setting) (c : Claim) → T (mayClaim (st .question) c) → T (claimOk st (claimNumber c))
+claim-fits st ofValue h = h
+claim-fits st ofNone h = h
+
+claim-answered : (q : Question) (c : Claim) (u : Sums) → claimFor (answerFor q c (u .cost) (u .cut)) ≡ c
+claim-answered q ofNone u = refl
+claim-answered shortestPath ofValue u = refl
+claim-answered maximumFlow ofValue u = refl
+claim-answered assignment ofValue u = refl
+
+-- ---- each part of the rules, for every element
+
+module _ (st : Setting) where
+  read-holds : (net : List Arc) (i : ℕ) → Every (Allowed st) net → i + length net ≤ 4096 → Hold (readRules st i net)
+  unfolding readRules
+  read-holds [] i h b = tt
+  read-holds (e ∷ net) i h b =
+      (lt→ltb i 4096 (omega arith), (joins-test st e (h .0 .joins), (weight-test e (h .0 .weight-within), read-holds net (suc i) (h .1) (omega arith))))
+
+  module _ (c : Claim) where
+    number-holds : (ys : List ℤ) (i : ℕ) → i + length ys ≤ st .n → ((j v : ℕ) → i + j ≡ v → j < length ys → T (nodeOk st c v (at ys j))) → Hold (numberRules st c i ys)
+    unfolding numberRules
+    number-holds [] i b h = tt
+    number-holds (z ∷ ys) i b h =
+        (lt→ltb i (st .n) (omega arith), (h 0 i (omega arith) (omega arith), number-holds ys (suc i) (omega arith) (λ j v e l. h (suc j) v (omega arith) (omega arith))))
+
+    number-each : (ys : List ℤ) (i : ℕ) → Hold (numberRules st c i ys) → (j v : ℕ) → i + j ≡ v → j < length ys → T (nodeOk st c v (at ys j))
+    unfolding numberRules
+    number-each [] i h j v e b = absurd (omega arith)
+    number-each (z ∷ ys) i h zero v e b = subst (λ (k : ℕ). T (nodeOk st c k z)) (omega arith) (h .1 .0)
+    number-each (z ∷ ys) i h (suc j) v e b = number-each ys (suc i) (h .1 .1) j v (omega arith) (omega arith)
+
+    module _ (ys : List ℤ) (m : ℕ) where
+      record Repeats (i : ℕ) (f : List Load) : Type 0 where
+        records : Every (Allowed st) (arcs f)
+        amounts : T (all (amountOk st c) f)
+        rules : T (all (ruleOk st c (at ys) (marked (at ys))) (arcs f))
+        room : i + length f ≤ m
+
+      repeat-holds : T (eqb (length ys) (st .n)) → (f : List Load) (i : ℕ) → Repeats i f → Hold (repeatRules st c ys m i f)
+      unfolding repeatRules
+      repeat-holds t [] i h = tt
+      repeat-holds t (l ∷ f) i h =
+          let amounts = all (amountOk st c) f in
+          let rules = all (ruleOk st c (at ys) (marked (at ys))) (arcs f) in
+          let e = h .records .0 in
+          let a = and-left (amountOk st c l) amounts (h .amounts) in
+          let u = and-left (ruleOk st c (at ys) (marked (at ys)) (l .arc)) rules (h .rules) in
+          let rest = repeat-holds t f (suc i) record {
+            records = h .records .1;
+            amounts = and-right (amountOk st c l) amounts (h .amounts);
+            rules = and-right (ruleOk st c (at ys) (marked (at ys)) (l .arc)) rules (h .rules);
+            room = omega arith;
+          } in
+          (t, (lt→ltb i m (omega arith), (joins-test st (l .arc) (e .joins), (weight-test (l .arc) (e .weight-within), (a, (u, rest))))))
+
+      repeat-each : (f : List Load) (i : ℕ) → i ≤ m → Hold (repeatRules st c ys m i f) → Repeats i f
+      unfolding repeatRules
+      repeat-each [] i b h = record { records = tt; amounts = tt; rules = tt; room = omega arith }
+      repeat-each (l ∷ f) i b h =
+          let checked = h .1 .1 in
+          let u = repeat-each f (suc i) (ltb→lt i m (h .1 .0)) (checked .1 .1 .1 .1) in
+          record {
+            records = (record { joins = joins-rule st (l .arc) (checked .0); weight-within = weight-rule (l .arc) (checked .1 .0) }, u .records);
+            amounts = both (amountOk st c l) _ (checked .1 .1 .0) (u .amounts);
+            rules = both (ruleOk st c (at ys) (marked (at ys)) (l .arc)) _ (checked .1 .1 .1 .0) (u .rules);
+            room = omega (arith, u .room);
+          }
+
+  module _ (o : Opened st) (r : Point) (net : List Arc) (k : ℕ) (ys : List ℤ) (f : List Load) where
+    abbrev c : Claim
+    c = claimOf k
+
+    abbrev numbers : List Check
+    numbers = numberRules st c 0 ys
+
+    abbrev repeated : List Check
+    repeated = repeatRules st c ys (length net) 0 f
+
+    abbrev answer : Answer
+    answer = answerOf st c (sumsAt ys f)
+
+    -- rules that hold are met
+    meets : Hold (annotationRules st (length net) k ys f) → Hold (finalRules st r net k ys f) → Meets st r net k ys f answer
+    meets h w =
+        let e = eqb→eq (length ys) (st .n) (w .0) in
+        let nodes = number-each c ys 0 (hold-left numbers repeated (h .1)) in
+        let u = repeat-each c ys (length net) f 0 (omega arith) (hold-right numbers repeated (h .1)) in
+        record {
+          claims = sym (ap claimNumber (claim-answered (st .question) c (sumsAt ys f)) ∙ claim-named k (and-left (leb 1 k && leb k 2) (mayClaim (st .question) c) (h .0)));
+          one-each = e;
+          records = u .records;
+          certificate = tests-suffice st c (at ys) f o record {
+            claim = and-right (leb 1 k && leb k 2) (mayClaim (st .question) c) (h .0);
+            nodes = at-allTo (st .n) (λ v. nodeOk st c v (at ys v)) (λ v b. nodes v v (omega arith) (omega arith));
+            amounts = u .amounts;
+            rules = u .rules;
+            balances = w .1 .1 .1 .0;
+            sums = w .1 .1 .1 .1 .0;
+          };
+          as-many = omega (arith, leb→le (length net) (length f) (w .1 .0), u .room);
+          fingerprints = eqb→eq (printOf r net) (printOf r (arcs f)) (w .1 .1 .0);
+        }
+
+    -- rules that are met hold
+    holds : (a : Answer) → Meets st r net k ys f a → Hold (annotationRules st (length net) k ys f) × Hold (finalRules st r net k ys f) × (answer ≡ a)
+    holds a m =
+        let full : T (eqb (length ys) (st .n)) = rw (m .one-each) (eqb-refl (st .n)) in
+        let number = number-holds c ys 0 (omega (arith, m .one-each)) (λ j v e b. subst (λ (i : ℕ). T (nodeOk st c i (at ys j))) (omega arith) (node j (omega (arith, m .one-each)))) in
+        let repeat = repeat-holds c ys (length net) full f 0 record { records = m .records; amounts = passed .amounts; rules = passed .rules; room = omega (arith, m .as-many) } in
+        let claimed : T (claimOk st k) = rw (m .claims) (claim-fits st (claimFor a) (needed .0 .claim)) in
+        let same : T (samePrint (printOf r net) (printOf r (arcs f))) = rw (m .fingerprints) (eqb-refl (printOf r (arcs f))) in
+        let final : Hold (finalRules st r net k ys f) = (full, (le→leb (length net) (length f) (omega (arith, m .as-many)), (same, (passed .balances, (passed .sums, tt))))) in
+        ((claimed, hold-append numbers repeated number repeat), final, ap (λ (d : Claim). answerOf st d (sumsAt ys f)) (sym claims) ∙ sym (needed .1))
+      where
+        needed : Passed st (claimFor a) (at ys) f × (a ≡ answerOf st (claimFor a) (sumsAt ys f))
+        needed = tests-needed st (at ys) f a (m .certificate)
+
+        claims : claimFor a ≡ c
+        claims = sym (claim-of-number (claimFor a)) ∙ ap claimOf (sym (m .claims))
+
+        passed : Passed st c (at ys) f
+        passed = subst (λ (d : Claim). Passed st d (at ys) f) claims (needed .0)
+
+        node : (v : ℕ) → v < st .n → T (nodeOk st c v (at ys v))
+        node = allTo-at (st .n) (λ v. nodeOk st c v (at ys v)) (passed .nodes)
+
+    verdict-meets : Readable st net → (a : Answer) → (verdict st r net k ys f ≡ gives a) ↔ Meets st r net k ys f a
+    verdict-meets h a = (to, from)
+      where
+        annotation : List Check
+        annotation = annotationRules st (length net) k ys f
+
+        final : List Check
+        final = finalRules st r net k ys f
+
+        to : verdict st r net k ys f ≡ gives a → Meets st r net k ys f a
+        to d =
+            let u = given (readRules st 0 net ++ (annotation ++ final)) answer a d in
+            let w = hold-right (readRules st 0 net) (annotation ++ final) (u .0) in
+            subst (Meets st r net k ys f) (u .1) (meets (hold-left annotation final w) (hold-right annotation final w))
+
+        from : Meets st r net k ys f a → verdict st r net k ys f ≡ gives a
+        from m =
+            let u = holds a m in
+            settled refused (readRules st 0 net ++ (annotation ++ final)) (gives answer)
+            (hold-append (readRules st 0 net) (annotation ++ final) (read-holds net 0 (h .allowed) (omega (arith, h .few))) (hold-append annotation final (u .0) (u .1)))
+            ∙ ap gives (u .2)
+
+-- ---- demand 2
+
+pub outcomes : Outcomes
+outcomes q n s t r net k ys f a o h =
+    rw (first-broken q n s t r net k ys f o) (verdict-meets (settingOf q n s t) (o .opened) r net k ys f h a)
+
+-- finishing answers exactly where the first n node numbers meet the rules
+last-meets :
+    (q n s t : ℕ) (r : Point) (net : List Arc) (k : ℕ) (ys : List ℤ) (f : List Load) (a : Answer)
+    → Open q n s t r → Readable (settingOf q n s t) net
+    → (last (runFrom q n s t r (exchange net k ys f)) ≡ gives a) ↔ Meets (settingOf q n s t) r net k (take n ys) f a
+last-meets q n s t r net k ys f a o h =
+    let u = last-gives q n s t r net k ys f a o (read-holds (settingOf q n s t) net 0 (h .allowed) (omega (arith, h .few))) in
+    let w = outcomes q n s t r net k (take n ys) f a o h in
+    (λ d. w .0 (u .0 d), λ m. u .1 (w .1 m))
+
+pub answers : Answers
+answers q n s t r net k ys f a o h e = rw (take-all n ys (omega arith)) at (last-meets q n s t r net k ys f a o h)
+
+pub true-where-same : TrueWhereSame
+true-where-same q n s t r net k ys f a o h d e =
+    certificates-sound (settingOf q n s t) net (at (take n ys)) f a (o .opened) (h .allowed) d (last-meets q n s t r net k ys f a o h .0 e .certificate)
+
+pub certificates-pass : CertificatesPass
+certificates-pass q n s t r net ys f a o h d e c =
+    outcomes q n s t r net (claimNumber (claimFor a)) ys f a o h .1 record {
+      claims = refl;
+      one-each = e;
+      records = perm-every (Allowed (settingOf q n s t)) (perm-sym d) (h .allowed);
+      certificate = c;
+      as-many = sym (length-map f (λ l. l .arc)) ∙ perm-length d;
+      fingerprints = permutations-agree _ _ (perm-map key (perm-sym d)) r;
+    }

@@ -1,0 +1,1 @@
+// Definitions and proofs alone: what whole runs of session steps answer.

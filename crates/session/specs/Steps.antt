@@ -1,0 +1,187 @@
+-- Opening and the six steps: the scope's section "Session steps", check by check in its order.
+-- Assumes nothing.
+use mathlib.Core.Bool.{_&&_}
+use mathlib.Core.List.{List, [], _∷_, _++_}
+use Prim.Native.Nat.{ℕ, _+_, _*_}
+use lib.Dec.{leb, ltb}
+use lib.IntN.{ℤ, pos}
+use lib.ListN.{set}
+use Rattle.prelude.specs.Checks.{Check, _unless_, settle}
+use Rattle.prelude.specs.Choice.{pick, indicator}
+use Rattle.prelude.specs.Integers.{eqZ, plus, minus}
+use Rattle.prelude.specs.Lists.{at}
+use Rattle.prelude.specs.Marks.{withMark}
+use Rattle.network.specs.Network.{Arc, Load, crosses}
+use Rattle.network.specs.Tests.{settingOf, openingChecks, arcChecks, claimOk, nodeOk, amountOk, ruleOk, balancesOk, sumsOk, answerOf}
+use Rattle.session.specs.Print.{Point, pointOk, samePrint}
+use Rattle.session.specs.Session.{answered, isReading, hasRead, isClaimed, settingIn, claimIn, potentialsIn, marksIn, sumsIn, isComplete, emptyStream, extendStream, holding, void, hand, accept, refuse}
+use Rattle.session.specs.declared.Answer.the-variants.{Refused}
+use Rattle.session.specs.declared.Reply.{Reply}
+use Rattle.session.specs.declared.Session.{Session}
+
+-- ---- "Opening takes question, n, s, t, r. A refusal hands back a void session."
+
+abbrev pub openChecks : ℕ → ℕ → ℕ → ℕ → Point → List Check
+openChecks k n s t r = openingChecks k (settingOf k n s t) ++ 4 unless pointOk r ∷ []
+
+unfoldable pub opening : ℕ → ℕ → ℕ → ℕ → Point → Reply
+opening k n s t r =
+    settle (λ why. hand void (Refused why)) (openChecks k n s t r)
+    (accept (holding 1 (record { question = k; n = n; s = s; t = t }) r emptyStream))
+
+-- ---- "Reading a channel."
+
+abbrev pub readChecks : Session → Arc → List Check
+readChecks x e = 5 unless isReading x ∷ 6 unless ltb (x .read .count) 4096 ∷ arcChecks (settingIn x) e
+
+abbrev pub withRead : Session → Arc → Session
+withRead x e = record {
+  phase = x .phase;
+  setting = x .setting;
+  point = x .point;
+  read = extendStream (x .point) (x .read) e;
+  claim = x .claim;
+  given = x .given;
+  potentials = x .potentials;
+  marks = x .marks;
+  repeated = x .repeated;
+  balances = x .balances;
+  cost = x .cost;
+  cut = x .cut;
+}
+
+unfoldable pub readStep : Session → Arc → Reply
+readStep x e = settle (refuse x) (readChecks x e) (accept (withRead x e))
+
+-- ---- "Ending the reading."
+
+abbrev pub endChecks : Session → List Check
+endChecks x = 5 unless isReading x ∷ []
+
+abbrev pub withEnd : Session → Session
+withEnd x = record {
+  phase = 2;
+  setting = x .setting;
+  point = x .point;
+  read = x .read;
+  claim = x .claim;
+  given = x .given;
+  potentials = x .potentials;
+  marks = x .marks;
+  repeated = x .repeated;
+  balances = x .balances;
+  cost = x .cost;
+  cut = x .cut;
+}
+
+unfoldable pub endStep : Session → Reply
+endStep x = settle (refuse x) (endChecks x) (accept (withEnd x))
+
+-- ---- "The claim."
+
+abbrev pub claimChecks : Session → ℕ → List Check
+claimChecks x k = 5 unless hasRead x ∷ 9 unless claimOk (settingIn x) k ∷ []
+
+abbrev pub withClaim : Session → ℕ → Session
+withClaim x k = record {
+  phase = 3;
+  setting = x .setting;
+  point = x .point;
+  read = x .read;
+  claim = k;
+  given = x .given;
+  potentials = x .potentials;
+  marks = x .marks;
+  repeated = x .repeated;
+  balances = x .balances;
+  cost = x .cost;
+  cut = x .cut;
+}
+
+unfoldable pub claimStep : Session → ℕ → Reply
+claimStep x k = settle (refuse x) (claimChecks x k) (accept (withClaim x k))
+
+-- ---- "A node number."
+
+abbrev pub numberChecks : Session → ℤ → List Check
+numberChecks x z =
+    5 unless (isClaimed x && ltb (x .given) (x .setting .n))
+    ∷ 10 unless nodeOk (settingIn x) (claimIn x) (x .given) z
+    ∷ []
+
+-- The node number 1 is a mark, and its bit is set.
+abbrev pub marksAfter : List ℕ → ℕ → ℤ → List ℕ
+marksAfter words v z = pick (eqZ z (pos 1)) (withMark words v) words
+
+abbrev pub withNumber : Session → ℤ → Session
+withNumber x z = record {
+  phase = x .phase;
+  setting = x .setting;
+  point = x .point;
+  read = x .read;
+  claim = x .claim;
+  given = x .given + 1;
+  potentials = set (x .potentials) (x .given) z;
+  marks = marksAfter (x .marks) (x .given) z;
+  repeated = x .repeated;
+  balances = x .balances;
+  cost = x .cost;
+  cut = x .cut;
+}
+
+unfoldable pub numberStep : Session → ℤ → Reply
+numberStep x z = settle (refuse x) (numberChecks x z) (accept (withNumber x z))
+
+-- ---- "A repeated channel."
+
+abbrev pub repeatChecks : Session → Load → List Check
+repeatChecks x l =
+    5 unless isComplete x
+    ∷ 6 unless ltb (x .repeated .count) (x .read .count)
+    ∷ (arcChecks (settingIn x) (l .arc)
+    ++ 11 unless amountOk (settingIn x) (claimIn x) l
+    ∷ 12 unless ruleOk (settingIn x) (claimIn x) (potentialsIn x) (marksIn x) (l .arc)
+    ∷ [])
+
+-- The balances with the amount x added at the tail a and then taken off at the head b.
+abbrev pub addedAt : List ℤ → ℕ → ℤ → List ℤ
+addedAt l v z = set l v (plus (at l v) z)
+
+abbrev pub takenAt : List ℤ → ℕ → ℤ → List ℤ
+takenAt l v z = set l v (minus (at l v) z)
+
+unfoldable pub moved : List ℤ → ℕ → ℕ → ℕ → List ℤ
+moved l a b x = takenAt (addedAt l a (pos x)) b (pos x)
+
+abbrev pub withRepeat : Session → Load → Session
+withRepeat x l = record {
+  phase = x .phase;
+  setting = x .setting;
+  point = x .point;
+  read = x .read;
+  claim = x .claim;
+  given = x .given;
+  potentials = x .potentials;
+  marks = x .marks;
+  repeated = extendStream (x .point) (x .repeated) (l .arc);
+  balances = moved (x .balances) (l .arc .tail) (l .arc .head) (l .amount);
+  cost = plus (x .cost) (pos (l .amount * l .arc .weight));
+  cut = plus (x .cut) (pos (l .arc .weight * indicator (crosses (marksIn x) (l .arc))));
+}
+
+unfoldable pub repeatStep : Session → Load → Reply
+repeatStep x l = settle (refuse x) (repeatChecks x l) (accept (withRepeat x l))
+
+-- ---- "Finishing ends the session unless it gave 5."
+
+abbrev pub finishChecks : Session → List Check
+finishChecks x =
+    5 unless isComplete x
+    ∷ 13 unless leb (x .read .count) (x .repeated .count)
+    ∷ 14 unless samePrint (x .read .fingerprint) (x .repeated .fingerprint)
+    ∷ 15 unless balancesOk (settingIn x) (claimIn x) (sumsIn x)
+    ∷ 16 unless sumsOk (settingIn x) (claimIn x) (potentialsIn x) (marksIn x) (sumsIn x)
+    ∷ []
+
+unfoldable pub finishStep : Session → Reply
+finishStep x = settle (refuse x) (finishChecks x) (hand void (answered (answerOf (settingIn x) (claimIn x) (sumsIn x))))

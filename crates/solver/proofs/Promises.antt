@@ -1,0 +1,31 @@
+-- The promises of specs/Promises.antt, kept.
+-- Assumes nothing.
+use mathlib.Core.Path.{sym, _∙_, subst}
+use mathlib.Core.Bool.{false≢true}
+use mathlib.Core.List.{List}
+use Prim.Native.Nat.{ℕ}
+use lib.IntN.{ℤ}
+use lib.ListN.{length}
+use Rattle.prelude.specs.Lists.{Perm, at}
+use Rattle.prelude.proofs.Permutations.{perm-refl}
+use Rattle.network.specs.Network.{Arc}
+use Rattle.network.specs.Question.{Setting, TrueAnswer}
+use Rattle.network.proofs.Promises.{one-answer, certificates-sound}
+use Rattle.solver.specs.Instance.{loadsOf}
+use Rattle.solver.specs.Certify.{recordArcs, Accepted, Solution, Outcome}
+use Rattle.solver.specs.Promises.{Decided, Decides}
+use Rattle.solver.proofs.Columns.{loads-arcs}
+use Rattle.solver.proofs.Solutions.{accepted}
+
+decided : (st : Setting) (net : List Arc) (ys : List ℤ) (xs : List ℕ) (reply : ℕ) → Accepted st net → Solution st net ys xs reply → Decided st net reply
+decided st net ys xs reply a s = record { answer = s .answer; is-true = truth; only = λ b h. one-answer st net b (s .answer) h truth; reply-is = s .reply-is }
+  where
+    truth : TrueAnswer st net (s .answer)
+    truth =
+        certificates-sound st net (at ys) (loadsOf net xs) (s .answer) (a .opened) (a .allowed)
+        (subst (λ (l : List Arc). Perm l net) (sym (loads-arcs net xs)) (perm-refl net)) (s .certified)
+
+pub decides : Decides
+decides q st rs ys ys' xs xs' reply ok (Outcome.refused n p r k) = absurd (false≢true (sym n ∙ ok))
+decides q st rs ys ys' xs xs' reply ok (Outcome.solved o p r s) =
+    decided st (recordArcs rs) ys' xs' reply (accepted q st rs (length ys) (length xs) ok .0) s

@@ -1,0 +1,258 @@
+-- From what the engine gave back and what was written to a solution.
+-- Assumes nothing.
+use mathlib.Core.Path.{_≡_, refl, sym, _∙_, ap, ap₂, subst, fun-ext}
+use mathlib.Core.Bool.{Bool, true, false, _&&_}
+use mathlib.Core.Logic.{_⊎_, inl, inr}
+use mathlib.Core.List.{List, [], _∷_, map}
+use Prim.Native.Nat.{ℕ, _-_, _/_, _%_, _<_, _≤_}
+use native.Mathlib.Omega.{arith}
+use native.Mathlib.Decide.{decLt}
+use lib.Dec.{T, eqb, leb, eqb→eq, leb→le}
+use lib.IntN.{ℤ, pos}
+use borrow.Author.Tests.{lt-ltb, le-ltb}
+use lib.ListN.{length, length-map, List·getD-eq-default}
+use Rattle.prelude.specs.Checks.{firstBroken}
+use Rattle.prelude.specs.Lists.{Every, all, at}
+use Rattle.prelude.proofs.Booleans.{true→T}
+use Rattle.prelude.proofs.Settle.{none-broken}
+use Rattle.prelude.proofs.Lists.{all→every, every-map, image-every}
+use Rattle.network.specs.Network.{Arc, arcs, cost}
+use Rattle.network.specs.Question.{Question, shortestPath, maximumFlow, assignment, Setting, Allowed, TwoVertices, EndsFor, EvenFor, SidesFor, PumpToSite, TrueFor, Answer, value, none}
+use Rattle.network.specs.Certificate.{CertifiedFor, FlowCertificate}
+use Rattle.network.specs.Tests.{openingChecks, arcChecks, Claim, ofValue, ofNone, claimNumber, claimFor}
+use Rattle.network.proofs.Allowed.{size-rule, ends-rule, joins-rule, weight-rule}
+use Rattle.network.proofs.Sums.{Inside}
+use Rattle.solver.specs.Net.{entry, unreached, net}
+use Rattle.solver.specs.Arcs.{tailsOf, headsOf, costsOf, capacitiesOf}
+use Rattle.solver.specs.Flow.{Moved}
+use Rattle.solver.specs.Phase.{Found, Solved}
+use Rattle.solver.specs.Instance.{Fits, tails, heads, weights, constant, loadsOf, Filled, single, markOf, toward}
+use Rattle.solver.specs.Certify.{recordArc, recordArcs, recordOk, admissible, Accepted, costFor, capacityFor, packedFor, costs, capacities, standingFor, standing, RunFor, Run, Kind, mark, distance, potential, numberOf, Written, Wanting, toldBy, Told, LengthsFor, Solution}
+use Rattle.solver.proofs.Columns.{loads-arcs, Seen, Unseen, sight}
+use Rattle.solver.proofs.PathInstance.{path-certificate, no-path-certificate, least-lengths, no-walks, moved-one}
+use Rattle.solver.proofs.FlowInstance.{flow-certificate, total-most}
+use Rattle.solver.proofs.AssignmentInstance.{assignment-certificate, no-assignment-certificate}
+use Rattle.solver.proofs.Agreement.{flow-too, no-path-too, no-assignment-too}
+
+-- ---- what is accepted
+
+abbrev all-of : Bool → Bool → Bool → Bool → Bool → Bool
+all-of a b c d e = a && b && c && d && e
+
+parts : (a b c d e : Bool) → T (all-of a b c d e) → T a × T b × T c × T d × T e
+parts true true true true true t = (tt, tt, tt, tt, tt)
+parts true true true true false t = absurd t
+parts true true true false e t = absurd t
+parts true true false d e t = absurd t
+parts true false c d e t = absurd t
+parts false b c d e t = absurd t
+
+pub accepted : (q : ℕ) (st : Setting) (rs : List ℕ) (i j : ℕ) → admissible q st rs i j ≡ true → Accepted st (recordArcs rs) × (i ≡ st .n) × (j ≡ length rs)
+accepted q st rs i j e =
+    let a : T (all-of (eqb (firstBroken (openingChecks q st)) 0) (leb (length rs) 4096) (eqb i (st .n)) (eqb j (length rs)) (all (recordOk st) rs)) = true→T (admissible q st rs i j) e in
+    let h = parts (eqb (firstBroken (openingChecks q st)) 0) (leb (length rs) 4096) (eqb i (st .n)) (eqb j (length rs)) (all (recordOk st) rs) a in
+    let o = none-broken (openingChecks q st) (refl, (refl, (refl, tt))) (eqb→eq (firstBroken (openingChecks q st)) 0 (h .0)) in (
+      record {
+        opened = record { sized = size-rule st (o .1 .0); ends = ends-rule st (o .1 .1 .0) };
+        allowed = image-every recordArc (Allowed st) rs (all→every (recordOk st) allow rs (h .4));
+        few = omega (arith, length-map rs recordArc, leb→le (length rs) 4096 (h .1));
+      },
+      eqb→eq i (st .n) (h .2),
+      eqb→eq j (length rs) (h .3),
+    )
+  where
+    allow : (r : ℕ) → T (recordOk st r) → Allowed st (recordArc r)
+    allow r t =
+        let h = none-broken (arcChecks st (recordArc r)) (refl, (refl, tt)) (eqb→eq (firstBroken (arcChecks st (recordArc r))) 0 t) in
+        record { joins = joins-rule st (recordArc r) (h .0); weight-within = weight-rule (recordArc r) (h .1 .0) }
+
+module _ {st : Setting} {es : List Arc} (a : Accepted st es) where
+  inside : Every (Inside (st .n)) es
+  inside = every-map (λ e (h : Allowed st e). (h .joins .tail-below, h .joins .head-below)) es (a .allowed)
+
+  pub fits : Fits (st .n) es
+  fits = record {
+    small = a .opened .sized .at-most;
+    few = a .few;
+    inside = inside;
+    light = every-map (λ e (h : Allowed st e). h .weight-within) es (a .allowed);
+  }
+
+  pub loads-inside : (xs : List ℕ) → Every (Inside (st .n)) (arcs (loadsOf es xs))
+  loads-inside xs = rw (loads-arcs es xs) inside
+
+-- ---- packed arcs have the columns of the network
+
+pub same-tails : (q : Question) (rs : List ℕ) → tailsOf (map (packedFor q) rs) ≡ tails (recordArcs rs)
+same-tails q [] = refl
+same-tails q (r ∷ rs) = ap₂ (λ (k : ℕ) (l : List ℕ). k ∷ l) (omega arith) (same-tails q rs)
+
+pub same-heads : (q : Question) (rs : List ℕ) → headsOf (map (packedFor q) rs) ≡ heads (recordArcs rs)
+same-heads q [] = refl
+same-heads q (r ∷ rs) = ap₂ (λ (k : ℕ) (l : List ℕ). k ∷ l) (omega arith) (same-heads q rs)
+
+-- costs and capacities stay below 65536
+cost-low : (q : Question) (w : ℕ) → w < 65536 → costFor q w < 65536
+cost-low shortestPath w h = h
+cost-low maximumFlow w h = omega arith
+cost-low assignment w h = h
+
+capacity-low : (q : Question) (w : ℕ) → w < 65536 → capacityFor q w < 65536
+capacity-low shortestPath w h = omega arith
+capacity-low maximumFlow w h = h
+capacity-low assignment w h = omega arith
+
+pub same-costs : (q : Question) (rs : List ℕ) → costsOf (map (packedFor q) rs) ≡ costs q (recordArcs rs)
+same-costs q [] = refl
+same-costs q (r ∷ rs) = ap₂ (λ (k : ℕ) (l : List ℕ). k ∷ l) (omega (arith, cost-low q (r % 65536) (omega arith))) (same-costs q rs)
+
+pub same-capacities : (q : Question) (rs : List ℕ) → capacitiesOf (map (packedFor q) rs) ≡ capacities q (recordArcs rs)
+same-capacities q [] = refl
+same-capacities q (r ∷ rs) =
+    ap₂ (λ (k : ℕ) (l : List ℕ). k ∷ l)
+    (omega (arith, cost-low q (r % 65536) (omega arith), capacity-low q (r % 65536) (omega arith)))
+    (same-capacities q rs)
+
+-- the columns that are constant
+pub constant-map : (k : ℕ) (es : List Arc) → map (λ e. k) es ≡ constant es k
+constant-map k [] = refl
+constant-map k (e ∷ es) = ap (λ (l : List ℕ). k ∷ l) (constant-map k es)
+
+-- ---- what was written
+
+pub written-at : (kind : Kind) (from : List ℕ) (ys : List ℤ) → numberOf kind 0 ≡ 0 → Written kind from ys → at ys ≡ (λ v. pos (numberOf kind (entry from v)))
+written-at kind from ys z w = fun-ext (λ v. go v (decLt v (length from)))
+  where
+    go : (v : ℕ) → Dec (v < length from) → at ys v ≡ pos (numberOf kind (entry from v))
+    go v (yes h) = w .each v h
+    go v (no h) =
+        List·getD-eq-default ys (pos 0) {n = v} (omega (arith, w .len))
+        ∙ sym (ap (λ (k : ℕ). pos (numberOf kind k)) (List·getD-eq-default from 0 {n = v} (omega arith)) ∙ ap pos z)
+
+-- ---- solutions, by the question
+
+module _ (st : Setting) (es : List Arc) where
+  pub solution : (q : Question) → st .question ≡ q → (ys : List ℤ) (xs : List ℕ) (a : Answer) → CertifiedFor q st (at ys) (loadsOf es xs) a
+      → LengthsFor q st es (claimFor a) (at ys) → Solution st es ys xs (claimNumber (claimFor a))
+  solution q e ys xs a c l = record {
+    answer = a;
+    certified = subst (λ (k : Question). CertifiedFor k st (at ys) (loadsOf es xs) a) (sym e) c;
+    lengths = subst (λ (k : Question). LengthsFor k st es (claimFor a) (at ys)) (sym e) l;
+    reply-is = refl;
+  }
+
+-- one key for each vertex
+pub keys : {q : Question} {st : Setting} {es : List Arc} {x' pi' need' key' : List ℕ} → RunFor q st es x' pi' need' key' → length key' ≡ st .n
+keys r = r .solved .found .key-len ∙ r .solved .left-len ∙ r .supply .len
+
+module _ {st : Setting} {es : List Arc} (a : Accepted st es) where
+  -- ---- maximum flow
+
+  pub flow-solution : {x' pi' need' key' : List ℕ} {ys : List ℤ} → st .question ≡ maximumFlow → Run st es x' pi' need' key' → Written mark key' ys → Solution st es ys x' 1
+  flow-solution {x'} {pi'} {need'} {key'} {ys} e run w = solution st es maximumFlow e ys x' (value _) (flow-too st (markOf key') (at ys) same (loadsOf es x') _ (ends .source-below) (ends .sink-below) (loads-inside a x') certificate) tt
+    where
+      ends : TwoVertices st
+      ends = subst (λ (q : Question). EndsFor q st) e (a .opened .ends)
+
+      r : RunFor maximumFlow st es x' pi' need' key'
+      r = subst (λ (q : Question). RunFor q st es x' pi' need' key') e run
+
+      same : (v : ℕ) → v < st .n → markOf key' v ≡ at ys v
+      same v h = sym (w .each v (omega (arith, keys r)))
+
+      certificate : FlowCertificate st (markOf key') (loadsOf es x') (134213633 - entry need' (st .t))
+      certificate =
+          flow-certificate st es 134213633 ends (fits a) (omega (arith, total-most (st .n) es (fits a))) (r .supply) (r .demand) (r .solved .left-less) (r .solved .need-less)
+          (subst (λ (c : List ℕ). Solved (tails es) (heads es) c (weights es) (constant es 0) (r .pi) (r .left) (r .need) x' pi' (r .left') need' key' (r .par')) (constant-map 0 es) (r .solved))
+
+  -- ---- assignment
+
+  module _ {x' pi' need' key' : List ℕ} (e : st .question ≡ assignment) (run : Run st es x' pi' need' key') where
+    r : RunFor assignment st es x' pi' need' key'
+    r = subst (λ (q : Question). RunFor q st es x' pi' need' key') e run
+
+    even : st .n % 2 ≡ 0
+    even = subst (λ (q : Question). EvenFor q (st .n)) e (a .opened .sized .even)
+
+    sides : Every (PumpToSite st) es
+    sides = every-map (λ x (h : Allowed st x). subst (λ (q : Question). SidesFor q st x) e (h .joins .sides)) es (a .allowed)
+
+    asked : Solved (tails es) (heads es) (weights es) (constant es 2) (constant es 0) (r .pi) (r .left) (r .need) x' pi' (r .left') need' key' (r .par')
+    asked = subst (λ (c : List ℕ). Solved (tails es) (heads es) (weights es) c (constant es 0) (r .pi) (r .left) (r .need) x' pi' (r .left') need' key' (r .par')) (constant-map 2 es) (r .solved)
+
+    pub assignment-solution : {ys : List ℤ} → ((v : ℕ) → entry need' v ≡ 0) → Written potential pi' ys → Solution st es ys x' 1
+    assignment-solution {ys} met w =
+        solution st es assignment e ys x' (value (cost (loadsOf es x')))
+        (subst (λ (y : ℕ → ℤ). CertifiedFor assignment st y (loadsOf es x') (value (cost (loadsOf es x')))) (sym (written-at potential pi' ys refl w))
+        (assignment-certificate st es (fits a) even sides (r .supply) (r .demand) asked (λ v h. met v)))
+        tt
+
+    pub no-assignment-solution : {ys : List ℤ} → Wanting need' → Written mark key' ys → Solution st es ys (constant es 0) 2
+    no-assignment-solution {ys} u w =
+        solution st es assignment e ys (constant es 0) none
+        (no-assignment-too st (markOf key') (at ys) (λ v h. sym (w .each v (omega (arith, keys r)))) (loadsOf es (constant es 0)) (loads-inside a (constant es 0))
+        (no-assignment-certificate st es (fits a) even sides (r .supply) (r .demand) asked (r .solved .left-less) (u .vertex) (omega (arith, u .below, r .solved .state .need-len, r .solved .left-len, r .supply .len)) (u .more)))
+        tt
+
+  -- ---- shortest path
+
+  module _ {pi left key par : List ℕ} (e : st .question ≡ shortestPath)
+      (none-yet : Filled (st .n) (λ v. 0) pi) (stands : Filled (st .n) (standing st false) left)
+      (found : Found (net (tails es) (heads es) (costs (st .question) es) (capacities (st .question) es) (constant es 0) pi) left key par) where
+    two : TwoVertices st
+    two = subst (λ (q : Question). EndsFor q st) e (a .opened .ends)
+
+    supply : Filled (st .n) (single (st .s) 1) left
+    supply = subst (λ (q : Question). Filled (st .n) (standingFor q st false) left) e stands
+
+    F : Found (net (tails es) (heads es) (weights es) (constant es 1) (constant es 0) pi) left key par
+    F = subst (λ (c : List ℕ). Found (net (tails es) (heads es) (weights es) c (constant es 0) pi) left key par) (constant-map 1 es)
+        (subst (λ (q : Question). Found (net (tails es) (heads es) (costs q es) (capacities q es) (constant es 0) pi) left key par) e found)
+
+    n-keys : length key ≡ st .n
+    n-keys = F .key-len ∙ supply .len
+
+    true-at : (v : ℕ) (b : Answer) → TrueFor shortestPath (toward st v) es b → TrueFor (st .question) (toward st v) es b
+    true-at v b = subst (λ (q : Question). TrueFor q (toward st v) es b) (sym e)
+
+    -- what the number of a key tells, where it is told in both cases
+    tells : (kind : Kind) (c : Claim) {ys : List ℤ} → Written kind key ys
+        → ((k : ℕ) → k < unreached → pos (numberOf kind k) ≡ toldBy c (value (k / 256)))
+        → ((k : ℕ) → unreached ≤ k → pos (numberOf kind k) ≡ toldBy c none) → (v : ℕ) → v < st .n → Told st es c (at ys) v
+    tells kind c {ys} w near far v h = go (sight key v)
+      where
+        go : Seen key v ⊎ Unseen key v → Told st es c (at ys) v
+        go (inl r) = record {
+          answer = value (entry key v / 256);
+          is-true = true-at v (value (entry key v / 256)) (least-lengths st es (fits a) (two .source-below) none-yet supply F v h (r .below));
+          told = w .each v (omega (arith, n-keys)) ∙ near (entry key v) (r .below);
+        }
+        go (inr r) = record {
+          answer = none;
+          is-true = true-at v none (no-walks st es (fits a) (two .source-below) none-yet supply F v (r .above));
+          told = w .each v (omega (arith, n-keys)) ∙ far (entry key v) (r .above);
+        }
+
+    pub path-solution : {x' left' : List ℕ} {ys : List ℤ} {g : ℕ} → entry key (st .t) < unreached
+        → Moved (tails es) (heads es) (capacities (st .question) es) par key (constant es 0) left x' left' (st .t) 1 g → Written distance key ys
+        → Solution st es ys x' 1
+    path-solution {x'} {left'} {ys} {g} near moved w =
+        solution st es shortestPath e ys x' (value (entry key (st .t) / 256))
+        (subst (λ (y : ℕ → ℤ). CertifiedFor shortestPath st y (loadsOf es x') (value (entry key (st .t) / 256))) (sym (written-at distance key ys refl w))
+        (path-certificate st es (fits a) (two .source-below) none-yet supply F (two .sink-below) (two .apart) near one))
+        (tells distance ofValue w (λ k h. rw (lt-ltb k unreached h)) (λ k h. rw (le-ltb k unreached h)))
+      where
+        some : Moved (tails es) (heads es) (constant es 1) par key (constant es 0) left x' left' (st .t) 1 g
+        some = subst (λ (c : List ℕ). Moved (tails es) (heads es) c par key (constant es 0) left x' left' (st .t) 1 g) (constant-map 1 es)
+            (subst (λ (q : Question). Moved (tails es) (heads es) (capacities q es) par key (constant es 0) left x' left' (st .t) 1 g) e moved)
+
+        one : Moved (tails es) (heads es) (constant es 1) par key (constant es 0) left x' left' (st .t) 1 1
+        one = subst (Moved (tails es) (heads es) (constant es 1) par key (constant es 0) left x' left' (st .t) 1)
+            (moved-one st es (fits a) (two .source-below) none-yet supply F some) some
+
+    pub no-path-solution : {ys : List ℤ} → unreached ≤ entry key (st .t) → Written mark key ys → Solution st es ys (constant es 0) 2
+    no-path-solution {ys} far w =
+        solution st es shortestPath e ys (constant es 0) none
+        (no-path-too st (markOf key) (at ys) (λ v h. sym (w .each v (omega (arith, n-keys)))) (loadsOf es (constant es 0)) (two .source-below) (two .sink-below) (loads-inside a (constant es 0))
+        (no-path-certificate st es (fits a) (two .source-below) none-yet supply F far))
+        (tells mark ofNone w (λ k h. rw (lt-ltb k unreached h)) (λ k h. rw (le-ltb k unreached h)))

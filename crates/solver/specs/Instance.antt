@@ -1,0 +1,84 @@
+-- The three questions as the engine is asked them: the columns of a network, its loads, lists by vertex, and node numbers read from keys.
+-- Assumes nothing.
+use mathlib.Core.Path.{_≡_}
+use mathlib.Core.Bool.{Bool, not}
+use mathlib.Core.List.{List, [], _∷_, map}
+use Prim.Native.Nat.{ℕ, _*_, _/_, _<_, _≤_}
+use lib.Dec.{ltb}
+use lib.IntN.{ℤ, pos}
+use lib.ListN.{length, replicate}
+use Rattle.prelude.specs.Choice.{pick, indicator}
+use Rattle.prelude.specs.Lists.{Every}
+use Rattle.network.specs.Network.{Arc, Load, delta}
+use Rattle.network.specs.Question.{Setting, pumps, WeightWithin}
+use Rattle.solver.specs.Net.{entry, unreached}
+
+-- What reading lets through: a network within the limits, whose arcs join vertices below n.
+pub record Fits (n : ℕ) (es : List Arc) : Type 0 where
+  pub small : n ≤ 255
+  pub few : length es ≤ 4096
+  pub inside : Every (λ e. (e .tail < n) × (e .head < n)) es
+  pub light : Every WeightWithin es
+
+-- ---- by arc
+
+-- The columns of a network: the tails, the heads and the weights of its arcs, in order.
+abbrev pub tails : List Arc → List ℕ
+tails es = map (λ e. e .tail) es
+
+abbrev pub heads : List Arc → List ℕ
+heads es = map (λ e. e .head) es
+
+abbrev pub weights : List Arc → List ℕ
+weights es = map (λ e. e .weight) es
+
+-- The column that holds k for each arc.
+abbrev pub constant : List Arc → ℕ → List ℕ
+constant es k = replicate (length es) k
+
+-- The arcs with their amounts, 0 where the amounts have ended.
+unfoldable pub loadsOf : List Arc → List ℕ → List Load
+loadsOf [] xs = []
+loadsOf (e ∷ es) [] = record { arc = e; amount = 0 } ∷ loadsOf es []
+loadsOf (e ∷ es) (x ∷ xs) = record { arc = e; amount = x } ∷ loadsOf es xs
+
+-- ---- by vertex
+
+-- The list has an entry for each of n vertices, f v for the vertex v.
+pub record Filled (n : ℕ) (f : ℕ → ℕ) (l : List ℕ) : Type 0 where
+  pub len : length l ≡ n
+  pub entries : (v : ℕ) → v < n → entry l v ≡ f v
+
+-- What the vertices have, by the question: a at the vertex k; 1 at every pump; 1 at every site; and 0 elsewhere.
+abbrev pub single : ℕ → ℕ → ℕ → ℕ
+single k a v = a * delta k v
+
+abbrev pub atPumps : Setting → ℕ → ℕ
+atPumps st v = indicator (ltb v (pumps st))
+
+abbrev pub atSites : Setting → ℕ → ℕ
+atSites st v = indicator (not (ltb v (pumps st)))
+
+-- No entry of the second list is above that of the first.
+abbrev pub Falls : List ℕ → List ℕ → Type 0
+Falls l l' = (v : ℕ) → entry l' v ≤ entry l v
+
+-- Did the search reach the vertex v?
+abbrev pub reached : List ℕ → ℕ → Bool
+reached key v = ltb (entry key v) unreached
+
+-- The least length of a walk to v that a key holds, and 8322818, which is as high as a potential goes, where none leads there.
+abbrev pub distanceOf : List ℕ → ℕ → ℕ
+distanceOf key v = pick (reached key v) (entry key v / 256) 8322818
+
+-- The node numbers of a path: the distances.
+abbrev pub potentialOf : List ℕ → ℕ → ℤ
+potentialOf key v = pos (distanceOf key v)
+
+-- The node numbers that mark what a search reached: 1 there, else 0.
+abbrev pub markOf : List ℕ → ℕ → ℤ
+markOf key v = pos (indicator (reached key v))
+
+-- The setting with another sink.
+abbrev pub toward : Setting → ℕ → Setting
+toward st v = record { question = st .question; n = st .n; s = st .s; t = v }

@@ -1,0 +1,25 @@
+-- What the solver promises: every network that a session accepts has one true answer, and the solver finds it.
+-- Assumes nothing.
+use mathlib.Core.Path.{_≡_}
+use mathlib.Core.Bool.{true}
+use mathlib.Core.List.{List}
+use Prim.Native.Nat.{ℕ}
+use lib.IntN.{ℤ}
+use lib.ListN.{length}
+use Rattle.network.specs.Network.{Arc}
+use Rattle.network.specs.Question.{Setting, Answer, TrueAnswer}
+use Rattle.network.specs.Tests.{claimNumber, claimFor}
+use Rattle.solver.specs.Certify.{recordArcs, admissible, Outcome}
+
+-- There is a true answer, no other one is true, and the reply is its claim: a value exactly where a value is true.
+pub record Decided (st : Setting) (net : List Arc) (reply : ℕ) : Type 0 where
+  pub answer : Answer
+  pub is-true : TrueAnswer st net answer
+  pub only : (a : Answer) → TrueAnswer st net a → a ≡ answer
+  pub reply-is : reply ≡ claimNumber (claimFor answer)
+
+-- "A value claim exactly where a value exists", for all that is admissible.
+abbrev pub Decides : Type 0
+Decides =
+    (q : ℕ) (st : Setting) (rs : List ℕ) (ys ys' : List ℤ) (xs xs' : List ℕ) (reply : ℕ)
+    → admissible q st rs (length ys) (length xs) ≡ true → Outcome q st rs ys xs ys' xs' reply → Decided st (recordArcs rs) reply

@@ -1,0 +1,113 @@
+// Which network a seed stands for: its size, its source and sink, the shape of its arcs and the kind of its weights.
+use super::array::plus;
+use super::random::below;
+
+pub struct Net {
+    pub question: usize,
+    pub n: usize,
+    pub s: usize,
+    pub t: usize,
+    pub m: usize,
+    pub shape: usize,
+    pub kind: usize,
+    pub seed: usize,
+}
+
+// Of every 64 networks the last four are large.
+fn class(seed: usize) -> usize {
+    seed % 64
+}
+
+// How many vertices; even for a pairing.
+fn vertices(question: usize, seed: usize) -> usize {
+    if class(seed) < 60 {
+        if question == 3 {
+            return 2 + 2 * (below(6, seed, 0, 1) % 6);
+        }
+        return 2 + below(11, seed, 0, 1) % 11;
+    }
+    if class(seed) < 62 {
+        return 40;
+    }
+    if question == 3 {
+        return 254;
+    }
+    255
+}
+
+// How many arcs.
+fn arcs(seed: usize) -> usize {
+    if class(seed) < 15 {
+        return below(13, seed, 0, 2);
+    }
+    if class(seed) < 60 {
+        return below(61, seed, 0, 2);
+    }
+    if class(seed) % 2 == 0 {
+        return 400;
+    }
+    4096
+}
+
+// 8 shapes of pairings, 10 of other networks, of which the chains come up in all kinds at the size of 255 vertices and 400 arcs.
+fn shape(question: usize, seed: usize) -> usize {
+    if question == 3 {
+        return seed / 64 % 8;
+    }
+    if class(seed) == 62 {
+        return 1 + seed / 64 % 2;
+    }
+    seed / 64 % 10
+}
+
+fn kind(seed: usize) -> usize {
+    if class(seed) == 62 {
+        return seed / 128 % 7;
+    }
+    below(7, seed, 0, 3)
+}
+
+// Does the shape lead from the first vertex to the last?
+fn end_to_end(shape: usize) -> bool {
+    shape == 1 || shape == 2 || shape == 5 || shape == 6
+}
+
+// The first vertex for such a shape and for a pairing, else any.
+fn source(question: usize, n: usize, shape: usize, seed: usize) -> usize {
+    if question == 3 {
+        return 0;
+    }
+    if end_to_end(shape) {
+        return 0;
+    }
+    below(n, seed, 0, 4)
+}
+
+fn sink(question: usize, n: usize, shape: usize, s: usize, seed: usize) -> usize {
+    if question == 3 {
+        return 0;
+    }
+    if n < 2 {
+        return 0;
+    }
+    if end_to_end(shape) {
+        return n - 1;
+    }
+    plus(plus(s, 1), below(n - 1, seed, 0, 5)) % n
+}
+
+pub fn network(question: usize, seed: usize) -> Net {
+    let n = vertices(question, seed);
+    let shape = shape(question, seed);
+    let s = source(question, n, shape, seed);
+    Net {
+        question: question,
+        n: n,
+        s: s,
+        t: sink(question, n, shape, s, seed),
+        m: arcs(seed),
+        shape: shape,
+        kind: kind(seed),
+        seed: seed,
+    }
+}

@@ -1,0 +1,20 @@
+// The solver for callers in C: each slice is a pointer and a count.
+ghost use Rattle.network.specs.Tests.{settingOf};
+ghost use Rattle.solver.specs.Certify.{Outcome};
+use checks::Setting;
+
+#[no_mangle]
+pub extern "C" fn solver_certify(
+    question: u8,
+    n: u8,
+    s: u8,
+    t: u8,
+    records: &[u32],
+    numbers: &mut [i32],
+    amounts: &mut [u16],
+) -> u8
+    ensures { λ r. ⌜ Outcome question (settingOf question n s t) (now (records .entry)) (now (numbers .entry)) (now (amounts .entry)) (now (numbers .exit)) (now (amounts .exit)) r ⌝ }
+{
+    let st = Setting { question, n, s, t };
+    solver::certify(st, records, numbers, amounts)
+}
