@@ -9,9 +9,9 @@ use super::layout::layout_check;
 
 // An arc from a to b with the number w.
 pub struct Record {
-    pub a: u32,
-    pub b: u32,
-    pub w: u32,
+    pub a: u8,
+    pub b: u8,
+    pub w: u16,
 }
 
 pub fn question(file: &[u8]) -> u8
@@ -60,8 +60,8 @@ pub fn arc(file: &[u8], e: usize) -> Record
         return Record { a: 0, b: 0, w: 0 };
     }
     let at = 11 + 4 * e;
-    let a = byte(file, at) as u32;
-    let b = byte(file, at + 1) as u32;
-    let w = number16(file, at + 2) as u32;
+    let a = byte(file, at);
+    let b = byte(file, at + 1);
+    let w = number16(file, at + 2);
     Record { a: a, b: b, w: w }
 }

@@ -31,7 +31,7 @@ pub(crate) fn read_all(x: Session, file: &[u8]) -> Reply
     let mut e = 0;
     while e < m {
         let arc = network_file::arc(file, e);
-        let reply = y.read_channel(arc.a, arc.b, arc.w);
+        let reply = y.read_channel(arc.a as u32, arc.b as u32, arc.w as u32);
         let answer = reply.answer;
         if !is_accepted(answer) {
             return reply;

@@ -28,19 +28,24 @@ loop-holds c =
 
 returns : tie.Need-returns Inv-loop μ-loop
 returns c =
-    let s = c .before .before .before .before .before .before .before .before in
-    let l = c .before .before .before .before .before .loop in
-    subst (λ (m : ℕ). Goes (s .args .x) (map read (listTo m (arcIn (s .args .file .now)))) (c .before .before .read-channel .result)) (c .before .before .before .before .before .before .count .ensures)
-    (gone read (arcIn (s .args .file .now)) (s .args .x) (c .before .before .before .before .before .before .count .result) (l .y) (l .e) (c .before .before .read-channel .result) (l .inv) (c .before .before .before .before .loop-test .taken)
-    (c .before .before .read-channel .ensures ∙ ap (readStep (l .y)) (c .before .before .before .arc .ensures))
+    let reply = c .before .before .read-channel in
+    let found = c .before .before .before .before .before .before in
+    let l = found .before .before .loop in
+    let asked = found .before .before .before .count in
+    let s = found .before .before .before .before .before in
+    subst (λ (m : ℕ). Goes (s .args .x) (map read (listTo m (arcIn (s .args .file .now)))) (reply .result)) (asked .ensures)
+    (gone read (arcIn (s .args .file .now)) (s .args .x) (asked .result) (l .y) (l .e) (reply .result) (l .inv) (found .before .loop-test .taken)
+    (reply .ensures ∙ ap (readStep (l .y)) (found .arc .ensures))
     (c .before .is-accepted .ensures .1 (denied (c .before .is-accepted .result) (c .if1 .taken))))
 
 loop-again : tie.Need-loop-again Inv-loop μ-loop
 loop-again c =
-    let s = c .before .before .before .before .before .before .before .before .before in
-    let l = c .before .before .before .before .before .before .loop in
-    going-on read (arcIn (s .args .file .now)) (s .args .x) (c .before .before .before .before .before .before .before .count .result) (l .y) (l .e) (c .before .before .before .read-channel .result) (l .inv) (c .before .before .before .before .before .loop-test .taken)
-    (c .before .before .before .read-channel .ensures ∙ ap (readStep (l .y)) (c .before .before .before .before .arc .ensures))
+    let reply = c .before .before .before .read-channel in
+    let found = c .before .before .before .before .before .before .before in
+    let l = found .before .before .loop in
+    let s = found .before .before .before .before .before in
+    going-on read (arcIn (s .args .file .now)) (s .args .x) (found .before .before .before .count .result) (l .y) (l .e) (reply .result) (l .inv) (found .before .loop-test .taken)
+    (reply .ensures ∙ ap (readStep (l .y)) (found .arc .ensures))
     (c .before .before .is-accepted .ensures .0 (granted (c .before .before .is-accepted .result) (c .before .if1 .left)))
 
 returns-2 : tie.Need-returns-2 Inv-loop μ-loop
@@ -60,10 +65,13 @@ read-all-spec =
     (λ c. search needs)
     loop-holds
     (λ c κs. search needs)
+    (λ c. search needs)
+    (λ c. search needs)
+    (λ c. search needs)
     (λ c κs. search needs)
     (λ c κs. search needs)
     returns
     (λ c. search needs)
-    (λ c. omega (arith, c .before .before .before .before .before .loop-test .taken))
+    (λ c. omega (arith, c .before .before .before .before .before .before .before .before .loop-test .taken))
     loop-again
     returns-2)
