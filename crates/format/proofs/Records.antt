@@ -4,6 +4,7 @@ use mathlib.Core.Path.{_≡_, refl, sym, _∙_, ap, ap₂}
 use mathlib.Core.List.{List, [], _∷_, _++_, flatMap, append-assoc, append-nil}
 use Prim.Native.Nat.{ℕ, zero, suc, _+_, _*_, _≤_, _<_}
 use native.Mathlib.Nat.{mul-zero}
+use native.Mathlib.Decide.{ℕ-discrete}
 use native.Mathlib.Omega.{arith}
 use lib.ListN.{length, getD, take, length-append}
 use lib.Seq.{take-suc, take-length}
@@ -24,14 +25,30 @@ listTo-length zero g = refl
 listTo-length (suc n) g = length-append (listTo n g) (g n ∷ []) ∙ omega (arith, listTo-length n g)
 
 -- the entries of a list, listed
-listTo-take : {A : Type 0} (d : A) (xs : List A) (g : ℕ → A) → ((e : ℕ) → e < length xs → g e ≡ getD xs e d) → (n : ℕ) → n ≤ length xs → listTo n g ≡ take n xs
+pub listTo-take : {A : Type 0} (d : A) (xs : List A) (g : ℕ → A) → ((e : ℕ) → e < length xs → g e ≡ getD xs e d) → (n : ℕ) → n ≤ length xs → listTo n g ≡ take n xs
 unfolding listTo
 listTo-take d xs g h zero l = refl
 listTo-take d xs g h (suc n) l =
     ap₂ (λ ys y. ys ++ (y ∷ [])) (listTo-take d xs g h n (omega arith)) (h n (omega arith)) ∙ sym (take-suc xs n d (omega arith))
 
+-- the list below m, with the entry of the number e in its place
+pub record Split {A : Type 0} (h : ℕ → A) (e m : ℕ) : Type 0 where
+  pub later : List A
+  pub is : listTo m h ≡ listTo e h ++ (h e ∷ later)
+
+pub split : {A : Type 0} (h : ℕ → A) (e m : ℕ) → e < m → Split h e m
+unfolding listTo
+split h e zero l = absurd (omega arith)
+split {A} h e (suc m) l = go (ℕ-discrete e m) (split h e m)
+  where
+    go : Dec (e ≡ m) → (e < m → Split h e m) → Split h e (suc m)
+    go (yes q) before = record { later = []; is = sym (ap (λ (k : ℕ). listTo k h ++ (h k ∷ [])) q) }
+    go (no q) before =
+        let s = before (omega arith) in
+        record { later = s .later ++ (h m ∷ []); is = ap (λ (k : List A). k ++ (h m ∷ [])) (s .is) ∙ append-assoc (listTo e h) (h e ∷ s .later) (h m ∷ []) }
+
 module _ {A : Type 0} (write : A → List ℕ) where
-  flat-append : (xs ys : List A) → flatMap write (xs ++ ys) ≡ flatMap write xs ++ flatMap write ys
+  pub flat-append : (xs ys : List A) → flatMap write (xs ++ ys) ≡ flatMap write xs ++ flatMap write ys
   unfolding flatMap
   flat-append [] ys = refl
   flat-append (x ∷ xs) ys = ap (λ (l : List ℕ). write x ++ l) (flat-append xs ys) ∙ sym (append-assoc (write x) (flatMap write xs) (flatMap write ys))

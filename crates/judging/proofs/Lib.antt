@@ -1,3 +1,4 @@
+pub mod AcceptedFiles
 pub mod Promises
 pub mod Turns
 pub mod Judged

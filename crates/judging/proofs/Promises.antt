@@ -33,6 +33,7 @@ use Rattle.format.specs.Files.{questionIn, nIn, sIn, tIn, arcsIn, claimIn, numb
 use Rattle.format.specs.Promises.{Byte}
 use Rattle.format.proofs.Promises.{annotation-round-trip}
 use Rattle.judging.specs.Judging.{settingIn, numbersFor, loadsFor, networkChecks, annotationChecks, judged, JudgedWrong}
+use Rattle.judging.proofs.AcceptedFiles.{accepted-parts, file-opened, file-readable}
 use Rattle.judging.specs.Promises.{JudgedBySteps, FewJudgedWrong, OnlyAccepted, CertificatesJudged}
 
 -- ---- the list read of an exchange
@@ -97,12 +98,9 @@ module _ (net ann : List ℕ) (r : Point) where
 
 pub judged-by-steps : JudgedBySteps
 judged-by-steps net ann r h ha hr =
-    let rest = hold-right (networkLayout net) (openingChecks (questionIn net) (settingIn net) ++ readRules (settingIn net) 0 (arcsIn net)) h in
-    by-steps net ann r
-    (hold-left (networkLayout net) (openingChecks (questionIn net) (settingIn net) ++ readRules (settingIn net) 0 (arcsIn net)) h)
-    (hold-append (openingChecks (questionIn net) (settingIn net)) (4 unless pointOk r ∷ []) (hold-left (openingChecks (questionIn net) (settingIn net)) (readRules (settingIn net) 0 (arcsIn net)) rest) (lt→ltb r p hr, tt))
-    (hold-right (openingChecks (questionIn net) (settingIn net)) (readRules (settingIn net) 0 (arcsIn net)) rest)
-    ha
+    let parts = accepted-parts net h in
+    by-steps net ann r (parts .layout-held) (hold-append (openingChecks (questionIn net) (settingIn net)) (4 unless pointOk r ∷ []) (parts .opening-held) (lt→ltb r p hr, tt))
+    (parts .reading-held) ha
 
 pub only-accepted : OnlyAccepted
 only-accepted net ann r a e =
@@ -151,42 +149,22 @@ few-judged-wrong net ann (r ∷ rs) d w =
 
 -- ---- certificates
 
--- what the rules of reading say of the arcs
-arcs-few : (st : Setting) (i : ℕ) (es : List Arc) → i ≤ 4096 → Hold (readRules st i es) → i + length es ≤ 4096
-unfolding readRules
-arcs-few st i [] h u = omega arith
-arcs-few st i (e ∷ es) h u =
-    omega (
-      arith,
-      arcs-few st (suc i) es (omega (arith, ltb→lt i 4096 (hold-left (readRule st i e) (readRules st (suc i) es) u .0))) (hold-right (readRule st i e) (readRules st (suc i) es) u),
-    )
-
-arcs-allowed : (st : Setting) (i : ℕ) (es : List Arc) → Hold (readRules st i es) → Every (Allowed st) es
-unfolding readRules
-arcs-allowed st i [] u = tt
-arcs-allowed st i (e ∷ es) u =
-    let h = hold-left (readRule st i e) (readRules st (suc i) es) u in
-    (record { joins = joins-rule st e (h .1 .0); weight-within = weight-rule e (h .1 .1 .0) }, arcs-allowed st (suc i) es (hold-right (readRule st i e) (readRules st (suc i) es) u))
-
 claim-byte : (a : Answer) → Byte (claimNumber (claimFor a))
 claim-byte (value v) = omega arith
 claim-byte none = omega arith
 
 pub certificates-judged : CertificatesJudged
 certificates-judged net ys f a r h one-each signed fit d c hr =
-    let o = hold-right (networkLayout net) (openingChecks (questionIn net) (settingIn net) ++ readRules (settingIn net) 0 (arcsIn net)) h in
-    let oh = hold-left (openingChecks (questionIn net) (settingIn net)) (readRules (settingIn net) 0 (arcsIn net)) o in
-    let rh = hold-right (openingChecks (questionIn net) (settingIn net)) (readRules (settingIn net) 0 (arcsIn net)) o in
-    let opened : Opened (settingIn net) = record { sized = size-rule (settingIn net) (oh .1 .0); ends = ends-rule (settingIn net) (oh .1 .1 .0) } in
-    let allowed = arcs-allowed (settingIn net) 0 (arcsIn net) rh in
-    let few : length (arcsIn net) ≤ 4096 = omega (arith, arcs-few (settingIn net) 0 (arcsIn net) (omega arith) rh) in
+    let opened = file-opened net h in
+    let readable = file-readable net h in
+    let few = readable .few in
     let back = annotation-round-trip (claimNumber (claimFor a)) ys f (claim-byte a) signed (omega (arith, perm-length d, length-map f (λ l. l .arc))) fit in
     let ann : List ℕ = annotationFile (claimNumber (claimFor a)) ys f in (
       judged-by-steps net ann r h (subst (λ (n : ℕ). Hold (annotationLayout n ann)) one-each (back .passes)) hr
           ∙ same-out net ann r (back .claim-back) (subst (λ (n : ℕ). numbersIn n ann ≡ ys) one-each (back .numbers-back)) (subst (λ (n : ℕ). loadsIn n ann ≡ f) one-each (back .loads-back))
           ∙ certificates-pass (questionIn net) (nIn net) (sIn net) (tIn net) r (arcsIn net) ys f a
-          (record { question = oh .0; opened = opened; point = hr }) (record { allowed = allowed; few = few }) d one-each c,
-      certificates-sound (settingIn net) (arcsIn net) (at ys) f a opened allowed d c,
+          (record { question = accepted-parts net h .opening-held .0; opened = opened; point = hr }) readable d one-each c,
+      certificates-sound (settingIn net) (arcsIn net) (at ys) f a opened (readable .allowed) d c,
     )
   where
     same-out : (net ann : List ℕ) (r : Point) {k : ℕ} {ys : List ℤ} {f : List Load} → claimIn ann ≡ k → numbersFor net ann ≡ ys → loadsFor net ann ≡ f

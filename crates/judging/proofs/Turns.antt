@@ -5,30 +5,14 @@ use mathlib.Core.Bool.{Bool, true, false, not}
 use mathlib.Core.List.{List, [], _∷_, _++_, map, append-assoc, map-append}
 use Prim.Native.Nat.{ℕ, zero, suc, _+_, _<_, _≤_}
 use native.Mathlib.Omega.{arith}
-use native.Mathlib.Decide.{ℕ-discrete}
 use Rattle.session.specs.Session.{Said, accepted, gives, refused, said, accept}
 use Rattle.session.specs.declared.Reply.{Reply}
 use Rattle.session.specs.declared.Session.{Session}
 use Rattle.runs.specs.Run.{Step, step, run}
 use Rattle.runs.specs.Exchange.{outcome}
 use Rattle.format.specs.Bytes.{listTo}
+use Rattle.format.proofs.Records.{split}
 use Rattle.judging.specs.Going.{thenSaid, Goes}
-
--- the steps below m, with the one of the number e in its place
-record Split {A : Type 0} (h : ℕ → A) (e m : ℕ) : Type 0 where
-  later : List A
-  is : listTo m h ≡ listTo e h ++ (h e ∷ later)
-
-split : {A : Type 0} (h : ℕ → A) (e m : ℕ) → e < m → Split h e m
-unfolding listTo
-split h e zero l = absurd (omega arith)
-split {A} h e (suc m) l = go (ℕ-discrete e m) (split h e m)
-  where
-    go : Dec (e ≡ m) → (e < m → Split h e m) → Split h e (suc m)
-    go (yes q) before = record { later = []; is = sym (ap (λ (k : ℕ). listTo k h ++ (h k ∷ [])) q) }
-    go (no q) before =
-        let s = before (omega arith) in
-        record { later = s .later ++ (h m ∷ []); is = ap (λ (k : List A). k ++ (h m ∷ [])) (s .is) ∙ append-assoc (listTo e h) (h e ∷ s .later) (h m ∷ []) }
 
 -- ---- one step after the other
 

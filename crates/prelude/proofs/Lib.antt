@@ -10,3 +10,4 @@ pub mod Counts
 pub mod Bits
 pub mod MarkLaws
 pub mod CountLaws
+pub mod Filling

@@ -61,7 +61,7 @@ stays-keeps P tr h c k = go (eqb k 5)
     go false = c
 
 module _ (st : Setting) where
-  arc-allowed : (e : Arc) → Hold (arcChecks st e) → Allowed st e
+  pub arc-allowed : (e : Arc) → Hold (arcChecks st e) → Allowed st e
   arc-allowed e h = record { joins = joins-rule st e (h .0); weight-within = weight-rule e (h .1 .0) }
 
   read-more : (l : List Arc) (e : Arc) → Readable st l → Hold (readRule st (length l) e) → Readable st (l ++ e ∷ [])

@@ -1,0 +1,4 @@
+pub mod Passing
+pub mod Parts
+pub mod Whole
+pub mod Promises

@@ -1,0 +1,11 @@
+-- `helper::accepting::setting` meets its contract.
+-- Assumes nothing.
+use borrow.Author.Needs.{needs}
+use Rattle.helper.proofs.accepting.setting.Statement.{statement}
+use Rattle.helper.proofs.accepting.setting.Tie as tie
+
+pub setting-spec : {M : Type 1} → statement M
+setting-spec =
+    tie.close
+    (tie.spec (λ c κs. search needs) (λ c κs. search needs) (λ c κs. search needs) (λ c κs. search needs)
+    (λ c. cc (c .sink .ensures, c .before .source .ensures, c .before .before .vertices .ensures, c .before .before .before .question .ensures)))

@@ -1,0 +1,33 @@
+-- `helper::writing::write_body` meets its contract.
+-- Assumes nothing.
+use mathlib.Core.List.{flatMap}
+use Prim.Native.Nat.{_*_}
+use native.Mathlib.Omega.{arith}
+use lib.ListN.{length}
+use borrow.Author.Needs.{needs}
+use Rattle.solver.specs.Instance.{loadsOf}
+use Rattle.format.specs.Bytes.{byte32, listTo}
+use Rattle.format.specs.Files.{arcIn, loadBytes}
+use Rattle.helper.proofs.Parts.{front-and-rest, numbers-length}
+use Rattle.helper.proofs.writing.write_body.Statement.{statement}
+use Rattle.helper.proofs.writing.write_body.Tie as tie
+
+returns : tie.Need-returns
+returns c =
+    let s = c .before .before .before .before .before .before .before .before .before .before .before .args in
+    let ys = s .numbers .now in
+    front-and-rest (s .rest .now) (flatMap byte32 ys) (flatMap loadBytes (loadsOf (listTo (length (s .amounts .now)) (arcIn (s .net .now))) (s .amounts .now)))
+    (4 * length ys) (c .before .before .before .before .before .before .write-numbers .ensures) (numbers-length ys) (c .before .before .write-loads .ensures)
+
+pub write-body-spec : {M : Type 1} → statement M
+write-body-spec =
+    tie.close
+    (tie.spec
+    (λ c κs. search needs)
+    (λ c. search needs)
+    (λ c. search needs)
+    (λ c. search needs)
+    (λ c. search needs)
+    (λ c κs. search needs)
+    (λ c. search needs)
+    returns)

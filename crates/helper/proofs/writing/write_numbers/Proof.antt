@@ -1,0 +1,52 @@
+-- `helper::writing::write_numbers` meets its contract. The loop's invariant: the numbers below v are written.
+-- Assumes nothing.
+use mathlib.Core.Path.{_∙_, ap}
+use Prim.Native.Nat.{ℕ, _-_, _*_}
+use native.Mathlib.Omega.{arith}
+use lib.IntN.{ℤ}
+use lib.ListN.{length}
+use lib.Seq.{sets}
+use mir.Syntax.{w32}
+use borrow.Author.Needs.{needs}
+use Rattle.prelude.specs.Lists.{at}
+use Rattle.prelude.proofs.Signs.{back}
+use Rattle.format.specs.Bytes.{byte32}
+use Rattle.helper.proofs.Parts.{Numbering, number-none, number-turn, number-length, number-end}
+use Rattle.helper.proofs.writing.write_numbers.Statement.{statement}
+use Rattle.helper.proofs.writing.write_numbers.Tie as tie
+
+abbrev Inv-loop : tie.InvT-loop
+Inv-loop part₀ numbers v₀ part v = Numbering part₀ numbers part v
+
+abbrev μ-loop : tie.MeasureT-loop
+μ-loop part₀ numbers v₀ part v = length numbers - v
+
+loop-again : tie.Need-loop-again Inv-loop μ-loop
+loop-again c =
+    let s = c .before .before .before .before .before .before .before .before .args in
+    let l = c .before .before .before .before .before .before .loop in
+    number-turn (s .part .now) (s .numbers .now) (l .part) (c .before .before .write-number .last .0) (l .v) (c .before .before .before .before .before .loop-test .taken)
+    (c .before .before .write-number .ensures ∙ ap (λ (z : ℤ). sets (l .part) (4 * l .v) (byte32 z)) (back w32 (at (s .numbers .now) (l .v)) (c .before .before .before .write-number-arg2 .given)))
+    (l .inv)
+
+returns : tie.Need-returns Inv-loop μ-loop
+returns c =
+    let s = c .before .before .before .args in
+    let l = c .before .loop in
+    number-end (s .part .now) (s .numbers .now) (l .part) (l .v) (c .loop-test .left) (l .inv)
+
+pub write-numbers-spec : {M : Type 1} → statement M
+write-numbers-spec =
+    tie.close
+    (tie.spec
+    Inv-loop
+    μ-loop
+    (λ c. number-none _ _)
+    (λ c. search needs)
+    (λ c. search needs)
+    (λ c κs. search needs)
+    (λ c. search needs)
+    (λ c. search needs)
+    loop-again
+    (λ c. let s = c .before .before .before .args in let l = c .before .loop in number-length (s .part .now) (s .numbers .now) (l .part) (l .v) (l .inv))
+    returns)

@@ -1,0 +1,2 @@
+pub mod Helper
+pub mod Promises

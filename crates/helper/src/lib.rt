@@ -1,0 +1,34 @@
+// The helper: it finds an answer for a network file and writes the annotation for it into a lent buffer.
+ghost use mathlib.Core.Path.{_≡_};
+ghost use lib.ListN.{length};
+ghost use Rattle.helper.specs.Helper.{done, annotated, Held};
+use accepting::acceptance_check;
+use format::network_file;
+use writing::write_annotation;
+
+mod accepting;
+mod writing;
+
+// How many bytes the annotation has, or the number of the check that refuses.
+pub enum Written {
+    Length(u32),
+    Refused(u8),
+}
+
+// Writes an annotation for the network file into the front of the buffer. A refusal leaves the buffer as it is.
+pub fn annotate(net: &[u8], buffer: &mut [u8]) -> Written
+    ensures { λ r. ⌜ (done r ≡ annotated (now (net .entry)) (length (now (buffer .entry)))) × Held (done r) (now (net .entry)) (now (buffer .entry)) (now (buffer .exit)) ⌝ }
+{
+    let why = acceptance_check(net);
+    if why != 0 {
+        return Written::Refused(why);
+    }
+    let n = network_file::vertices(net) as usize;
+    let m = network_file::count(net) as usize;
+    let size = 8 + 4 * n + 6 * m;
+    if buffer.len() < size {
+        return Written::Refused(20);
+    }
+    write_annotation(net, buffer);
+    Written::Length(size as u32)
+}

@@ -1,0 +1,120 @@
+// The annotation of an accepted network file, written into a lent buffer.
+ghost use mathlib.Core.Path.{_≡_};
+ghost use mathlib.Core.List.{flatMap, _++_};
+ghost use Prim.Native.Nat.{_+_, _*_, _≤_};
+ghost use lib.ListN.{length};
+ghost use lib.Seq.{sets};
+ghost use Rattle.solver.specs.Certify.{recordArc, recordArcs};
+ghost use Rattle.solver.specs.Instance.{loadsOf};
+ghost use Rattle.format.specs.Bytes.{byte32, listTo};
+ghost use Rattle.format.specs.Files.{nIn, countIn, arcIn, arcsIn, annotationHeader, loadBytes};
+ghost use Rattle.judging.specs.Judging.{AcceptedFile};
+ghost use Rattle.helper.specs.Helper.{sizeFor, Filled};
+use super::accepting::setting;
+use format::annotation_file;
+use format::network_file;
+
+// The record number e as one number: tail × 16777216 + head × 65536 + weight.
+fn word(net: &[u8], e: usize) -> u32
+    ensures { λ r. ⌜ recordArc r ≡ arcIn (now (net .entry)) e ⌝ }
+{
+    let arc = network_file::arc(net, e);
+    let a = arc.a as u32;
+    let b = arc.b as u32;
+    let w = arc.w as u32;
+    a * 16777216 + b * 65536 + w
+}
+
+// The records of the file, as many as there is room for.
+fn gather(net: &[u8], records: &mut [u32])
+    ensures { λ _. ⌜ recordArcs (now (records .exit)) ≡ listTo (length (now (records .entry))) (arcIn (now (net .entry))) ⌝ }
+{
+    let mut e = 0;
+    while e < records.len() {
+        records[e] = word(net, e);
+        e += 1;
+    }
+}
+
+// The node numbers, one after the other from the front of the part.
+fn write_numbers(part: &mut [u8], numbers: &[i32])
+    ensures { λ _. ⌜ now (part .exit) ≡ sets (now (part .entry)) 0 (flatMap byte32 (now (numbers .entry))) ⌝ }
+{
+    let mut v = 0;
+    while v < numbers.len() {
+        annotation_file::write_number(part, v, numbers[v]);
+        v += 1;
+    }
+}
+
+// The records in file order with their amounts, one after the other from the front of the part.
+fn write_loads(part: &mut [u8], net: &[u8], amounts: &[u16])
+    ensures { λ _. ⌜ now (part .exit) ≡ sets (now (part .entry)) 0 (flatMap loadBytes (loadsOf (listTo (length (now (amounts .entry))) (arcIn (now (net .entry)))) (now (amounts .entry)))) ⌝ }
+{
+    let mut e = 0;
+    while e < amounts.len() {
+        let arc = network_file::arc(net, e);
+        annotation_file::write_load(part, e, arc.a, arc.b, arc.w, amounts[e]);
+        e += 1;
+    }
+}
+
+// What follows the header: the node numbers, then the records, in the part that is lent on.
+fn write_body(rest: &mut [u8], net: &[u8], numbers: &[i32], amounts: &[u16])
+    requires { ⌜ 4 * length (now numbers) ≤ length (now rest) ⌝ }
+    ensures { λ _. ⌜ now (rest .exit) ≡ sets (now (rest .entry)) 0 (flatMap byte32 (now (numbers .entry)) ++ flatMap loadBytes (loadsOf (listTo (length (now (amounts .entry))) (arcIn (now (net .entry)))) (now (amounts .entry)))) ⌝ }
+{
+    write_numbers(rest, numbers);
+    let at = 4 * numbers.len();
+    write_loads(&mut rest[at..], net, amounts);
+}
+
+// The whole file. The node numbers go after the eighth byte.
+fn write_file(buffer: &mut [u8], net: &[u8], claim: u8, numbers: &[i32], amounts: &[u16])
+    requires { ⌜ 8 + 4 * length (now numbers) ≤ length (now buffer) ⌝ }
+    ensures { λ _. ⌜ now (buffer .exit) ≡ sets (now (buffer .entry)) 0 (annotationHeader claim (countIn (now (net .entry))) ++ (flatMap byte32 (now (numbers .entry)) ++ flatMap loadBytes (loadsOf (listTo (length (now (amounts .entry))) (arcIn (now (net .entry)))) (now (amounts .entry))))) ⌝ }
+{
+    let count = network_file::count(net);
+    annotation_file::write_header(buffer, claim, count);
+    write_body(&mut buffer[8..], net, numbers, amounts);
+}
+
+// The annotation that the solver finds for the records of the file.
+fn write_solution(
+    net: &[u8],
+    records: &[u32],
+    numbers: &mut [i32],
+    amounts: &mut [u16],
+    buffer: &mut [u8],
+)
+    requires { ⌜ AcceptedFile (now net) ⌝ }
+    requires { ⌜ recordArcs (now records) ≡ arcsIn (now net) ⌝ }
+    requires { ⌜ (length (now numbers) ≡ nIn (now net)) × (length (now amounts) ≡ countIn (now net)) ⌝ }
+    requires { ⌜ sizeFor (now net) ≤ length (now buffer) ⌝ }
+    ensures { λ _. ⌜ Filled (now (net .entry)) (now (buffer .entry)) (now (buffer .exit)) ⌝ }
+{
+    let st = setting(net);
+    let claim = solver::certify(st, records, numbers, amounts);
+    write_file(buffer, net, claim, numbers, amounts);
+}
+
+// The annotation of an accepted file.
+pub(crate) fn write_annotation(net: &[u8], buffer: &mut [u8])
+    requires { ⌜ AcceptedFile (now net) ⌝ }
+    requires { ⌜ sizeFor (now net) ≤ length (now buffer) ⌝ }
+    ensures { λ _. ⌜ Filled (now (net .entry)) (now (buffer .entry)) (now (buffer .exit)) ⌝ }
+{
+    let n = network_file::vertices(net) as usize;
+    let m = network_file::count(net) as usize;
+    let mut records = [0u32; 4096];
+    let mut numbers = [0i32; 255];
+    let mut amounts = [0u16; 4096];
+    gather(net, &mut records[..m]);
+    write_solution(
+        net,
+        &records[..m],
+        &mut numbers[..n],
+        &mut amounts[..m],
+        buffer,
+    );
+}
