@@ -1,0 +1,21 @@
+-- `panel_export::written_code` meets its contract.
+-- Assumes nothing.
+use mathlib.Core.Path.{sym, ap}
+use borrow.Author.Needs.{needs}
+use Rattle.helper.specs.Helper.{done}
+use Rattle.helper.specs.declared.Written.{Written}
+use Rattle.panel_export.specs.Codes.{doneCode}
+use Rattle.panel_export.proofs.written_code.Statement.{statement}
+use Rattle.panel_export.proofs.written_code.Tie as tie
+
+pub written-code-spec : {M : Type 1} → statement M
+written-code-spec =
+    tie.close
+    (tie.spec
+    (λ c. search needs)
+    (λ c. search needs)
+    (λ c. search needs)
+    (λ c. search needs)
+    (λ c. search needs)
+    (λ c. search needs)
+    (λ c. sym (ap (λ (a : Written). doneCode (done a)) (c .before .written2 .given .1))))

@@ -1,0 +1,19 @@
+-- Replies as one number each.
+-- Assumes nothing.
+use Prim.Native.Nat.{ℕ, _+_}
+use Rattle.network.specs.Question.{value, none}
+use Rattle.session.specs.Session.{Said, accepted, gives, refused}
+use Rattle.helper.specs.Helper.{Done, wrote}
+use Rattle.helper.specs.Helper.{refused as declined}
+
+-- "Below 4294967296 the value, 4294967296 for none, that plus k for refusal k." Judging never says that it accepts.
+abbrev pub saidCode : Said → ℕ
+saidCode (gives (value v)) = v
+saidCode (gives none) = 4294967296
+saidCode (refused k) = 4294967296 + k
+saidCode accepted = 4294967296 + 256
+
+-- "Its length, or 4294967296 plus k."
+abbrev pub doneCode : Done → ℕ
+doneCode (wrote k) = k
+doneCode (declined k) = 4294967296 + k

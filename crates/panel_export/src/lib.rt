@@ -1,0 +1,45 @@
+// Judging and the helper for callers in C: each slice is a pointer and a count, each reply one number.
+ghost use mathlib.Core.Path.{_≡_};
+ghost use lib.ListN.{length};
+ghost use Rattle.session.specs.Session.{said};
+ghost use Rattle.judging.specs.Judging.{judged};
+ghost use Rattle.helper.specs.Helper.{done, annotated, Held};
+ghost use Rattle.panel_export.specs.Codes.{saidCode, doneCode};
+use helper::Written;
+use session::Answer;
+
+// An answer as one number: the value, 4294967296 for none, that plus k for the refusal k.
+fn answer_code(answer: Answer) -> u64
+    ensures { λ r. ⌜ r ≡ saidCode (said answer) ⌝ }
+{
+    match answer {
+        Answer::Value(v) => v,
+        Answer::None => 4294967296,
+        Answer::Refused(k) => 4294967296 + (k as u64),
+        Answer::Accepted => 4294967296 + 256,
+    }
+}
+
+// A reply of the helper as one number: the length, or 4294967296 plus k for the refusal k.
+fn written_code(written: Written) -> u64
+    ensures { λ r. ⌜ r ≡ doneCode (done written) ⌝ }
+{
+    match written {
+        Written::Length(k) => k as u64,
+        Written::Refused(k) => 4294967296 + (k as u64),
+    }
+}
+
+#[no_mangle]
+pub extern "C" fn panel_judge(net: &[u8], ann: &[u8], point: u32) -> u64
+    ensures { λ r. ⌜ r ≡ saidCode (judged (now (net .entry)) (now (ann .entry)) point) ⌝ }
+{
+    answer_code(judging::judge(net, ann, point))
+}
+
+#[no_mangle]
+pub extern "C" fn panel_annotate(net: &[u8], buffer: &mut [u8]) -> u64
+    ensures { λ r. ⌜ (r ≡ doneCode (annotated (now (net .entry)) (length (now (buffer .entry))))) × Held (annotated (now (net .entry)) (length (now (buffer .entry)))) (now (net .entry)) (now (buffer .entry)) (now (buffer .exit)) ⌝ }
+{
+    written_code(helper::annotate(net, buffer))
+}
