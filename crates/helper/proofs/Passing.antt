@@ -7,13 +7,13 @@ use native.Mathlib.Nat.{zero-add, add-zero}
 use native.Mathlib.Numerals.{add-one}
 use native.Mathlib.Omega.{arith}
 use lib.ListN.{length}
-use Rattle.prelude.specs.Checks.{Check, _unless_, settle, firstBroken, Hold}
-use Rattle.prelude.proofs.Settle.{settled, settle-append, hold-append, Numbered, none-broken, part-refused, part-passed}
+use Rattle.prelude.specs.Checks.{Check, _unless_, firstBroken, Hold}
+use Rattle.prelude.proofs.Settle.{settled, settle-append, hold-append, Numbered, none-broken, part-refused}
 use Rattle.network.specs.Network.{Arc}
 use Rattle.network.specs.Question.{Setting}
 use Rattle.runs.specs.Exchange.{readRule, readRules}
 use Rattle.format.specs.Bytes.{listTo}
-use Rattle.format.proofs.Records.{Split, split, listTo-length}
+use Rattle.format.proofs.Records.{split, listTo-length}
 
 -- ---- the rules of a list of arcs
 

@@ -1,8 +1,8 @@
 -- The promise of specs/Promises.antt, kept: what the helper wrote fits the layout, and judging answers it truly.
 -- Assumes nothing.
-use mathlib.Core.Path.{_≡_, sym, _∙_, ap, subst}
-use mathlib.Core.List.{List, [], _∷_, _++_}
-use Prim.Native.Nat.{ℕ, zero, suc, _+_, _≤_, _<_}
+use mathlib.Core.Path.{_≡_, sym, _∙_, subst}
+use mathlib.Core.List.{List, [], _∷_}
+use Prim.Native.Nat.{ℕ, suc, _+_, _≤_, _<_}
 use native.Mathlib.Omega.{arith}
 use lib.Dec.{leb, le→leb}
 use lib.IntN.{ℤ, pos, negℤ}
@@ -16,7 +16,7 @@ use Rattle.prelude.proofs.Permutations.{perm-refl}
 use Rattle.field.specs.Field.{p}
 use Rattle.network.specs.Network.{Arc, Load, arcs}
 use Rattle.network.specs.Question.{Question, shortestPath, maximumFlow, assignment, Setting, Opened, Allowed, Answer, value, none, TrueAnswer}
-use Rattle.network.specs.Certificate.{InRange, Certified, CertifiedFor}
+use Rattle.network.specs.Certificate.{InRange, CertifiedFor}
 use Rattle.network.specs.Tests.{claimNumber, claimFor}
 use Rattle.session.specs.Print.{Point}
 use Rattle.session.specs.Session.{gives}
@@ -25,7 +25,7 @@ use Rattle.format.specs.Promises.{Signed32, LoadFits}
 use Rattle.judging.specs.Judging.{settingIn, helperChecks, judged, AcceptedFile}
 use Rattle.judging.proofs.AcceptedFiles.{file-opened, file-readable}
 use Rattle.judging.proofs.Promises.{certificates-judged}
-use Rattle.helper.specs.Helper.{Done, wrote, refused, sizeFor, annotateChecks, annotated, Annotation, Held}
+use Rattle.helper.specs.Helper.{Done, wrote, refused, sizeFor, annotateChecks, Annotation, Held}
 use Rattle.helper.specs.Promises.{JudgedTruly, HelperServes}
 
 -- ---- the fields are wide enough for what meets the rules

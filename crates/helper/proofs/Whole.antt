@@ -1,27 +1,25 @@
 -- The whole annotation of an accepted file: the solver takes what was gathered, and what it finds is what stands in the buffer.
 -- Assumes nothing.
 use mathlib.Core.Path.{_≡_, refl, sym, _∙_, ap, ap₂, subst}
-use mathlib.Core.Bool.{Bool, true, false, _&&_, false≢true}
+use mathlib.Core.Bool.{Bool, true, _&&_, false≢true}
 use mathlib.Core.List.{List, [], _∷_, _++_, flatMap}
-use Prim.Native.Nat.{ℕ, suc, _+_, _*_, _≤_}
+use Prim.Native.Nat.{ℕ, suc, _≤_}
 use native.Mathlib.Nat.{zero-add}
 use native.Mathlib.Omega.{arith}
-use lib.Dec.{eqb, leb, le→leb}
 use lib.IntN.{ℤ}
 use lib.ListN.{length, take, drop, length-append, length-map}
 use lib.Seq.{sets, sets-eq, take-append-seam, drop-append-seam}
 use borrow.Author.Tests.{eq-eqb, le-leb}
 use Rattle.prelude.specs.Checks.{firstBroken, Hold}
-use Rattle.prelude.specs.Lists.{all, at}
+use Rattle.prelude.specs.Lists.{all}
 use Rattle.prelude.proofs.Settle.{settled, hold-left, hold-right}
-use Rattle.network.specs.Network.{Arc, Load, arcs}
+use Rattle.network.specs.Network.{Arc, Load}
 use Rattle.network.specs.Question.{Setting}
-use Rattle.network.specs.Certificate.{Certified}
 use Rattle.network.specs.Tests.{openingChecks, arcChecks, claimNumber, claimFor}
 use Rattle.checks.specs.Setting.{asked}
 use Rattle.checks.specs.declared.Setting.{Setting as Header}
 use Rattle.runs.specs.Exchange.{readRule, readRules}
-use Rattle.solver.specs.Certify.{recordArc, recordArcs, recordOk, admissible, Solution, Outcome, LengthsFor}
+use Rattle.solver.specs.Certify.{recordArc, recordArcs, recordOk, admissible, Solution, Outcome}
 use Rattle.solver.specs.Instance.{loadsOf}
 use Rattle.solver.proofs.Columns.{loads-arcs}
 use Rattle.solver.proofs.Parts.{zeros, zeros-length, lent-again}
@@ -32,7 +30,7 @@ use Rattle.format.proofs.Records.{flat-length, listTo-length}
 use Rattle.format.proofs.Codings.{numbers-coded, loads-coded}
 use Rattle.judging.specs.Judging.{settingIn, AcceptedFile}
 use Rattle.judging.proofs.AcceptedFiles.{accepted-parts, file-opened, file-readable}
-use Rattle.helper.specs.Helper.{headerIn, sizeFor, Annotation, Filled}
+use Rattle.helper.specs.Helper.{headerIn, sizeFor, Filled}
 use Rattle.helper.proofs.Parts.{loads-length}
 
 -- ---- what was gathered is admissible

@@ -3,22 +3,22 @@
 use mathlib.Core.Path.{_≡_, sym, _∙_, ap, subst}
 use mathlib.Core.List.{List, [], _∷_, _++_, map, append-nil, append-assoc}
 use mathlib.Core.Logic.{inl, inr}
-use Prim.Native.Nat.{ℕ, suc, _+_, _≤_}
+use Prim.Native.Nat.{ℕ, suc, _≤_}
 use native.Mathlib.Omega.{arith}
 use lib.Dec.{lt→ltb, ltb→lt}
 use lib.IntN.{ℤ}
 use lib.ListN.{length, length-map, length-append}
 use Rattle.prelude.specs.Checks.{Check, _unless_, settle, Hold}
-use Rattle.prelude.specs.Lists.{Every, Some, at}
+use Rattle.prelude.specs.Lists.{Some, at}
 use Rattle.prelude.proofs.Settle.{settled, settle-append, hold-append, hold-left, hold-right}
 use Rattle.prelude.proofs.Lists.{every-map}
 use Rattle.prelude.proofs.Permutations.{perm-length}
 use Rattle.field.specs.Field.{p}
 use Rattle.field.specs.Promises.{misleading}
 use Rattle.network.specs.Network.{Arc, Load}
-use Rattle.network.specs.Question.{Setting, Opened, Allowed, Answer, value, none, TrueAnswer}
+use Rattle.network.specs.Question.{Setting, Answer, value, none, TrueAnswer}
 use Rattle.network.specs.Tests.{openingChecks, claimNumber, claimFor, claimOf, answerOf}
-use Rattle.network.proofs.Allowed.{size-rule, ends-rule, joins-rule, weight-rule}
+use Rattle.network.proofs.Allowed.{size-rule, ends-rule}
 use Rattle.network.proofs.Promises.{certificates-sound}
 use Rattle.session.specs.Print.{Point, pointOk}
 use Rattle.session.specs.Session.{Said, accepted, gives, refused}

@@ -1,9 +1,8 @@
 -- Steps numbered from 0 on, run until one is refused: what a loop over them keeps.
 -- Assumes nothing.
 use mathlib.Core.Path.{_≡_, refl, sym, _∙_, ap}
-use mathlib.Core.Bool.{Bool, true, false, not}
 use mathlib.Core.List.{List, [], _∷_, _++_, map, append-assoc, map-append}
-use Prim.Native.Nat.{ℕ, zero, suc, _+_, _<_, _≤_}
+use Prim.Native.Nat.{ℕ, suc, _+_, _<_, _≤_}
 use native.Mathlib.Omega.{arith}
 use Rattle.session.specs.Session.{Said, accepted, gives, refused, said, accept}
 use Rattle.session.specs.declared.Reply.{Reply}
@@ -98,12 +97,3 @@ module _ {A : Type 0} (make : A → Step) (h : ℕ → A) (x : Session) where
         let same : m ≡ e = omega (arith, g .below) in
         ap (λ (k : ℕ). outcome (run x (map make (listTo k h) ++ rest))) same ∙ g .so-far rest;
   }
-
--- a test that the code negates
-pub denied : (b : Bool) → not b ≡ true → b ≡ false
-denied true e = sym e
-denied false e = refl
-
-pub granted : (b : Bool) → not b ≡ false → b ≡ true
-granted true e = refl
-granted false e = sym e

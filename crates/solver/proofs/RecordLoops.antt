@@ -1,39 +1,22 @@
--- What the loops over records reach: a list that is written from its front, and the test of every record.
+-- What the loops over records reach: a list that was written from its front, and the test of every record.
 -- Assumes nothing.
-use mathlib.Core.Path.{_≡_, refl, sym, _∙_, ap}
+use mathlib.Core.Path.{_≡_, sym, _∙_, ap}
 use mathlib.Core.Bool.{Bool, true, false, _&&_}
 use mathlib.Core.List.{List}
 use Prim.Native.Nat.{ℕ, suc, _+_, _≤_, _<_}
-use native.Mathlib.Decide.{ℕ-discrete}
 use native.Mathlib.Numerals.{add-one}
 use native.Mathlib.Omega.{arith}
-use lib.ListN.{length, getD, set, drop, length-set, drop-of-length-le}
-use lib.Seq.{drop-cons, ext-getD, getD-set-same, getD-set-other}
+use lib.ListN.{length, getD, drop, drop-of-length-le}
+use lib.Seq.{drop-cons, ext-getD}
 use Rattle.prelude.specs.Lists.{all}
+use Rattle.prelude.proofs.Filling.{Filling}
 
--- ---- a list that is written from its front
+-- ---- a list that was written from its front
 
--- the entries below e are those of g; d stands past the end
-pub record Filling (g : ℕ → ℕ) (d : ℕ) (l₀ l : List ℕ) (e : ℕ) : Type 0 where
-  pub within : e ≤ length l₀
-  pub len : length l ≡ length l₀
-  pub below : (i : ℕ) → i < e → getD l i d ≡ g i
-
-module _ (g : ℕ → ℕ) (d : ℕ) (l₀ : List ℕ) where
-  pub fill-start : Filling g d l₀ l₀ 0
-  fill-start = record { within = omega arith; len = refl; below = λ i h. absurd (omega arith) }
-
-  pub fill-turn : (l : List ℕ) (e r : ℕ) → e < length l₀ → r ≡ g e → Filling g d l₀ l e → Filling g d l₀ (set l e r) (e + 1)
-  fill-turn l e r h q F = record { within = omega arith; len = length-set l e r ∙ F .len; below = λ i b. go i b (ℕ-discrete i e) }
-    where
-      go : (i : ℕ) → i < e + 1 → Dec (i ≡ e) → getD (set l e r) i d ≡ g i
-      go i b (yes p) = rw p (getD-set-same l e r d (omega (arith, F .len)) ∙ q)
-      go i b (no n) = getD-set-other l e i r d n ∙ F .below i (omega arith)
-
-  pub fill-end : (l m : List ℕ) (e : ℕ) → length l₀ ≤ e → length m ≡ length l₀ → ((i : ℕ) → i < length l₀ → getD m i d ≡ g i)
-      → Filling g d l₀ l e → l ≡ m
-  fill-end l m e h k by F =
-      ext-getD d l m (F .len ∙ sym k) (λ i b. F .below i (omega (arith, F .len)) ∙ sym (by i (omega (arith, F .len))))
+pub filled-as : (g : ℕ → ℕ) (d : ℕ) (l₀ l m : List ℕ) (e : ℕ) → length l₀ ≤ e → length m ≡ length l₀ → ((i : ℕ) → i < length l₀ → getD m i d ≡ g i)
+    → Filling (λ i x. x ≡ g i) d l₀ l e → l ≡ m
+filled-as g d l₀ l m e h k by F =
+    ext-getD d l m (F .len ∙ sym k) (λ i b. F .below i (omega (arith, F .len)) ∙ sym (by i (omega (arith, F .len))))
 
 -- ---- the test of every record
 

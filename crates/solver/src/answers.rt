@@ -1,7 +1,6 @@
 // Certificates for the three questions: a search and a push for a path, the engine for a flow and for an assignment.
 ghost use mathlib.Core.Path.{_≡_};
 ghost use mathlib.Core.Logic.{_≢_};
-ghost use Prim.Native.Nat.{ℕ};
 ghost use lib.ListN.{length};
 ghost use Rattle.network.specs.Question.{shortestPath};
 ghost use Rattle.checks.specs.Setting.{asked};

@@ -7,7 +7,7 @@ use lib.ListN.{length}
 use lib.Dec.{leb}
 use borrow.Author.Needs.{needs}
 use borrow.Author.Tests.{le-leb, lt-leb}
-use Rattle.prelude.specs.Checks.{_unless_, firstBroken, Hold}
+use Rattle.prelude.specs.Checks.{_unless_, firstBroken}
 use Rattle.prelude.specs.Choice.{pick}
 use Rattle.prelude.proofs.Settle.{Numbered, none-broken, part-refused, part-passed}
 use Rattle.network.specs.Tests.{openingChecks}

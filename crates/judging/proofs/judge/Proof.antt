@@ -3,11 +3,11 @@
 use mathlib.Core.Path.{_≡_, _∙_}
 use Prim.Native.Nat.{ℕ}
 use borrow.Author.Needs.{needs}
+use borrow.Author.Tests.{not-true, not-false}
 use Rattle.session.specs.Print.{Point}
 use Rattle.session.specs.Steps.{opening}
 use Rattle.session.specs.declared.Reply.{Reply}
 use Rattle.judging.proofs.Judged.{at-layout, at-opening, at-reading, at-annotation, at-steps}
-use Rattle.judging.proofs.Turns.{denied, granted}
 use Rattle.judging.proofs.judge.Statement.{statement}
 use Rattle.judging.proofs.judge.Tie as tie
 
@@ -22,28 +22,28 @@ returns-2 : tie.Need-returns-2
 returns-2 c =
     let s = c .before .before .before .before .before .before .before .before .before .before .before in
     at-opening (s .args .net .now) (s .args .ann .now) (s .args .point) (c .before .before .before .before .before .before .before .before .network-check .result) (c .before .before .before .before .before .before .before .before .network-check .ensures) (c .before .before .before .before .before .before .before .if1 .left) (c .before .before .«open» .result) (as-filed (s .args .point) (c .before .before .«open» .ensures) (c .before .before .before .before .before .before .question .ensures) (c .before .before .before .before .before .vertices .ensures) (c .before .before .before .before .source .ensures) (c .before .before .before .sink .ensures))
-    (c .before .is-accepted .ensures .1 (denied (c .before .is-accepted .result) (c .if2 .taken)))
+    (c .before .is-accepted .ensures .1 (not-true (c .before .is-accepted .result) (c .if2 .taken)))
 
 returns-3 : tie.Need-returns-3
 returns-3 c =
     let s = c .before .before .before .before .before .before .before .before .before .before .before .before .before .before in
     at-reading (s .args .net .now) (s .args .ann .now) (s .args .point) (c .before .before .before .before .before .before .before .before .before .before .before .network-check .result) (c .before .before .before .before .before .before .before .before .before .before .before .network-check .ensures) (c .before .before .before .before .before .before .before .before .before .before .if1 .left) (c .before .before .before .before .before .«open» .result) (as-filed (s .args .point) (c .before .before .before .before .before .«open» .ensures) (c .before .before .before .before .before .before .before .before .before .question .ensures) (c .before .before .before .before .before .before .before .before .vertices .ensures) (c .before .before .before .before .before .before .before .source .ensures) (c .before .before .before .before .before .before .sink .ensures))
-    (c .before .before .before .before .is-accepted .ensures .0 (granted (c .before .before .before .before .is-accepted .result) (c .before .before .before .if2 .left))) (c .before .before .read-all .result) (c .before .before .read-all .ensures)
-    (c .before .is-accepted2 .ensures .1 (denied (c .before .is-accepted2 .result) (c .if3 .taken)))
+    (c .before .before .before .before .is-accepted .ensures .0 (not-false (c .before .before .before .before .is-accepted .result) (c .before .before .before .if2 .left))) (c .before .before .read-all .result) (c .before .before .read-all .ensures)
+    (c .before .is-accepted2 .ensures .1 (not-true (c .before .is-accepted2 .result) (c .if3 .taken)))
 
 returns-4 : tie.Need-returns-4
 returns-4 c =
     let s = c .before .before .before .before .before .before .before .before .before .before .before .before .before .before .before .before in
     at-annotation (s .args .net .now) (s .args .ann .now) (s .args .point) (c .before .before .before .before .before .before .before .before .before .before .before .before .before .network-check .result) (c .before .before .before .before .before .before .before .before .before .before .before .before .before .network-check .ensures) (c .before .before .before .before .before .before .before .before .before .before .before .before .if1 .left) (c .before .before .before .before .before .before .before .«open» .result) (as-filed (s .args .point) (c .before .before .before .before .before .before .before .«open» .ensures) (c .before .before .before .before .before .before .before .before .before .before .before .question .ensures) (c .before .before .before .before .before .before .before .before .before .before .vertices .ensures) (c .before .before .before .before .before .before .before .before .before .source .ensures) (c .before .before .before .before .before .before .before .before .sink .ensures))
-    (c .before .before .before .before .before .before .is-accepted .ensures .0 (granted (c .before .before .before .before .before .before .is-accepted .result) (c .before .before .before .before .before .if2 .left))) (c .before .before .before .before .read-all .result) (c .before .before .before .before .read-all .ensures)
-    (c .before .before .before .is-accepted2 .ensures .0 (granted (c .before .before .before .is-accepted2 .result) (c .before .before .if3 .left))) (c .before .annotation-check .result) (c .before .before .before .before .before .before .before .before .before .before .vertices .result) (c .before .before .before .before .before .before .before .before .before .before .vertices .ensures) (c .before .annotation-check .ensures) (c .if4 .taken)
+    (c .before .before .before .before .before .before .is-accepted .ensures .0 (not-false (c .before .before .before .before .before .before .is-accepted .result) (c .before .before .before .before .before .if2 .left))) (c .before .before .before .before .read-all .result) (c .before .before .before .before .read-all .ensures)
+    (c .before .before .before .is-accepted2 .ensures .0 (not-false (c .before .before .before .is-accepted2 .result) (c .before .before .if3 .left))) (c .before .annotation-check .result) (c .before .before .before .before .before .before .before .before .before .before .vertices .result) (c .before .before .before .before .before .before .before .before .before .before .vertices .ensures) (c .before .annotation-check .ensures) (c .if4 .taken)
 
 returns-5 : tie.Need-returns-5
 returns-5 c =
     let s = c .before .before .before .before .before .before .before .before .before .before .before .before .before .before .before .before .before in
     at-steps (s .args .net .now) (s .args .ann .now) (s .args .point) (c .before .before .before .before .before .before .before .before .before .before .before .before .before .before .network-check .result) (c .before .before .before .before .before .before .before .before .before .before .before .before .before .before .network-check .ensures) (c .before .before .before .before .before .before .before .before .before .before .before .before .before .if1 .left) (c .before .before .before .before .before .before .before .before .«open» .result) (as-filed (s .args .point) (c .before .before .before .before .before .before .before .before .«open» .ensures) (c .before .before .before .before .before .before .before .before .before .before .before .before .question .ensures) (c .before .before .before .before .before .before .before .before .before .before .before .vertices .ensures) (c .before .before .before .before .before .before .before .before .before .before .source .ensures) (c .before .before .before .before .before .before .before .before .before .sink .ensures))
-    (c .before .before .before .before .before .before .before .is-accepted .ensures .0 (granted (c .before .before .before .before .before .before .before .is-accepted .result) (c .before .before .before .before .before .before .if2 .left))) (c .before .before .before .before .before .read-all .result) (c .before .before .before .before .before .read-all .ensures)
-    (c .before .before .before .before .is-accepted2 .ensures .0 (granted (c .before .before .before .before .is-accepted2 .result) (c .before .before .before .if3 .left))) (c .before .before .annotation-check .result) (c .before .before .before .before .before .before .before .before .before .before .before .vertices .result) (c .before .before .before .before .before .before .before .before .before .before .before .vertices .ensures) (c .before .before .annotation-check .ensures) (c .before .if4 .left)
+    (c .before .before .before .before .before .before .before .is-accepted .ensures .0 (not-false (c .before .before .before .before .before .before .before .is-accepted .result) (c .before .before .before .before .before .before .if2 .left))) (c .before .before .before .before .before .read-all .result) (c .before .before .before .before .before .read-all .ensures)
+    (c .before .before .before .before .is-accepted2 .ensures .0 (not-false (c .before .before .before .before .is-accepted2 .result) (c .before .before .before .if3 .left))) (c .before .before .annotation-check .result) (c .before .before .before .before .before .before .before .before .before .before .before .vertices .result) (c .before .before .before .before .before .before .before .before .before .before .before .vertices .ensures) (c .before .before .annotation-check .ensures) (c .before .if4 .left)
     _ (c .annotation-steps .ensures)
 
 pub judge-spec : {M : Type 1} → statement M

@@ -2,7 +2,6 @@
 -- Assumes nothing.
 use mathlib.Core.List.{flatMap}
 use Prim.Native.Nat.{_*_}
-use native.Mathlib.Omega.{arith}
 use lib.ListN.{length}
 use borrow.Author.Needs.{needs}
 use Rattle.solver.specs.Instance.{loadsOf}

@@ -1,8 +1,7 @@
 -- `helper::writing::write_loads` meets its contract. The loop's invariant: the records below e are written.
 -- Assumes nothing.
 use mathlib.Core.Path.{_∙_, ap}
-use Prim.Native.Nat.{ℕ, _-_, _*_}
-use native.Mathlib.Omega.{arith}
+use Prim.Native.Nat.{_-_, _*_}
 use lib.ListN.{length, getD}
 use lib.Seq.{sets}
 use borrow.Author.Needs.{needs}

@@ -1,12 +1,9 @@
 -- `helper::writing::write_solution` meets its contract.
 -- Assumes nothing.
 use mathlib.Core.Path.{_∙_}
-use lib.IntN.{ℤ}
-use mathlib.Core.List.{List}
-use Prim.Native.Nat.{ℕ}
 use native.Mathlib.Omega.{arith}
 use borrow.Author.Needs.{needs}
-use Rattle.helper.proofs.Whole.{Came, solved-file, filled}
+use Rattle.helper.proofs.Whole.{solved-file, filled}
 use Rattle.helper.proofs.writing.write_solution.Statement.{statement}
 use Rattle.helper.proofs.writing.write_solution.Tie as tie
 

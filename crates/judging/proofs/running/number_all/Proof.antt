@@ -6,10 +6,11 @@ use native.Mathlib.Omega.{arith}
 use mir.Syntax.{w32}
 use Rattle.prelude.proofs.Signs.{back}
 use borrow.Author.Needs.{needs}
+use borrow.Author.Tests.{not-true, not-false}
 use Rattle.session.specs.Steps.{numberStep}
 use Rattle.runs.specs.Run.{number}
 use Rattle.format.specs.Files.{numberIn}
-use Rattle.judging.proofs.Turns.{Going, going-none, going-on, gone, all-gone, denied, granted}
+use Rattle.judging.proofs.Turns.{Going, going-none, going-on, gone, all-gone}
 use Rattle.judging.proofs.running.number_all.Statement.{statement}
 use Rattle.judging.proofs.running.number_all.Tie as tie
 
@@ -30,7 +31,7 @@ returns c =
     let l = c .before .before .before .before .before .loop in
     gone number (numberIn (s .args .file .now)) (s .args .x) (s .args .n) (l .y) (l .v) (c .before .before .node-number .result) (l .inv) (c .before .before .before .before .loop-test .taken)
     (c .before .before .node-number .ensures ∙ ap (numberStep (l .y)) (back w32 (c .before .before .before .number .result) (c .before .before .before .number .ok) ∙ c .before .before .before .number .ensures))
-    (c .before .is-accepted .ensures .1 (denied (c .before .is-accepted .result) (c .if1 .taken)))
+    (c .before .is-accepted .ensures .1 (not-true (c .before .is-accepted .result) (c .if1 .taken)))
 
 loop-again : tie.Need-loop-again Inv-loop μ-loop
 loop-again c =
@@ -38,7 +39,7 @@ loop-again c =
     let l = c .before .before .before .before .before .before .loop in
     going-on number (numberIn (s .args .file .now)) (s .args .x) (s .args .n) (l .y) (l .v) (c .before .before .before .node-number .result) (l .inv) (c .before .before .before .before .before .loop-test .taken)
     (c .before .before .before .node-number .ensures ∙ ap (numberStep (l .y)) (back w32 (c .before .before .before .before .number .result) (c .before .before .before .before .number .ok) ∙ c .before .before .before .before .number .ensures))
-    (c .before .before .is-accepted .ensures .0 (granted (c .before .before .is-accepted .result) (c .before .if1 .left)))
+    (c .before .before .is-accepted .ensures .0 (not-false (c .before .before .is-accepted .result) (c .before .if1 .left)))
 
 returns-2 : tie.Need-returns-2 Inv-loop μ-loop
 returns-2 c =

@@ -5,13 +5,14 @@ use mathlib.Core.List.{map}
 use Prim.Native.Nat.{ℕ, _-_}
 use native.Mathlib.Omega.{arith}
 use borrow.Author.Needs.{needs}
+use borrow.Author.Tests.{not-true, not-false}
 use Rattle.session.specs.Session.{accept}
 use Rattle.session.specs.Steps.{readStep}
 use Rattle.runs.specs.Run.{read}
 use Rattle.format.specs.Bytes.{listTo}
 use Rattle.format.specs.Files.{arcIn}
 use Rattle.judging.specs.Going.{Goes}
-use Rattle.judging.proofs.Turns.{Going, going-none, going-on, gone, all-gone, denied, granted}
+use Rattle.judging.proofs.Turns.{Going, going-none, going-on, gone, all-gone}
 use Rattle.judging.proofs.running.read_all.Statement.{statement}
 use Rattle.judging.proofs.running.read_all.Tie as tie
 
@@ -36,7 +37,7 @@ returns c =
     subst (λ (m : ℕ). Goes (s .args .x) (map read (listTo m (arcIn (s .args .file .now)))) (reply .result)) (asked .ensures)
     (gone read (arcIn (s .args .file .now)) (s .args .x) (asked .result) (l .y) (l .e) (reply .result) (l .inv) (found .before .loop-test .taken)
     (reply .ensures ∙ ap (readStep (l .y)) (found .arc .ensures))
-    (c .before .is-accepted .ensures .1 (denied (c .before .is-accepted .result) (c .if1 .taken))))
+    (c .before .is-accepted .ensures .1 (not-true (c .before .is-accepted .result) (c .if1 .taken))))
 
 loop-again : tie.Need-loop-again Inv-loop μ-loop
 loop-again c =
@@ -46,7 +47,7 @@ loop-again c =
     let s = found .before .before .before .before .before in
     going-on read (arcIn (s .args .file .now)) (s .args .x) (found .before .before .before .count .result) (l .y) (l .e) (reply .result) (l .inv) (found .before .loop-test .taken)
     (reply .ensures ∙ ap (readStep (l .y)) (found .arc .ensures))
-    (c .before .before .is-accepted .ensures .0 (granted (c .before .before .is-accepted .result) (c .before .if1 .left)))
+    (c .before .before .is-accepted .ensures .0 (not-false (c .before .before .is-accepted .result) (c .before .if1 .left)))
 
 returns-2 : tie.Need-returns-2 Inv-loop μ-loop
 returns-2 c =

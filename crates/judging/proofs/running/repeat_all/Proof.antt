@@ -5,13 +5,14 @@ use mathlib.Core.List.{map}
 use Prim.Native.Nat.{ℕ, _-_}
 use native.Mathlib.Omega.{arith}
 use borrow.Author.Needs.{needs}
+use borrow.Author.Tests.{not-true, not-false}
 use Rattle.session.specs.Session.{accept}
 use Rattle.session.specs.Steps.{repeatStep}
 use Rattle.runs.specs.Run.{repeat}
 use Rattle.format.specs.Bytes.{listTo}
 use Rattle.format.specs.Files.{loadIn}
 use Rattle.judging.specs.Going.{Goes}
-use Rattle.judging.proofs.Turns.{Going, going-none, going-on, gone, all-gone, denied, granted}
+use Rattle.judging.proofs.Turns.{Going, going-none, going-on, gone, all-gone}
 use Rattle.judging.proofs.running.repeat_all.Statement.{statement}
 use Rattle.judging.proofs.running.repeat_all.Tie as tie
 
@@ -33,7 +34,7 @@ returns c =
     subst (λ (m : ℕ). Goes (s .args .x) (map repeat (listTo m (loadIn (s .args .n) (s .args .file .now)))) (c .before .before .repeat-channel .result)) (c .before .before .before .before .before .before .count .ensures)
     (gone repeat (loadIn (s .args .n) (s .args .file .now)) (s .args .x) (c .before .before .before .before .before .before .count .result) (l .y) (l .e) (c .before .before .repeat-channel .result) (l .inv) (c .before .before .before .before .loop-test .taken)
     (c .before .before .repeat-channel .ensures ∙ ap (repeatStep (l .y)) (c .before .before .before .load .ensures))
-    (c .before .is-accepted .ensures .1 (denied (c .before .is-accepted .result) (c .if1 .taken))))
+    (c .before .is-accepted .ensures .1 (not-true (c .before .is-accepted .result) (c .if1 .taken))))
 
 loop-again : tie.Need-loop-again Inv-loop μ-loop
 loop-again c =
@@ -41,7 +42,7 @@ loop-again c =
     let l = c .before .before .before .before .before .before .loop in
     going-on repeat (loadIn (s .args .n) (s .args .file .now)) (s .args .x) (c .before .before .before .before .before .before .before .count .result) (l .y) (l .e) (c .before .before .before .repeat-channel .result) (l .inv) (c .before .before .before .before .before .loop-test .taken)
     (c .before .before .before .repeat-channel .ensures ∙ ap (repeatStep (l .y)) (c .before .before .before .before .load .ensures))
-    (c .before .before .is-accepted .ensures .0 (granted (c .before .before .is-accepted .result) (c .before .if1 .left)))
+    (c .before .before .is-accepted .ensures .0 (not-false (c .before .before .is-accepted .result) (c .before .if1 .left)))
 
 returns-2 : tie.Need-returns-2 Inv-loop μ-loop
 returns-2 c =

@@ -1,16 +1,17 @@
 -- `solver::records::clear` meets its contract. The loop's invariant: the amounts below e are 0.
 -- Assumes nothing.
-use mathlib.Core.Path.{refl}
-use Prim.Native.Nat.{_-_}
+use mathlib.Core.Path.{_≡_, refl}
+use Prim.Native.Nat.{ℕ, _-_}
 use native.Mathlib.Omega.{arith}
 use lib.ListN.{length, replicate, length-replicate, getD-replicate}
 use borrow.Author.Needs.{needs}
-use Rattle.solver.proofs.RecordLoops.{Filling, fill-start, fill-turn, fill-end}
+use Rattle.prelude.proofs.Filling.{Filling, fill-start, fill-turn}
+use Rattle.solver.proofs.RecordLoops.{filled-as}
 use Rattle.solver.proofs.records.clear.Statement.{statement}
 use Rattle.solver.proofs.records.clear.Tie as tie
 
 abbrev Inv-loop : tie.InvT-loop
-Inv-loop amounts₀ e₀ amounts e = Filling (λ i. 0) 0 amounts₀ amounts e
+Inv-loop amounts₀ e₀ amounts e = Filling (λ i (x : ℕ). x ≡ 0) 0 amounts₀ amounts e
 
 abbrev μ-loop : tie.MeasureT-loop
 μ-loop amounts₀ e₀ amounts e = length amounts₀ - e
@@ -20,7 +21,7 @@ returns c =
     let l₀ = c .before .before .args .amounts .now in
     let l = c .before .loop in
     let n = length l₀ in
-    fill-end (λ i. 0) 0 l₀ (l .amounts) (replicate n 0) (l .e) (omega (arith, l .inv .len)) (length-replicate n 0)
+    filled-as (λ i. 0) 0 l₀ (l .amounts) (replicate n 0) (l .e) (omega (arith, l .inv .len)) (length-replicate n 0)
     (λ i h. getD-replicate n i 0 0 h) (l .inv)
 
 pub clear-spec : {M : Type 1} → statement M
@@ -29,11 +30,11 @@ clear-spec =
     (tie.spec
     Inv-loop
     μ-loop
-    (λ c. fill-start (λ i. 0) 0 _)
+    (λ c. fill-start (λ i (x : ℕ). x ≡ 0) 0 _)
     (λ c. search needs)
     (λ c. search needs)
     (λ c. search needs)
     (λ c. search needs)
-    (λ c. let l = c .before .loop in fill-turn (λ i. 0) 0 _ (l .amounts) (l .e) 0 (omega (arith, l .inv .len)) refl (l .inv))
+    (λ c. let l = c .before .loop in fill-turn (λ i (x : ℕ). x ≡ 0) 0 _ (l .amounts) (l .e) 0 (omega (arith, l .inv .len)) refl (l .inv))
     (λ c. search needs)
     returns)

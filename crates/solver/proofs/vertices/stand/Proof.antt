@@ -1,17 +1,18 @@
 -- `solver::vertices::stand` meets its contract. The loop's invariant: the entries below v are set.
 -- Assumes nothing.
+use mathlib.Core.Path.{_≡_}
 use Prim.Native.Nat.{_-_}
 use native.Mathlib.Omega.{arith}
 use lib.ListN.{length}
 use borrow.Author.Needs.{needs}
+use Rattle.prelude.proofs.Filling.{Filling, fill-start, fill-turn, fill-end}
 use Rattle.checks.specs.Setting.{asked}
 use Rattle.solver.specs.Certify.{standing}
-use Rattle.solver.proofs.ByVertex.{Filling, filling-none, filling-turn, filling-done}
 use Rattle.solver.proofs.vertices.stand.Statement.{statement}
 use Rattle.solver.proofs.vertices.stand.Tie as tie
 
 abbrev Inv-loop : tie.InvT-loop
-Inv-loop st wanted list₀ v₀ list v = Filling (length list₀) (standing (asked st) wanted) list v
+Inv-loop st wanted list₀ v₀ list v = Filling (λ i x. x ≡ standing (asked st) wanted i) 0 list₀ list v
 
 abbrev μ-loop : tie.MeasureT-loop
 μ-loop st wanted list₀ v₀ list v = length list₀ - v
@@ -22,13 +23,13 @@ loop-again c =
     let l = c .before .before .loop in
     let f = standing (asked (a .st)) (a .wanted) in
     let r = c .standing-at in
-    filling-turn (length (a .list .now)) f (l .list) (l .v) (r .result) (omega (arith, l .inv .len)) (r .ensures) (l .inv)
+    fill-turn (λ i x. x ≡ f i) 0 (a .list .now) (l .list) (l .v) (r .result) (omega (arith, l .inv .len)) (r .ensures) (l .inv)
 
 returns : tie.Need-returns Inv-loop μ-loop
 returns c =
     let a = c .before .before .before .args in
     let l = c .before .loop in
-    filling-done (length (a .list .now)) (standing (asked (a .st)) (a .wanted)) (l .list) (l .v) (omega (arith, l .inv .len)) (l .inv)
+    record { len = l .inv .len; entries = fill-end (λ i x. x ≡ standing (asked (a .st)) (a .wanted) i) 0 (a .list .now) (l .list) (l .v) (omega (arith, l .inv .len)) (l .inv) }
 
 cast-standing-at : tie.Need-cast-standing-at Inv-loop μ-loop
 cast-standing-at c = let l = c .before .loop in record { fits = omega (arith, l .inv .len) }
@@ -39,7 +40,7 @@ stand-spec =
     (tie.spec
     Inv-loop
     μ-loop
-    (λ c. let a = c .before .args in filling-none (a .list .now) (standing (asked (a .st)) (a .wanted)))
+    (λ c. fill-start _ _ _)
     cast-standing-at
     (λ c κs. search needs)
     (λ c. search needs)

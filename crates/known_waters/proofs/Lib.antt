@@ -1,0 +1,4 @@
+pub mod Routes
+pub mod Plans
+pub mod Meetings
+pub mod Promises

@@ -1,0 +1,102 @@
+-- The node numbers of R1 and R4 are those of a helper's annotation: least lengths, and marks where a walk leads.
+-- Assumes nothing.
+use mathlib.Core.Path.{_≡_, refl, sym, _∙_, ap, ap₂}
+use mathlib.Core.Logic.{inl, inr}
+use mathlib.Core.Bool.{false}
+use mathlib.Core.List.{List, [], _∷_}
+use Prim.Native.Nat.{ℕ, zero, suc, _+_, _≤_, _<_}
+use native.Mathlib.Omega.{arith}
+use lib.Dec.{lit≤}
+use lib.IntN.{ℤ, pos}
+use lib.ListN.{length}
+use Rattle.prelude.specs.Integers.{natural}
+use Rattle.prelude.specs.Lists.{Every, Member, at}
+use Rattle.network.specs.Network.{Arc, arcOf, total}
+use Rattle.network.specs.Question.{Question, shortestPath, maximumFlow, assignment, Setting, Walk, ShortestPath, value, none}
+use Rattle.network.specs.Certificate.{marked}
+use Rattle.network.specs.Tests.{Claim, ofValue, ofNone}
+use Rattle.network.proofs.Paths.{walk-above, no-walk}
+use Rattle.network.proofs.Promises.{one-answer}
+use Rattle.solver.specs.Instance.{toward}
+use Rattle.solver.specs.Certify.{toldBy, Told, LengthsFor}
+use Rattle.known_waters.specs.Table.{setting, SameNumbers, R1, R4}
+
+-- ---- the numbers of a route are determined
+
+-- lists as long with the same entries
+same-list : (ys zs : List ℤ) → length ys ≡ length zs → ((v : ℕ) → v < length ys → at ys v ≡ at zs v) → ys ≡ zs
+same-list [] [] e h = refl
+same-list [] (z ∷ zs) e h = absurd (omega arith)
+same-list (y ∷ ys) [] e h = absurd (omega arith)
+same-list (y ∷ ys) (z ∷ zs) e h = ap₂ _∷_ (h 0 (omega arith)) (same-list ys zs (omega arith) (λ v l. h (suc v) (omega arith)))
+
+pub numbers-alike : (q : Question) (st : Setting) (net : List Arc) (c : Claim) (ys zs : List ℤ) → length ys ≡ st .n → length zs ≡ st .n
+    → LengthsFor q st net c (at ys) → LengthsFor q st net c (at zs) → SameNumbers q ys zs
+numbers-alike shortestPath st net c ys zs ny nz hy hz = same-list ys zs (ny ∙ sym nz) (λ v l. go v (hy v (omega arith)) (hz v (omega arith)))
+  where
+    go : (v : ℕ) → Told st net c (at ys) v → Told st net c (at zs) v → at ys v ≡ at zs v
+    go v a b = a .told ∙ ap (toldBy c) (one-answer (toward st v) net (a .answer) (b .answer) (a .is-true) (b .is-true)) ∙ sym (b .told)
+numbers-alike maximumFlow st net c ys zs ny nz hy hz = tt
+numbers-alike assignment st net c ys zs ny nz hy hz = tt
+
+-- ---- the two rows
+
+below-four : (P : ℕ → Type 0) → P 0 → P 1 → P 2 → P 3 → (v : ℕ) → v < 4 → P v
+below-four P a b c d zero h = a
+below-four P a b c d (suc zero) h = b
+below-four P a b c d (suc (suc zero)) h = c
+below-four P a b c d (suc (suc (suc zero))) h = d
+below-four P a b c d (suc (suc (suc (suc v)))) h = absurd (omega arith)
+
+-- y obeys the rule on every arc, so a walk that is as long as y says is shortest
+shortest :
+    (st : Setting) (net : List Arc) (y : ℕ → ℕ) → Every (λ e. y (e .head) ≤ y (e .tail) + e .weight) net → y (st .s) ≡ 0
+    → (es : List Arc) → Walk st net es → total es ≡ y (st .t) → ShortestPath st net (y (st .t))
+shortest st net y rule start es w long = record {
+  path = es;
+  is-walk = w;
+  attained = long;
+  least = λ fs v. omega (arith, start, walk-above y net rule fs (st .s) (st .t) (v .over) (v .leads));
+}
+
+-- the least length to v in R1
+abbrev length-to : ℕ → ℕ
+length-to v = natural (at (R1 .numbers) v)
+
+r1-told :
+    (v : ℕ) (es : List Arc) → Walk (toward (setting R1) v) (R1 .net) es → total es ≡ length-to v → at (R1 .numbers) v ≡ pos (length-to v)
+    → Told (setting R1) (R1 .net) ofValue (at (R1 .numbers)) v
+r1-told v es w long e = record {
+  answer = value (length-to v);
+  is-true = shortest (toward (setting R1) v) (R1 .net) length-to (lit≤ tt, (lit≤ tt, (lit≤ tt, (lit≤ tt, (lit≤ tt, tt))))) refl es w long;
+  told = e;
+}
+
+pub r1-lengths : (v : ℕ) → v < 4 → Told (setting R1) (R1 .net) ofValue (at (R1 .numbers)) v
+unfolding total
+r1-lengths =
+    below-four (Told (setting R1) (R1 .net) ofValue (at (R1 .numbers)))
+    (r1-told 0 [] (record { over = tt; leads = refl }) refl refl)
+    (r1-told 1 (arcOf 0 1 2 ∷ []) (record { over = (inl refl, tt); leads = (refl, refl) }) refl refl)
+    (r1-told 2 (arcOf 0 1 2 ∷ arcOf 1 2 1 ∷ []) (record { over = (inl refl, (fifth, tt)); leads = (refl, (refl, refl)) }) refl refl)
+    (r1-told 3 (arcOf 0 1 2 ∷ arcOf 1 2 1 ∷ arcOf 2 3 2 ∷ [])
+    (record { over = (inl refl, (fifth, (inr (inr (inr (inl refl))), tt))); leads = (refl, (refl, (refl, refl))) }) refl refl)
+  where
+    fifth : Member (arcOf 1 2 1) (R1 .net)
+    fifth = inr (inr (inr (inr (inl refl))))
+
+pub r4-lengths : (v : ℕ) → v < 4 → Told (setting R4) (R4 .net) ofNone (at (R4 .numbers)) v
+unfolding total
+r4-lengths =
+    below-four (Told (setting R4) (R4 .net) ofNone (at (R4 .numbers)))
+    (record {
+      answer = value 0;
+      is-true = record { path = []; is-walk = record { over = tt; leads = refl }; attained = refl; least = λ es w. omega arith };
+      told = refl;
+    })
+    (unreached 1 refl refl)
+    (unreached 2 refl refl)
+    (unreached 3 refl refl)
+  where
+    unreached : (v : ℕ) → marked (at (R4 .numbers)) v ≡ false → at (R4 .numbers) v ≡ pos 0 → Told (setting R4) (R4 .net) ofNone (at (R4 .numbers)) v
+    unreached v m e = record { answer = none; is-true = no-walk (toward (setting R4) v) (marked (at (R4 .numbers))) [] refl m tt; told = e }
