@@ -1,6 +1,6 @@
 #!/usr/bin/env bash
 # Nanoseconds for a read and for a repeated channel: the proved session against a verifier in C that does the same work in place.
-# Run by hand, after `rt check`. Both are release builds, measured in one run.
+# Run by hand, after `rt check`. Both are release builds, measured in one run, in processor time.
 set -euo pipefail
 cd "$(dirname "$0")/.."
 rounds=${1:-2000}
@@ -9,7 +9,8 @@ trap 'rm -rf "$work"' EXIT
 gcc -O3 -o "$work/session" bench/session.c
 head -c "$rounds" /dev/zero | tr '\0' r > "$work/reads"
 head -c "$rounds" /dev/zero > "$work/all"
-seconds() { local start end; start=$(date +%s.%N); "$@" > /dev/null; end=$(date +%s.%N); echo "$end - $start" | bc -l; }
+TIMEFORMAT=%U
+seconds() { { time "$@" > /dev/null; } 2>&1; }
 ours() { target/bin/session_speed < "$1"; }
 for turn in 1 2 3; do
   a=$(seconds ours "$work/reads"); b=$(seconds ours "$work/all")

@@ -53,23 +53,23 @@ def shown(answer):
 def main(folder):
     rows = {}
     for line in open(folder + "/times"):
-        name, ours, lemon, broken, *times = line.rstrip("\n").split("\t")
-        rows[name] = int(ours), int(lemon), broken, [float(t) for t in times]
+        name, ours, lemon, refusal, *times = line.rstrip("\n").split("\t")
+        rows[name] = int(ours), int(lemon), int(refusal), [float(t) for t in times]
     print("| family | ours ms | LEMON ms | ratio | LEMON with building ms | networkx ms |")
     print("|---|---|---|---|---|---|")
     bad = []
     for line in open(folder + "/instances"):
         name, *numbers = line.rstrip("\n").split("\t")
         question, n, s, t = map(int, numbers[:4])
-        ours, lemon, broken, (time_ours, time_lemon, time_built) = rows[name]
+        ours, lemon, refusal, (time_ours, time_lemon, time_built) = rows[name]
         third, time_third = lemon, None
         if networkx:
             graph = build(question, n, [tuple(map(int, arc.split())) for arc in numbers[4:]])
             third, time_third = median(lambda: solve(question, s, t, graph))
         last = "-" if time_third is None else f"{time_third:.1f}"
         print(f"| {name} | {time_ours:.3f} | {time_lemon:.3f} | {time_ours / time_lemon:.2f} | {time_built:.3f} | {last} |", flush=True)
-        if broken or ours != lemon or lemon != third:
-            given = f"no certificate (broken rule: {broken})" if broken else shown(ours)
+        if refusal or ours != lemon or lemon != third:
+            given = f"no certificate (refusal {refusal})" if refusal else shown(ours)
             bad.append(f"{name}: ours {given}, LEMON {shown(lemon)}, networkx {shown(third) if networkx else 'not run'}")
     print("\nratio: ours / LEMON without building; ours starts from the list of records, so the time with building is the like one.")
     if not networkx:

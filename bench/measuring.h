@@ -1,0 +1,77 @@
+/* LEMON's answer for a network, and median processor times of calls that take turns. */
+#pragma once
+#include <lemon/dijkstra.h>
+#include <lemon/network_simplex.h>
+#include <lemon/preflow.h>
+#include <lemon/smart_graph.h>
+
+#include <algorithm>
+#include <ctime>
+#include <functional>
+#include <vector>
+
+#include "networks.h"
+
+/* LEMON's graph with lengths, capacities or costs, and supplies. The maps come last: made first, they would grow arc by arc. */
+struct Net : lemon::SmartDigraph {
+    explicit Net(const Instance &x) {
+        reserveNode(x.n);
+        reserveArc((int)x.arcs.size());
+        for (int v = 0; v < x.n; v++) addNode();
+        for (const Record &e : x.arcs) addArc(nodeFromId(e.a), nodeFromId(e.b));
+    }
+};
+struct Graph {
+    Net net;
+    lemon::SmartDigraph::ArcMap<int> weight;
+    lemon::SmartDigraph::NodeMap<int> supply;
+    explicit Graph(const Instance &x) : net(x), weight(net), supply(net) {
+        for (size_t i = 0; i < x.arcs.size(); i++) weight[net.arcFromId((int)i)] = x.arcs[i].w;
+        if (x.question == PAIRING)
+            for (int v = 0; v < x.n; v++) supply[net.nodeFromId(v)] = v < x.n / 2 ? 1 : -1;
+    }
+};
+
+static long long lemon_answer(const Instance &x, const Graph &g) {
+    typedef lemon::SmartDigraph D;
+    D::Node s = g.net.nodeFromId(x.s), t = g.net.nodeFromId(x.t);
+    if (x.question == ROUTE) {
+        lemon::Dijkstra<D> search(g.net, g.weight);
+        return search.run(s, t) ? search.dist(t) : NONE; /* stops at t */
+    }
+    if (x.question == DISCHARGE) {
+        lemon::Preflow<D> flow(g.net, g.weight, s, t);
+        flow.run(); /* both phases: the flow and the cut */
+        return flow.flowValue();
+    }
+    lemon::NetworkSimplex<D> simplex(g.net);
+    simplex.costMap(g.weight).supplyMap(g.supply);
+    return simplex.run() == lemon::NetworkSimplex<D>::OPTIMAL ? simplex.totalCost<long long>() : NONE;
+}
+
+/* Processor time in milliseconds: waiting for others on the machine does not count. */
+static double now() {
+    timespec t;
+    clock_gettime(CLOCK_THREAD_CPUTIME_ID, &t);
+    return (double)t.tv_sec * 1e3 + (double)t.tv_nsec * 1e-6;
+}
+
+/* The median time of each call: four turns of 0.05 s each, at least one call in a turn. The calls take turns, so that a busy machine
+   slows all of them alike. */
+static std::vector<double> medians(const std::vector<std::function<void()>> &calls) {
+    std::vector<std::vector<double>> times(calls.size());
+    for (int turn = 0; turn < 4; turn++)
+        for (size_t i = 0; i < calls.size(); i++)
+            for (double total = 0; total < 50;) {
+                double before = now();
+                calls[i]();
+                times[i].push_back(now() - before);
+                total += times[i].back();
+            }
+    std::vector<double> result;
+    for (std::vector<double> &list : times) {
+        std::sort(list.begin(), list.end());
+        result.push_back((list[(list.size() - 1) / 2] + list[list.size() / 2]) / 2);
+    }
+    return result;
+}

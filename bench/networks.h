@@ -1,0 +1,189 @@
+/* The networks that are measured: families at full size, the same on every machine. */
+#pragma once
+#include <algorithm>
+#include <cstdint>
+#include <string>
+#include <utility>
+#include <vector>
+
+enum { ROUTE = 1, DISCHARGE = 2, PAIRING = 3 };
+const int NODES = 255, ARCS = 4096, HEAVIEST = 32767;
+const long long NONE = -1;
+
+struct Record { int a, b, w; };
+struct Instance {
+    std::string name;
+    int question, n, s, t;
+    std::vector<Record> arcs;
+};
+
+/* The generator: the same numbers on every machine (splitmix64). */
+static uint64_t state;
+static uint64_t draw() {
+    uint64_t z = state += 0x9e3779b97f4a7c15u;
+    z = (z ^ (z >> 30)) * 0xbf58476d1ce4e5b9u;
+    z = (z ^ (z >> 27)) * 0x94d049bb133111ebu;
+    return z ^ (z >> 31);
+}
+static int below(int k) { return (int)(draw() % (uint64_t)k); }
+static int between(int low, int high) { return low + below(high - low + 1); }
+
+template <class T> static void mix(std::vector<T> &list) {
+    for (int i = (int)list.size() - 1; i > 0; i--) std::swap(list[i], list[below(i + 1)]);
+}
+
+/* A random arc among the vertices low to high - 1. */
+static Record anywhere(int low, int high) {
+    int a = between(low, high - 1), b = between(low, high - 2);
+    return {a, b + (b >= a), below(HEAVIEST + 1)};
+}
+
+static Instance start(const char *name, int question, int n) {
+    state = 20260501;
+    for (const char *c = name; *c; c++) state = state * 31 + (unsigned char)*c;
+    return {name, question, n, 0, question == PAIRING ? 0 : n - 1, {}};
+}
+
+static Instance random_arcs(const char *name, int question) {
+    Instance x = start(name, question, NODES);
+    while ((int)x.arcs.size() < ARCS) x.arcs.push_back(anywhere(0, NODES));
+    return x;
+}
+
+/* One chain through all vertices, its last arc first; the other arcs lead backwards, and shorten nothing. */
+static Instance route_chain() {
+    Instance x = start("route reversed chain", ROUTE, NODES);
+    for (int v = NODES - 1; v > 0; v--) x.arcs.push_back({v - 1, v, between(1, HEAVIEST)});
+    while ((int)x.arcs.size() < ARCS) {
+        Record e = anywhere(0, NODES);
+        x.arcs.push_back({std::max(e.a, e.b), std::min(e.a, e.b), e.w});
+    }
+    return x;
+}
+
+/* Jumps of 1 to 16 vertices, the last first. The longest jumps come soonest, and every way with more arcs is shorter:
+   a search by passes or with a queue betters each vertex about as often as there are vertices before it. */
+static Instance route_quadratic() {
+    Instance x = start("route quadratic", ROUTE, NODES);
+    for (int v = NODES - 1; v > 0; v--)
+        for (int jump = 1; jump <= 16 && jump <= v; jump++)
+            x.arcs.push_back({v - jump, v, jump == 1 ? 1 : 2000 * jump + below(100)});
+    return x;
+}
+
+/* From the source to k middle vertices and on to the sink; the other arcs join all vertices but the source and the sink. */
+static Instance discharge_fan(const char *name, int k) {
+    Instance x = start(name, DISCHARGE, NODES);
+    for (int v = 1; v <= k; v++) {
+        x.arcs.push_back({0, v, between(1, HEAVIEST)});
+        x.arcs.push_back({v, NODES - 1, between(1, HEAVIEST)});
+    }
+    while ((int)x.arcs.size() < ARCS) x.arcs.push_back(anywhere(1, NODES - 1));
+    mix(x.arcs);
+    return x;
+}
+
+/* The source, layers of so many vertices each, the sink; equally many random arcs from each of these to the next. */
+static Instance discharge_layered(const char *name, int layers, int width, bool reversed) {
+    Instance x = start(name, DISCHARGE, layers * width + 2);
+    state = (uint64_t)layers; /* the same network in both orders */
+    auto pick = [&](int layer) { return layer == 0 ? 0 : layer > layers ? x.n - 1 : 1 + (layer - 1) * width + below(width); };
+    for (int layer = 0; layer <= layers; layer++)
+        for (int i = 0; i < ARCS / (layers + 1); i++) {
+            int a = pick(layer), b = pick(layer + 1);
+            x.arcs.push_back({a, b, between(1, HEAVIEST)});
+        }
+    if (reversed) std::reverse(x.arcs.begin(), x.arcs.end());
+    else mix(x.arcs);
+    return x;
+}
+
+/* A grid with arcs both ways between neighbours, the source before its first column and the sink after its last. */
+static Instance discharge_grid(const char *name, int rows, int columns) {
+    Instance x = start(name, DISCHARGE, rows * columns + 2);
+    auto at = [&](int r, int c) { return 1 + r * columns + c; };
+    auto both = [&](int a, int b) {
+        x.arcs.push_back({a, b, between(1, HEAVIEST)});
+        x.arcs.push_back({b, a, between(1, HEAVIEST)});
+    };
+    for (int r = 0; r < rows; r++) {
+        x.arcs.push_back({0, at(r, 0), HEAVIEST});
+        x.arcs.push_back({at(r, columns - 1), x.n - 1, HEAVIEST});
+        for (int c = 0; c + 1 < columns; c++) both(at(r, c), at(r, c + 1));
+        if (r + 1 < rows)
+            for (int c = 0; c < columns; c++) both(at(r, c), at(r + 1, c));
+    }
+    mix(x.arcs);
+    return x;
+}
+
+/* Random arcs over a hidden pairing, so that there is one. */
+static Instance pairing_random(const char *name, int heaviest) {
+    Instance x = start(name, PAIRING, NODES - 1);
+    int h = x.n / 2;
+    std::vector<int> sites;
+    for (int i = 0; i < h; i++) sites.push_back(h + i);
+    mix(sites);
+    for (int i = 0; i < h; i++) x.arcs.push_back({i, sites[i], below(heaviest + 1)});
+    while ((int)x.arcs.size() < ARCS) {
+        int a = below(h), b = below(h);
+        x.arcs.push_back({a, h + b, below(heaviest + 1)});
+    }
+    mix(x.arcs);
+    return x;
+}
+
+/* Pump i to the sites at most 16 away from site i. */
+static Instance pairing_band() {
+    Instance x = start("pairing band", PAIRING, NODES - 1);
+    int h = x.n / 2;
+    for (int i = 0; i < h; i++)
+        for (int j = std::max(0, i - 16); j <= std::min(h - 1, i + 16); j++) x.arcs.push_back({i, h + j, below(HEAVIEST + 1)});
+    mix(x.arcs);
+    return x;
+}
+
+/* Pump i to site i at a high cost and to later sites at low ones: the only pairing takes every dear arc, and one
+   mistake moves all pumps after it. */
+static Instance pairing_chain() {
+    Instance x = start("pairing chain", PAIRING, NODES - 1);
+    int h = x.n / 2;
+    for (int i = 0; i < h; i++) {
+        x.arcs.push_back({i, h + i, between(30000, HEAVIEST)});
+        if (i + 1 < h) x.arcs.push_back({i, h + i + 1, below(10)});
+    }
+    while ((int)x.arcs.size() < ARCS) {
+        int i = below(h), j = below(h);
+        if (i != j) x.arcs.push_back({std::min(i, j), h + std::max(i, j), below(1000)});
+    }
+    mix(x.arcs);
+    return x;
+}
+
+/* The first 64 pumps lead to the first 63 sites only. */
+static Instance pairing_none() {
+    Instance x = start("pairing none", PAIRING, NODES - 1);
+    int h = x.n / 2;
+    while ((int)x.arcs.size() < ARCS) {
+        int i = below(h), j = below(i < 64 ? 63 : h);
+        x.arcs.push_back({i, h + j, below(HEAVIEST + 1)});
+    }
+    return x;
+}
+
+static std::vector<Instance> instances() {
+    return {
+        random_arcs("route random", ROUTE), route_chain(), route_quadratic(),
+        random_arcs("discharge random", DISCHARGE),
+        discharge_fan("discharge fan 60", 60), discharge_fan("discharge fan 126", 126),
+        discharge_layered("discharge layered 5x50 mixed", 5, 50, false),
+        discharge_layered("discharge layered 5x50 reversed", 5, 50, true),
+        discharge_layered("discharge layered 25x10 mixed", 25, 10, false),
+        discharge_layered("discharge layered 25x10 reversed", 25, 10, true),
+        discharge_layered("discharge layered 84x3 mixed", 84, 3, false),
+        discharge_layered("discharge layered 84x3 reversed", 84, 3, true),
+        discharge_grid("discharge grid 15x16", 15, 16),
+        pairing_random("pairing random, costs to 32767", HEAVIEST), pairing_random("pairing random, costs to 100", 100),
+        pairing_random("pairing random, costs to 1", 1), pairing_band(), pairing_chain(), pairing_none(),
+    };
+}
