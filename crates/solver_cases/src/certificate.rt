@@ -1,16 +1,16 @@
 // Every rule of the certificate, tested one by one: how many are broken, and the value.
-use super::array::NONE;
-use super::array::TOP;
-use super::array::flag;
-use super::array::get;
-use super::array::grow;
-use super::array::head;
-use super::array::plus;
-use super::array::put;
-use super::array::record;
-use super::array::tail;
-use super::array::weight;
-use super::network::Net;
+use reference::array::NONE;
+use reference::array::TOP;
+use reference::array::flag;
+use reference::array::get;
+use reference::array::grow;
+use reference::array::head;
+use reference::array::plus;
+use reference::array::put;
+use reference::array::record;
+use reference::array::tail;
+use reference::array::weight;
+use reference::instances::Net;
 
 // Rules broken so far, and two sums.
 pub struct Tally {

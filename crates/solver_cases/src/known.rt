@@ -1,12 +1,12 @@
 // Certificates made by hand for R1 to R6, right ones and wrong ones: a test of the rules as this program has them.
-use super::arcs::store;
-use super::array::NONE;
-use super::array::flag;
-use super::array::joined;
-use super::array::plus;
 use super::certificate::judged;
-use super::network::Net;
 use super::print::cases;
+use reference::arcs::store;
+use reference::array::NONE;
+use reference::array::flag;
+use reference::array::joined;
+use reference::array::plus;
+use reference::instances::Net;
 
 // A network of 4 vertices.
 fn four(question: usize, t: usize, m: usize) -> Net {

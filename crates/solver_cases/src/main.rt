@@ -1,19 +1,12 @@
 // Runs the solver on thousands of networks, tests its certificates rule by rule and compares its answers; one line sums up each question.
-mod arcs;
-mod array;
-mod assignments;
 mod certificate;
-mod cuts;
 mod known;
-mod network;
-mod pairs;
+mod lengths;
 mod print;
-mod random;
 mod refused;
-mod routes;
 mod trial;
 
-use network::network;
+use reference::instances::network;
 use trial::Outcome;
 
 // How many networks there are for each question.

@@ -1,10 +1,10 @@
 // Calls with input that is not admissible, for which the solver must hand back 0, beside some that are admissible.
-use super::array::flag;
-use super::array::joined;
-use super::array::plus;
 use super::print::cases;
 use super::trial::setting;
 use checks::Setting;
+use reference::array::flag;
+use reference::array::joined;
+use reference::array::plus;
 
 // The claim with one record, two node numbers and one amount.
 fn two(st: Setting, r: u32) -> usize {

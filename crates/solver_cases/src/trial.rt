@@ -1,18 +1,15 @@
 // One network: the solver is called, its certificate judged, and its answer compared.
-use super::arcs::write;
-use super::array::NONE;
-use super::array::flag;
-use super::array::plus;
-use super::assignments;
 use super::certificate::Verdict;
 use super::certificate::judged;
-use super::cuts;
-use super::network::Net;
-use super::routes;
+use super::lengths::differences;
 use checks::Setting;
-
-// Where there is no other implementation for a network of its size.
-const UNKNOWN: usize = 2000000000000;
+use reference::arcs::write;
+use reference::array::NONE;
+use reference::array::UNKNOWN;
+use reference::array::flag;
+use reference::array::plus;
+use reference::instances::Net;
+use reference::truth;
 
 // What came of one network: 1 or 0 each for a failure, an answer that was compared, and one that is none (for discharge 0).
 pub struct Outcome {
@@ -32,22 +29,6 @@ pub fn setting(question: usize, n: usize, s: usize, t: usize) -> Setting {
         s: byte(s),
         t: byte(t),
     }
-}
-
-// The true answer by other means, which leaves the least lengths for a route.
-fn truth(net: Net, records: &[u32; 4096], lengths: &mut [usize; 256]) -> usize {
-    let question = net.question;
-    let n = net.n;
-    if question == 1 {
-        return routes::measure(net, records, lengths);
-    }
-    if question == 2 && n <= 12 {
-        return cuts::least(net, records);
-    }
-    if question == 3 && n <= 16 {
-        return assignments::least(net, records);
-    }
-    UNKNOWN
 }
 
 // Is the answer right, as far as it can be told?
@@ -70,7 +51,7 @@ fn summed(question: usize, good: bool, answer: usize) -> Outcome {
 // Node numbers that are not the least lengths, for a route.
 fn strays(net: Net, claim: usize, y: &[usize; 256], lengths: &[usize; 256]) -> usize {
     if net.question == 1 {
-        return routes::differences(net.n, claim, y, lengths);
+        return differences(net.n, claim, y, lengths);
     }
     0
 }

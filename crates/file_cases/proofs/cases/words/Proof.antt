@@ -1,0 +1,31 @@
+-- `file_cases::cases::words` is safe and ends: it goes through the line.
+-- Assumes nothing.
+use Prim.Native.Nat.{_-_}
+use mathlib.Core.Path.{_≡_}
+use native.Mathlib.Omega.{arith}
+use lib.ListN.{length}
+use borrow.Author.Needs.{needs}
+use Rattle.file_cases.proofs.cases.words.Statement.{statement}
+use Rattle.file_cases.proofs.cases.words.Tie as tie
+
+abbrev Inv-loop : tie.InvT-loop
+Inv-loop script from net₀ ann₀ end f₀ i₀ net ann f i = (length net ≡ length net₀) × (length ann ≡ length ann₀)
+
+abbrev μ-loop : tie.MeasureT-loop
+μ-loop script from net₀ ann₀ end f₀ i₀ net ann f i = end - i
+
+pub words-spec : {M : Type 1} → statement M
+words-spec =
+    tie.close
+    (tie.spec
+    Inv-loop
+    μ-loop
+    (λ c κs. search needs)
+    (λ c. search needs)
+    (λ c κs. search needs)
+    (λ c. omega arith)
+    (λ c. omega arith)
+    (λ c. search needs)
+    (λ c. search needs)
+    (λ c. search needs)
+    (λ c. search needs))

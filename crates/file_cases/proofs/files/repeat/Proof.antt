@@ -1,0 +1,34 @@
+-- `file_cases::files::repeat` is safe and ends: it goes through the bytes that are added.
+-- Assumes nothing.
+use Prim.Native.Nat.{_-_, _≤_}
+use mathlib.Core.Path.{_≡_}
+use native.Mathlib.Omega.{arith}
+use lib.ListN.{length}
+use borrow.Author.Needs.{needs}
+use Rattle.file_cases.proofs.files.repeat.Statement.{statement}
+use Rattle.file_cases.proofs.files.repeat.Tie as tie
+
+abbrev Inv-loop : tie.InvT-loop
+Inv-loop file₀ size width times more i₀ file i = (i ≤ more) × (length file ≡ length file₀)
+
+abbrev μ-loop : tie.MeasureT-loop
+μ-loop file₀ size width times more i₀ file i = more - i
+
+pub repeat-spec : {M : Type 1} → statement M
+repeat-spec =
+    tie.close
+    (tie.spec
+    Inv-loop
+    μ-loop
+    (λ c κs. search needs)
+    (λ c. search needs)
+    (λ c κs. search needs)
+    (λ c κs. search needs)
+    (λ c κs. search needs)
+    (λ c κs. search needs)
+    (λ c. omega arith)
+    (λ c. omega arith)
+    (λ c. search needs)
+    (λ c κs. search needs)
+    (λ c. search needs)
+    (λ c. search needs))

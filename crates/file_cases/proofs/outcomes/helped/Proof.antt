@@ -1,0 +1,24 @@
+-- `file_cases::outcomes::helped` is safe and ends: each part that it lends is as long as it says.
+-- Assumes nothing.
+use mathlib.Core.Path.{sym}
+use native.Mathlib.Omega.{arith}
+use lib.Seq.{length-take-le}
+use borrow.Author.Needs.{needs}
+use Rattle.file_cases.proofs.outcomes.helped.Statement.{statement}
+use Rattle.file_cases.proofs.outcomes.helped.Tie as tie
+
+pub helped-spec : {M : Type 1} → statement M
+helped-spec =
+    tie.close
+    (tie.spec
+    (λ c κs. search needs)
+    (λ c. search needs)
+    (λ c. search needs)
+    (λ c. search needs)
+    (λ c. search needs)
+    (λ c. sym (length-take-le _ _ (omega arith)))
+    (λ c. search needs)
+    (λ c. sym (length-take-le _ _ (omega arith)))
+    (λ c κs. search needs)
+    (λ c. search needs)
+    (λ c. search needs))

@@ -1,0 +1,14 @@
+// Judging and the helper on files made by hand: every refusal of each, damaged files, and which of two refusals comes first.
+// The cases are lines of standard input, which says at its top how it is written; a line is printed for each.
+mod cases;
+mod files;
+mod outcomes;
+mod print;
+mod script;
+mod sweeps;
+
+fn main() {
+    let mut input = io::large_buffer();
+    let n = io::read_full(0, &mut input);
+    cases::run(&input[..n]);
+}

@@ -1,0 +1,26 @@
+-- `random_networks::all` is safe and ends: it counts to 640.
+-- Assumes nothing.
+use Prim.Native.Nat.{_-_, _≤_}
+use native.Mathlib.Omega.{arith}
+use borrow.Author.Needs.{needs}
+use Rattle.random_networks.proofs.all.Statement.{statement}
+use Rattle.random_networks.proofs.all.Tie as tie
+
+abbrev Inv-loop : tie.InvT-loop
+Inv-loop name question tally₀ seed₀ tally seed = seed ≤ 640
+
+abbrev μ-loop : tie.MeasureT-loop
+μ-loop name question tally₀ seed₀ tally seed = 640 - seed
+
+pub all-spec : {M : Type 1} → statement M
+all-spec =
+    tie.close
+    (tie.spec
+    Inv-loop
+    μ-loop
+    (λ c. omega arith)
+    (λ c κs. search needs)
+    (λ c. omega arith)
+    (λ c. omega arith)
+    (λ c. omega arith)
+    (λ c. search needs))

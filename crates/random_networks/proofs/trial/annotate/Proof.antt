@@ -1,0 +1,23 @@
+-- `random_networks::trial::annotate` is safe and ends: each part that it lends is as long as it says.
+-- Assumes nothing.
+use mathlib.Core.Path.{sym}
+use native.Mathlib.Omega.{arith}
+use lib.Seq.{length-take-le}
+use borrow.Author.Needs.{needs}
+use Rattle.random_networks.proofs.trial.annotate.Statement.{statement}
+use Rattle.random_networks.proofs.trial.annotate.Tie as tie
+
+pub annotate-spec : {M : Type 1} → statement M
+annotate-spec =
+    tie.close
+    (tie.spec
+    (λ c κs. search needs)
+    (λ c. search needs)
+    (λ c. sym (length-take-le _ _ (omega arith)))
+    (λ c. search needs)
+    (λ c κs. search needs)
+    (λ c. sym (length-take-le _ _ (omega arith)))
+    (λ c. search needs)
+    (λ c κs. search needs)
+    (λ c κs. search needs)
+    (λ c. search needs))

@@ -1,0 +1,28 @@
+-- `random_networks::trial::everywhere` is safe and ends: it counts to 5.
+-- Assumes nothing.
+use Prim.Native.Nat.{_-_, _≤_}
+use native.Mathlib.Omega.{arith}
+use borrow.Author.Needs.{needs}
+use Rattle.random_networks.proofs.trial.everywhere.Statement.{statement}
+use Rattle.random_networks.proofs.trial.everywhere.Tie as tie
+
+abbrev Inv-loop : tie.InvT-loop
+Inv-loop net file ann wanted tally₀ i₀ tally i = i ≤ 5
+
+abbrev μ-loop : tie.MeasureT-loop
+μ-loop net file ann wanted tally₀ i₀ tally i = 5 - i
+
+pub everywhere-spec : {M : Type 1} → statement M
+everywhere-spec =
+    tie.close
+    (tie.spec
+    Inv-loop
+    μ-loop
+    (λ c. omega arith)
+    (λ c κs. search needs)
+    (λ c κs. search needs)
+    (λ c κs. search needs)
+    (λ c. omega arith)
+    (λ c. omega arith)
+    (λ c. omega arith)
+    (λ c. search needs))
