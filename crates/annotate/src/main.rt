@@ -1,56 +1,8 @@
 // The annotating program: it reads plan.drn of the current folder, writes plan.dra for it, and prints one line.
-ghost use Prim.Native.Nat.{_≤_};
-ghost use lib.ListN.{length, take};
-ghost use Rattle.io.specs.Counts.{Counts};
-ghost use Rattle.annotate.specs.Line.{SavedLine, Line, annotatedInRoom};
-use helper::Written;
-use program_io::front::read_front;
-use program_io::front::room;
-use program_io::line;
-
-// Makes plan.dra of these bytes, in place of any file of that name, and answers whether all were written.
-fn save(bytes: &[u8]) -> bool {
-    let fd = os::open_overwrite(b"plan.dra");
-    if fd < 0 {
-        return false;
-    }
-    let is_written = io::write_all(fd, bytes);
-    if libc::close(fd) != 0 {
-        return false;
-    }
-    is_written
-}
-
-// Saves the annotation at the front of the buffer, and makes the line: whether it is in its file.
-fn line_when_saved(buffer: &[u8], size: u32, text: &mut [u8; 32]) -> usize
-    requires { ⌜ size ≤ length (now buffer) ⌝ }
-    ensures { λ r. ⌜ Counts r (now (text .exit)) ⌝ }
-    ensures { λ r. ⌜ SavedLine size (take r (now (text .exit))) ⌝ }
-{
-    let n = size as usize;
-    if save(&buffer[..n]) {
-        return line::numbered(b"written ", size as u64, text);
-    }
-    line::plain(b"not written\n", text)
-}
-
-// Annotates the network file, and makes the line. A refusal writes no file.
-fn line_for(net: &[u8], text: &mut [u8; 32]) -> usize
-    ensures { λ r. ⌜ Counts r (now (text .exit)) ⌝ }
-    ensures { λ r. ⌜ Line (annotatedInRoom (now (net .entry))) (take r (now (text .exit))) ⌝ }
-{
-    let mut buffer = room();
-    let written = helper::annotate(net, &mut buffer);
-    match written {
-        Written::Length(size) => line_when_saved(&buffer, size, text),
-        Written::Refused(k) => line::refused(k, text),
-    }
-}
+use plan_files::annotation_line;
 
 fn main() {
-    let mut net = room();
-    let n = read_front(b"plan.drn", &mut net);
     let mut text = [0u8; 32];
-    let m = line_for(&net[..n], &mut text);
-    io::write_all(1, &text[..m]);
+    let n = annotation_line::make(b"plan.drn", b"plan.dra", &mut text);
+    io::write_all(1, &text[..n]);
 }

@@ -1,4 +1,4 @@
-// Judging and the helper for callers in C: each slice is a pointer and a count, each reply one number.
+// Judging and the helper for callers in C: each slice is a pointer and a count, each reply one number. The pointer of an empty slice is not null either.
 ghost use mathlib.Core.Path.{_≡_};
 ghost use lib.ListN.{length};
 ghost use Rattle.session.specs.Session.{said};

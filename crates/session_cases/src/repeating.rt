@@ -68,6 +68,10 @@ fn channels() {
     channel(route(9), b"route amount 4294967295", 0, 1, 2, 4294967295);
     channel(route(9), b"route amount 0 and y too far apart", 0, 1, 1, 0);
     channel(route(9), b"route amount 1", 0, 1, 2, 1);
+}
+
+// The same where the node numbers are marks.
+fn marked_channels() {
     channel(
         four(five(2, 9), 1, 1, 0, 1, 0),
         b"discharge amount w + 1",
@@ -112,5 +116,6 @@ fn more() {
 pub fn run() {
     numbers();
     channels();
+    marked_channels();
     more();
 }

@@ -1,4 +1,4 @@
-// The solver for callers in C: each slice is a pointer and a count.
+// The solver for callers in C: each slice is a pointer and a count. The pointer of an empty slice is not null either.
 ghost use Rattle.network.specs.Tests.{settingOf};
 ghost use Rattle.solver.specs.Certify.{Outcome};
 use checks::Setting;

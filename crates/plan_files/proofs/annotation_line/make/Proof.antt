@@ -1,0 +1,30 @@
+-- `plan_files::annotation_line::make` meets its contract.
+-- Assumes nothing.
+use native.Mathlib.Omega.{arith}
+use lib.ListN.{take}
+use borrow.Author.Needs.{needs}
+use Rattle.plan_files.proofs.annotation_line.make.Statement.{statement}
+use Rattle.plan_files.proofs.annotation_line.make.Tie as tie
+
+returns : tie.Need-returns
+returns c =
+    let front = c .before .before .before .before in (
+      c .line-for .ensures .0,
+      record {
+        net = take (front .read-front .result) (front .read-front .last .1 .0);
+        counts = omega (arith, front .read-front .ensures .0, front .read-front .ensures .1, front .read-front .kept .1 .0, front .before .before .room .ensures);
+        line = c .line-for .ensures .1;
+      },
+    )
+
+pub make-spec : {M : Type 1} → statement M
+make-spec =
+    tie.close
+    (tie.spec
+    (λ c κs. search needs)
+    (λ c. search needs)
+    (λ c κs. search needs)
+    (λ c. search needs)
+    (λ c. search needs)
+    (λ c κs. search needs)
+    returns)
