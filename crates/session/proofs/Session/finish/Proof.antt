@@ -62,14 +62,21 @@ refuse-requires-4 c κs = search needs
 
 returns-4 : tie.Need-returns-4
 returns-4 c =
+    let is-complete-at = c .before .before .before .before .before .before .before .before .before .before .before .before .before .is-complete in
+    let if1-at = c .before .before .before .before .before .before .before .before .before .before .before .before .if1 in
+    let lists-check-at = c .before .before .before .before .before .before .before .before .before .before .before .lists-check in
+    let if2-at = c .before .before .before .before .before .before .before .before .before .before .if2 in
+    let balances-ok-at = c .before .before .before .before .before .before .before .before .balances-ok in
+    let if3-at = c .before .before .before .before .before .before .before .if3 in
+    let struct-told-at = c .before .before .before .before .struct-told in
     let x = c .before .before .before .before .before .before .before .before .before .before .before .before .before .before .before .before .before .args .self in
-    let complete = c .before .before .before .before .before .before .before .before .before .before .before .before .before .is-complete in
-    let whole = passed (isComplete x) (complete .result) (c .before .before .before .before .before .before .before .before .before .before .before .before .if1 .left) (complete .ensures) in
-    let check = c .before .before .before .before .before .before .before .before .before .before .before .lists-check in
-    let exact = c .before .before .sums-ok .ensures ∙ summed-read x (back w64 (x .cost) (omega (arith, c .before .before .before .before .struct-told .given))) (back w64 (x .cut) (omega (arith, c .before .before .before .struct-told2 .given))) in
+    let complete = is-complete-at in
+    let whole = passed (isComplete x) (complete .result) (if1-at .left) (complete .ensures) in
+    let check = lists-check-at in
+    let exact = c .before .before .sums-ok .ensures ∙ summed-read x (back w64 (x .cost) (omega (arith, struct-told-at .given))) (back w64 (x .cut) (omega (arith, c .before .before .before .struct-told2 .given))) in
     c .refuse4 .ensures
-    ∙ listed x whole (check .result) (check .ensures) (c .before .before .before .before .before .before .before .before .before .before .if2 .left) (refuse x 16)
-    (on Reply (refuse x 16) _ (refuse x 15) (balanced x) (passed (balanced x) (c .before .before .before .before .before .before .before .before .balances-ok .result) (c .before .before .before .before .before .before .before .if3 .left) (c .before .before .before .before .before .before .before .before .balances-ok .ensures))
+    ∙ listed x whole (check .result) (check .ensures) (if2-at .left) (refuse x 16)
+    (on Reply (refuse x 16) _ (refuse x 15) (balanced x) (passed (balanced x) (balances-ok-at .result) (if3-at .left) (balances-ok-at .ensures))
     (off Reply (refuse x 16) (outcome x) (refuse x 16) (summed x) (refused (summed x) (c .before .before .sums-ok .result) (c .before .if4 .taken) exact) refl))
 
 nothing-requires : tie.Need-nothing-requires
@@ -80,14 +87,24 @@ answer-for-requires c κs = search needs
 
 returns-5 : tie.Need-returns-5
 returns-5 c =
+    let is-complete-at = c .before .before .before .before .before .before .before .before .before .before .before .before .before .before .before .before .is-complete in
+    let if1-at = c .before .before .before .before .before .before .before .before .before .before .before .before .before .before .before .if1 in
+    let lists-check-at = c .before .before .before .before .before .before .before .before .before .before .before .before .before .before .lists-check in
+    let if2-at = c .before .before .before .before .before .before .before .before .before .before .before .before .before .if2 in
+    let balances-ok-at = c .before .before .before .before .before .before .before .before .before .before .before .balances-ok in
+    let if3-at = c .before .before .before .before .before .before .before .before .before .before .if3 in
+    let struct-told-at = c .before .before .before .before .before .before .before .struct-told in
+    let struct-told2-at = c .before .before .before .before .before .before .struct-told2 in
+    let sums-ok-at = c .before .before .before .before .before .sums-ok in
+    let if4-at = c .before .before .before .before .if4 in
     let x = c .before .before .before .before .before .before .before .before .before .before .before .before .before .before .before .before .before .before .before .before .args .self in
-    let complete = c .before .before .before .before .before .before .before .before .before .before .before .before .before .before .before .before .is-complete in
-    let whole = passed (isComplete x) (complete .result) (c .before .before .before .before .before .before .before .before .before .before .before .before .before .before .before .if1 .left) (complete .ensures) in
-    let check = c .before .before .before .before .before .before .before .before .before .before .before .before .before .before .lists-check in
-    let exact = c .before .before .before .before .before .sums-ok .ensures ∙ summed-read x (back w64 (x .cost) (omega (arith, c .before .before .before .before .before .before .before .struct-told .given))) (back w64 (x .cut) (omega (arith, c .before .before .before .before .before .before .struct-told2 .given))) in
-    listed x whole (check .result) (check .ensures) (c .before .before .before .before .before .before .before .before .before .before .before .before .before .if2 .left) _
-    (on Reply _ _ (refuse x 15) (balanced x) (passed (balanced x) (c .before .before .before .before .before .before .before .before .before .before .before .balances-ok .result) (c .before .before .before .before .before .before .before .before .before .before .if3 .left) (c .before .before .before .before .before .before .before .before .before .before .before .balances-ok .ensures))
-    (on Reply _ (outcome x) (refuse x 16) (summed x) (passed (summed x) (c .before .before .before .before .before .sums-ok .result) (c .before .before .before .before .if4 .left) exact)
+    let complete = is-complete-at in
+    let whole = passed (isComplete x) (complete .result) (if1-at .left) (complete .ensures) in
+    let check = lists-check-at in
+    let exact = sums-ok-at .ensures ∙ summed-read x (back w64 (x .cost) (omega (arith, struct-told-at .given))) (back w64 (x .cut) (omega (arith, struct-told2-at .given))) in
+    listed x whole (check .result) (check .ensures) (if2-at .left) _
+    (on Reply _ _ (refuse x 15) (balanced x) (passed (balanced x) (balances-ok-at .result) (if3-at .left) (balances-ok-at .ensures))
+    (on Reply _ (outcome x) (refuse x 16) (summed x) (passed (summed x) (sums-ok-at .result) (if4-at .left) exact)
     (answer-read x (c .before .before .before .nothing .ensures) (c .answer-for .ensures) (back w64 (x .cost) (omega (arith, c .before .before .struct-told3 .given))) (back w64 (x .cut) (omega (arith, c .before .struct-told4 .given))))))
 
 pub finish-spec : {M : Type 1} → statement M

@@ -28,25 +28,48 @@ stand-requires : tie.Need-stand-requires
 stand-requires c κs = let s = c .before .before .before .before .before .before .before .before .before in let h : length (s .args .key .now) ≤ 255 = omega (arith, s .pre .1 .1 .2, s .pre .0 .opened .sized .at-most) in part-small (length (s .args .key .now)) 255 _ h h
 
 array-share-prefix-arcs : tie.Need-array-share-prefix-arcs
-array-share-prefix-arcs c = let s = c .before .before .before .before .before .before .before .before .before .before .before .before .before .before .before in back-within (length (s .args .records .now)) (zeros 4096) (c .before .before .before .before .before .before .before .before .pack .last .1 .1 .0) (ap length (c .before .before .before .before .before .before .before .before .pack .ensures) ∙ length-map (s .args .records .now) _)
+array-share-prefix-arcs c =
+    let s = c .before .before .before .before .before .before .before .before .before .before .before .before .before .before .before in
+    let pack-at = c .before .before .before .before .before .before .before .before .pack in
+    back-within (length (s .args .records .now)) (zeros 4096) (pack-at .last .1 .1 .0) (ap length (pack-at .ensures) ∙ length-map (s .args .records .now) _)
 
 slice-aggregate-solve : tie.Need-slice-aggregate-solve
-slice-aggregate-solve c = let s = c .before .before .before .before .before .before .before .before .before .before .before .before .before .before .before .before in back-length (length (s .args .records .now)) (zeros 4096) (c .before .before .before .before .before .before .before .before .before .pack .last .1 .1 .0) (ap length (c .before .before .before .before .before .before .before .before .before .pack .ensures) ∙ length-map (s .args .records .now) _)
+slice-aggregate-solve c =
+    let s = c .before .before .before .before .before .before .before .before .before .before .before .before .before .before .before .before in
+    let pack-at = c .before .before .before .before .before .before .before .before .before .pack in
+    back-length (length (s .args .records .now)) (zeros 4096) (pack-at .last .1 .1 .0) (ap length (pack-at .ensures) ∙ length-map (s .args .records .now) _)
 
 array-borrow-prefix-left-2 : tie.Need-array-borrow-prefix-left-2
-array-borrow-prefix-left-2 c = let s = c .before .before .before .before .before .before .before .before .before .before .before .before .before .before .before .before .before .before in let h : length (s .args .key .now) ≤ 255 = omega (arith, s .pre .1 .1 .2, s .pre .0 .opened .sized .at-most) in back-within (length (s .args .key .now)) (zeros 255) (c .before .before .before .before .before .before .before .before .stand .last .1 .1 .0) (c .before .before .before .before .before .before .before .before .stand .ensures .len ∙ length-take-le (length (s .args .key .now)) _ h)
+array-borrow-prefix-left-2 c =
+    let s = c .before .before .before .before .before .before .before .before .before .before .before .before .before .before .before .before .before .before in
+    let stand-at = c .before .before .before .before .before .before .before .before .stand in
+    let h : length (s .args .key .now) ≤ 255 = omega (arith, s .pre .1 .1 .2, s .pre .0 .opened .sized .at-most) in back-within (length (s .args .key .now)) (zeros 255) (stand-at .last .1 .1 .0) (stand-at .ensures .len ∙ length-take-le (length (s .args .key .now)) _ h)
 
 slice-aggregate-solve-2 : tie.Need-slice-aggregate-solve-2
-slice-aggregate-solve-2 c = let s = c .before .before .before .before .before .before .before .before .before .before .before .before .before .before .before .before .before .before .before in let h : length (s .args .key .now) ≤ 255 = omega (arith, s .pre .1 .1 .2, s .pre .0 .opened .sized .at-most) in back-length (length (s .args .key .now)) (zeros 255) (c .before .before .before .before .before .before .before .before .before .stand .last .1 .1 .0) (c .before .before .before .before .before .before .before .before .before .stand .ensures .len ∙ length-take-le (length (s .args .key .now)) _ h)
+slice-aggregate-solve-2 c =
+    let s = c .before .before .before .before .before .before .before .before .before .before .before .before .before .before .before .before .before .before .before in
+    let stand-at = c .before .before .before .before .before .before .before .before .before .stand in
+    let h : length (s .args .key .now) ≤ 255 = omega (arith, s .pre .1 .1 .2, s .pre .0 .opened .sized .at-most) in back-length (length (s .args .key .now)) (zeros 255) (stand-at .last .1 .1 .0) (stand-at .ensures .len ∙ length-take-le (length (s .args .key .now)) _ h)
 
 slice-aggregate-solve-3 : tie.Need-slice-aggregate-solve-3
 slice-aggregate-solve-3 c = let s = c .before .before .before .before .before .before .before .before .before .before .before .before .before .before .before .before .before .before .before .before .before .before in sym (length-take-le (length (s .args .key .now)) _ (omega (arith, s .pre .1 .1 .2, s .pre .0 .opened .sized .at-most)))
 
 solve-requires : tie.Need-solve-requires
-solve-requires c κs = let s = c .before .before .before .before .before .before .before .before .before .before .before .before .before .before .before .before .before .before .before .before .before .before in let h : length (s .args .key .now) ≤ 255 = omega (arith, s .pre .1 .1 .2, s .pre .0 .opened .sized .at-most) in solve-ok (asked (s .args .st)) (s .args .records .now) (s .pre .0) (length (s .args .key .now)) (length (s .args .need .now)) _ _ (s .pre .1 .1 .2) (c .before .before .before .before .before .before .before .before .before .before .before .before .before .before .before .pack .ensures) (s .pre .1 .0) (s .pre .1 .1 .0) h (c .before .before .before .before .before .before .before .before .before .before .before .before .stand .ensures) (c .before .before .before .before .before .before .before .before .before .stand2 .ensures) (s .pre .1 .1 .1) _ h
+solve-requires c κs =
+    let s = c .before .before .before .before .before .before .before .before .before .before .before .before .before .before .before .before .before .before .before .before .before .before in
+    let pack-at = c .before .before .before .before .before .before .before .before .before .before .before .before .before .before .before .pack in
+    let stand-at = c .before .before .before .before .before .before .before .before .before .before .before .before .stand in
+    let stand2-at = c .before .before .before .before .before .before .before .before .before .stand2 in
+    let h : length (s .args .key .now) ≤ 255 = omega (arith, s .pre .1 .1 .2, s .pre .0 .opened .sized .at-most) in solve-ok (asked (s .args .st)) (s .args .records .now) (s .pre .0) (length (s .args .key .now)) (length (s .args .need .now)) _ _ (s .pre .1 .1 .2) (pack-at .ensures) (s .pre .1 .0) (s .pre .1 .1 .0) h (stand-at .ensures) (stand2-at .ensures) (s .pre .1 .1 .1) _ h
 
 returns : tie.Need-returns
-returns c = let s = c .before .before .before .before .before .before .before .before .before .before .before .before .before .before .before .before .before .before .before .before .before .before .before .before .before .before .before .before .before .before .before .before .before in let h : length (s .args .key .now) ≤ 255 = omega (arith, s .pre .1 .1 .2, s .pre .0 .opened .sized .at-most) in run-ok (asked (s .args .st)) (s .args .records .now) (s .pre .0) (length (s .args .key .now)) (length (s .args .need .now)) _ _ (s .pre .1 .1 .2) (c .before .before .before .before .before .before .before .before .before .before .before .before .before .before .before .before .before .before .before .before .before .before .before .before .before .before .pack .ensures) (s .pre .1 .0) (s .pre .1 .1 .0) h (c .before .before .before .before .before .before .before .before .before .before .before .before .before .before .before .before .before .before .before .before .before .before .before .stand .ensures) (c .before .before .before .before .before .before .before .before .before .before .before .before .before .before .before .before .before .before .before .before .stand2 .ensures) (s .pre .1 .1 .1) (c .before .before .before .before .before .before .before .before .before .before .solve .ensures)
+returns c =
+    let s = c .before .before .before .before .before .before .before .before .before .before .before .before .before .before .before .before .before .before .before .before .before .before .before .before .before .before .before .before .before .before .before .before .before in
+    let pack-at = c .before .before .before .before .before .before .before .before .before .before .before .before .before .before .before .before .before .before .before .before .before .before .before .before .before .before .pack in
+    let stand-at = c .before .before .before .before .before .before .before .before .before .before .before .before .before .before .before .before .before .before .before .before .before .before .before .stand in
+    let stand2-at = c .before .before .before .before .before .before .before .before .before .before .before .before .before .before .before .before .before .before .before .before .stand2 in
+    let solve-at = c .before .before .before .before .before .before .before .before .before .before .solve in
+    let h : length (s .args .key .now) ≤ 255 = omega (arith, s .pre .1 .1 .2, s .pre .0 .opened .sized .at-most) in run-ok (asked (s .args .st)) (s .args .records .now) (s .pre .0) (length (s .args .key .now)) (length (s .args .need .now)) _ _ (s .pre .1 .1 .2) (pack-at .ensures) (s .pre .1 .0) (s .pre .1 .1 .0) h (stand-at .ensures) (stand2-at .ensures) (s .pre .1 .1 .1) (solve-at .ensures)
 
 pub run-spec : {M : Type 1} → statement M
 run-spec =
