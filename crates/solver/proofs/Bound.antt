@@ -133,38 +133,30 @@ module _ (N : Net) (key par : List ℕ) (sized : Sized N (length key)) (feasible
   pub in-range : (v : ℕ) → v < length key → entry key v < unreached → entry (N .pi) v + entry key v / 256 ≤ 8322818
   in-range v hv hr = omega (arith, high v hv hr .height, up-to-length key (entry key v))
 
-  -- where the search ended, no residual arc leaves the reached vertices
-  pub closed-forward : (e : ℕ) → e < length (N .from) → entry (N .x) e < entry (N .cap) e → entry key (tail N e) < unreached → entry key (head N e) < unreached
-  closed-forward e he hx hr = go (decLt (entry key (head N e)) unreached)
+  -- where the search ended, no residual arc leaves the reached vertices: one of length len from u to v
+  closed : (u v len : ℕ) → u < length key → v < length key → entry key u < unreached → entry (N .pi) v + len ≤ entry (N .pi) u + 32767
+      → entry key v ≤ over (entry key u) len → entry key v < unreached
+  closed u v len hu hv hr rise near = go (decLt (entry key v) unreached)
     where
-      go : Dec (entry key (head N e) < unreached) → entry key (head N e) < unreached
+      go : Dec (entry key v < unreached) → entry key v < unreached
       go (yes h) = h
       go (no h) = absurd (omega (
         arith,
-        done e he .forward hx hr,
-        feasible .forward e he hx,
-        high (tail N e) (sized .tails e he) hr .height,
-        high (tail N e) (sized .tails e he) hr .hops,
-        up-to-more key (head N e) (entry key (tail N e)) (sized .heads e he) (omega arith),
-        up-to-length key (entry key (head N e)),
-        sized .costs e,
+        near,
+        rise,
+        high u hu hr .height,
+        high u hu hr .hops,
+        up-to-more key v (entry key u) hv (omega arith),
+        up-to-length key (entry key v),
       ))
 
+  pub closed-forward : (e : ℕ) → e < length (N .from) → entry (N .x) e < entry (N .cap) e → entry key (tail N e) < unreached → entry key (head N e) < unreached
+  closed-forward e he hx hr =
+      closed (tail N e) (head N e) (up N e - down N e) (sized .tails e he) (sized .heads e he) hr (omega (arith, feasible .forward e he hx, sized .costs e)) (done e he .forward hx hr)
+
   pub closed-backward : (e : ℕ) → e < length (N .from) → 0 < entry (N .x) e → entry key (head N e) < unreached → entry key (tail N e) < unreached
-  closed-backward e he hx hr = go (decLt (entry key (tail N e)) unreached)
-    where
-      go : Dec (entry key (tail N e) < unreached) → entry key (tail N e) < unreached
-      go (yes h) = h
-      go (no h) = absurd (omega (
-        arith,
-        done e he .backward hx hr,
-        feasible .backward e he hx,
-        high (head N e) (sized .heads e he) hr .height,
-        high (head N e) (sized .heads e he) hr .hops,
-        up-to-more key (tail N e) (entry key (head N e)) (sized .tails e he) (omega arith),
-        up-to-length key (entry key (tail N e)),
-        sized .costs e,
-      ))
+  closed-backward e he hx hr =
+      closed (head N e) (tail N e) (down N e - up N e) (sized .heads e he) (sized .tails e he) hr (omega (arith, feasible .backward e he hx)) (done e he .backward hx hr)
 
   -- one phase: the target's key is d, and pi' are the raised potentials
   module _ (d : ℕ) (hd : d < unreached) (pi' : List ℕ) (R : Raised d key (N .pi) pi') where
