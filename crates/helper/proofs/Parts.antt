@@ -14,6 +14,7 @@ use Rattle.prelude.specs.Lists.{at}
 use Rattle.network.specs.Network.{Arc, Load}
 use Rattle.solver.specs.Certify.{recordArc, recordArcs}
 use Rattle.solver.specs.Instance.{loadsOf}
+use Rattle.solver.proofs.Columns.{loads-arcs}
 use Rattle.format.specs.Bytes.{byte32, readSigned, listTo}
 use Rattle.format.specs.Files.{loadBytes, loadAt}
 use Rattle.format.specs.Promises.{Signed32, LoadFits}
@@ -23,48 +24,55 @@ use Rattle.format.proofs.Writing.{sets-past, then-sets}
 
 -- ---- records one after the other, k bytes each
 
-module _ {A : Type 0} (write : A → List ℕ) (read : List ℕ → ℕ → A) (k : ℕ) (W : A → Type 0) (code : Coding write read k W) where
-  one-more : (l₀ : List ℕ) (xs : List A) (x : A) (v : ℕ) {l m : List ℕ} → length xs ≡ v → l ≡ sets l₀ 0 (flatMap write xs) → m ≡ sets l (k * v) (write x)
-      → m ≡ sets l₀ 0 (flatMap write (xs ++ x ∷ []))
-  unfolding flatMap
-  one-more l₀ xs x v n p q =
-      then-sets l₀ 0 (flatMap write xs) (write x) (k * v) p (sym (zero-add (length (flatMap write xs)) ∙ flat-length write read k W code xs ∙ ap (λ (j : ℕ). k * j) n)) q
-      ∙ sym (ap (sets l₀ 0) (flat-append write xs (x ∷ []) ∙ ap (λ (b : List ℕ). flatMap write xs ++ b) (append-nil (write x))))
-
 pub kept : (l₀ : List ℕ) (i : ℕ) (vs : List ℕ) {l : List ℕ} → l ≡ sets l₀ i vs → length l ≡ length l₀
 kept l₀ i vs e = ap length e ∙ length-sets l₀ i vs
 
--- ---- the node numbers
+module _ {A : Type 0} (write : A → List ℕ) (read : List ℕ → ℕ → A) (k : ℕ) (W : A → Type 0) (code : Coding write read k W) (l₀ : List ℕ) (item : ℕ → A) (n : ℕ) where
+  -- of n records numbered from 0 on, those below e are written
+  pub record Writing (l : List ℕ) (e : ℕ) : Type 0 where
+    pub within : e ≤ n
+    pub are : l ≡ sets l₀ 0 (flatMap write (listTo e item))
 
-module _ (l₀ : List ℕ) (ys : List ℤ) where
-  -- those below v are written
-  pub record Numbering (l : List ℕ) (v : ℕ) : Type 0 where
-    pub within : v ≤ length ys
-    pub are : l ≡ sets l₀ 0 (flatMap byte32 (take v ys))
+  pub write-none : Writing l₀ 0
+  unfolding flatMap listTo
+  write-none = record { within = omega arith; are = refl }
 
-  pub number-none : Numbering l₀ 0
-  unfolding flatMap
-  number-none = record { within = omega arith; are = refl }
-
-  pub number-turn : (l m : List ℕ) (v : ℕ) → v < length ys → m ≡ sets l (4 * v) (byte32 (at ys v)) → Numbering l v → Numbering m (v + 1)
-  number-turn l m v h q N = record {
+  pub write-turn : (l m : List ℕ) (e : ℕ) → e < n → m ≡ sets l (k * e) (write (item e)) → Writing l e → Writing m (e + 1)
+  unfolding flatMap listTo
+  write-turn l m e h q N = record {
     within = omega arith;
-    are = one-more byte32 readSigned 4 Signed32 numbers-coded l₀ (take v ys) (at ys v) v (length-take-le v ys (omega arith)) (N .are) q
-        ∙ ap (λ (zs : List ℤ). sets l₀ 0 (flatMap byte32 zs)) (sym (take-suc ys v (pos 0) h) ∙ ap (λ (j : ℕ). take j ys) (sym (add-one v)));
+    are = then-sets l₀ 0 (flatMap write (listTo e item)) (write (item e)) (k * e) (N .are)
+        (sym (zero-add (length (flatMap write (listTo e item))) ∙ flat-length write read k W code (listTo e item) ∙ ap (λ (j : ℕ). k * j) (listTo-length e item))) q
+        ∙ sym (ap (sets l₀ 0) (flat-append write (listTo e item) (item e ∷ []) ∙ ap (λ (b : List ℕ). flatMap write (listTo e item) ++ b) (append-nil (write (item e)))))
+        ∙ ap (λ (j : ℕ). sets l₀ 0 (flatMap write (listTo j item))) (sym (add-one e));
   }
 
-  pub number-length : (l : List ℕ) (v : ℕ) → Numbering l v → length l ≡ length l₀
-  number-length l v N = kept l₀ 0 (flatMap byte32 (take v ys)) (N .are)
+  pub write-length : (l : List ℕ) (e : ℕ) → Writing l e → length l ≡ length l₀
+  write-length l e N = kept l₀ 0 (flatMap write (listTo e item)) (N .are)
 
-  pub number-end : (l : List ℕ) (v : ℕ) → length ys ≤ v → Numbering l v → l ≡ sets l₀ 0 (flatMap byte32 ys)
-  number-end l v h N =
-      let e : v ≡ length ys = omega (arith, N .within) in
-      N .are ∙ ap (λ (zs : List ℤ). sets l₀ 0 (flatMap byte32 zs)) (ap (λ (j : ℕ). take j ys) e ∙ take-length ys)
+  pub write-end : (l : List ℕ) (e : ℕ) (xs : List A) → n ≤ e → listTo n item ≡ xs → Writing l e → l ≡ sets l₀ 0 (flatMap write xs)
+  write-end l e xs h same N =
+      let j : e ≡ n = omega (arith, N .within) in
+      N .are ∙ ap (λ (ys : List A). sets l₀ 0 (flatMap write ys)) (ap (λ (i : ℕ). listTo i item) j ∙ same)
+
+-- ---- the node numbers
+
+abbrev pub Numbering : List ℕ → List ℤ → List ℕ → ℕ → Type 0
+Numbering l₀ ys = Writing byte32 readSigned 4 Signed32 numbers-coded l₀ (at ys) (length ys)
+
+pub numbers-listed : (ys : List ℤ) → listTo (length ys) (at ys) ≡ ys
+numbers-listed ys = listTo-take (pos 0) ys (at ys) (λ e h. refl) (length ys) (omega arith) ∙ take-length ys
 
 -- ---- the records with their amounts
 
-abbrev loaded : Arc → ℕ → Load
+abbrev pub loaded : Arc → ℕ → Load
 loaded a x = record { arc = a; amount = x }
+
+abbrev pub loadAmong : (ℕ → Arc) → List ℕ → ℕ → Load
+loadAmong g xs e = loaded (g e) (getD xs e 0)
+
+abbrev pub Loading : List ℕ → (ℕ → Arc) → List ℕ → List ℕ → ℕ → Type 0
+Loading l₀ g xs = Writing loadBytes loadAt 6 LoadFits loads-coded l₀ (loadAmong g xs) (length xs)
 
 loads-more : (es : List Arc) (a : Arc) (xs : List ℕ) → loadsOf (es ++ a ∷ []) xs ≡ loadsOf es xs ++ (loaded a (getD xs (length es) 0) ∷ [])
 unfolding loadsOf
@@ -73,39 +81,15 @@ loads-more [] a (x ∷ xs) = refl
 loads-more (e ∷ es) a [] = ap (λ (f : List Load). loaded e 0 ∷ f) (loads-more es a [])
 loads-more (e ∷ es) a (x ∷ xs) = ap (λ (f : List Load). loaded e x ∷ f) (loads-more es a xs)
 
+pub loads-listed : (g : ℕ → Arc) (xs : List ℕ) (n : ℕ) → listTo n (loadAmong g xs) ≡ loadsOf (listTo n g) xs
+unfolding listTo loadsOf
+loads-listed g xs zero = refl
+loads-listed g xs (suc n) =
+    ap (λ (f : List Load). f ++ (loadAmong g xs n ∷ [])) (loads-listed g xs n)
+    ∙ ap (λ (j : ℕ). loadsOf (listTo n g) xs ++ (loaded (g n) (getD xs j 0) ∷ [])) (sym (listTo-length n g)) ∙ sym (loads-more (listTo n g) (g n) xs)
+
 pub loads-length : (es : List Arc) (xs : List ℕ) → length (loadsOf es xs) ≡ length es
-unfolding loadsOf
-loads-length [] xs = refl
-loads-length (e ∷ es) [] = ap suc (loads-length es [])
-loads-length (e ∷ es) (x ∷ xs) = ap suc (loads-length es xs)
-
-module _ (l₀ : List ℕ) (g : ℕ → Arc) (xs : List ℕ) where
-  -- those below e are written
-  pub record Loading (l : List ℕ) (e : ℕ) : Type 0 where
-    pub within : e ≤ length xs
-    pub are : l ≡ sets l₀ 0 (flatMap loadBytes (loadsOf (listTo e g) xs))
-
-  pub load-none : Loading l₀ 0
-  unfolding flatMap loadsOf listTo
-  load-none = record { within = omega arith; are = refl }
-
-  pub load-turn : (l m : List ℕ) (e : ℕ) → e < length xs → m ≡ sets l (6 * e) (loadBytes (loaded (g e) (getD xs e 0))) → Loading l e → Loading m (e + 1)
-  unfolding listTo
-  load-turn l m e h q L = record {
-    within = omega arith;
-    are = one-more loadBytes loadAt 6 LoadFits loads-coded l₀ (loadsOf (listTo e g) xs) (loaded (g e) (getD xs e 0)) e (loads-length (listTo e g) xs ∙ listTo-length e g) (L .are) q
-        ∙ ap (λ (f : List Load). sets l₀ 0 (flatMap loadBytes f))
-        (ap (λ (j : ℕ). loadsOf (listTo e g) xs ++ (loaded (g e) (getD xs j 0) ∷ [])) (sym (listTo-length e g)) ∙ sym (loads-more (listTo e g) (g e) xs))
-        ∙ ap (λ (j : ℕ). sets l₀ 0 (flatMap loadBytes (loadsOf (listTo j g) xs))) (sym (add-one e));
-  }
-
-  pub load-length : (l : List ℕ) (e : ℕ) → Loading l e → length l ≡ length l₀
-  load-length l e L = kept l₀ 0 (flatMap loadBytes (loadsOf (listTo e g) xs)) (L .are)
-
-  pub load-end : (l : List ℕ) (e : ℕ) → length xs ≤ e → Loading l e → l ≡ sets l₀ 0 (flatMap loadBytes (loadsOf (listTo (length xs) g) xs))
-  load-end l e h L =
-      let k : e ≡ length xs = omega (arith, L .within) in
-      L .are ∙ ap (λ (j : ℕ). sets l₀ 0 (flatMap loadBytes (loadsOf (listTo j g) xs))) k
+loads-length es xs = sym (length-map (loadsOf es xs) (λ l. l .arc)) ∙ ap length (loads-arcs es xs)
 
 -- ---- a part that is lent on
 

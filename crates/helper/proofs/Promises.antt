@@ -7,6 +7,7 @@ use native.Mathlib.Omega.{arith}
 use lib.Dec.{leb, le→leb}
 use lib.IntN.{ℤ, pos, negℤ}
 use lib.ListN.{length, take}
+use lib.Signed.{_≤ℤ_}
 use Rattle.prelude.specs.Checks.{_unless_}
 use Rattle.prelude.specs.Lists.{Every, Perm, at}
 use Rattle.prelude.proofs.Settle.{settled, hold-append}
@@ -30,11 +31,14 @@ use Rattle.helper.specs.Promises.{JudgedTruly, HelperServes}
 
 -- ---- the fields are wide enough for what meets the rules
 
+in-32-bits : (low high z : ℤ) → negℤ (pos 8322818) ≤ℤ low → high ≤ℤ pos 8322818 → InRange low high z → Signed32 z
+in-32-bits low high z l u h = omega (signed, l, u, h .above, h .below, parts-mag z, parts-min z)
+
 potential-fits : (z : ℤ) → InRange (negℤ (pos 8322818)) (pos 8322818) z → Signed32 z
-potential-fits z h = omega (signed, h .above, h .below, parts-mag z, parts-min z)
+potential-fits z = in-32-bits (negℤ (pos 8322818)) (pos 8322818) z (omega signed) (omega signed)
 
 mark-fits : (z : ℤ) → InRange (pos 0) (pos 1) z → Signed32 z
-mark-fits z h = omega (signed, h .above, h .below, parts-mag z, parts-min z)
+mark-fits z = in-32-bits (pos 0) (pos 1) z (omega signed) (omega signed)
 
 number-fits : (q : Question) (st : Setting) (y : ℕ → ℤ) (f : List Load) (a : Answer) → CertifiedFor q st y f a → (v : ℕ) → v < st .n → Signed32 (y v)
 number-fits shortestPath st y f (value d) c v h = potential-fits (y v) (c .potentials v h)

@@ -6,8 +6,12 @@ use lib.ListN.{length, getD}
 use lib.Seq.{sets}
 use borrow.Author.Needs.{needs}
 use Rattle.network.specs.Network.{Arc}
-use Rattle.format.specs.Files.{arcIn, loadBytes}
-use Rattle.helper.proofs.Parts.{Loading, load-none, load-turn, load-length, load-end}
+use Rattle.solver.specs.Instance.{loadsOf}
+use Rattle.format.specs.Bytes.{listTo}
+use Rattle.format.specs.Files.{arcIn, loadBytes, loadAt}
+use Rattle.format.specs.Promises.{LoadFits}
+use Rattle.format.proofs.Codings.{loads-coded}
+use Rattle.helper.proofs.Parts.{Loading, loadAmong, loads-listed, write-none, write-turn, write-length, write-end}
 use Rattle.helper.proofs.writing.write_loads.Statement.{statement}
 use Rattle.helper.proofs.writing.write_loads.Tie as tie
 
@@ -21,7 +25,7 @@ loop-again : tie.Need-loop-again Inv-loop μ-loop
 loop-again c =
     let s = c .before .before .before .before .before .before .before .before .before .before .before .args in
     let l = c .before .before .before .before .before .before .before .loop in
-    load-turn (s .part .now) (arcIn (s .net .now)) (s .amounts .now) (l .part) (c .before .before .write-load .last .0) (l .e) (c .before .before .before .before .before .before .loop-test .taken)
+    write-turn loadBytes loadAt 6 LoadFits loads-coded (s .part .now) (loadAmong (arcIn (s .net .now)) (s .amounts .now)) (length (s .amounts .now)) (l .part) (c .before .before .write-load .last .0) (l .e) (c .before .before .before .before .before .before .loop-test .taken)
     (c .before .before .write-load .ensures ∙ ap (λ (a : Arc). sets (l .part) (6 * l .e) (loadBytes (record { arc = a; amount = getD (s .amounts .now) (l .e) 0 }))) (c .before .before .before .before .before .arc .ensures))
     (l .inv)
 
@@ -29,7 +33,8 @@ returns : tie.Need-returns Inv-loop μ-loop
 returns c =
     let s = c .before .before .before .before .before .args in
     let l = c .before .loop in
-    load-end (s .part .now) (arcIn (s .net .now)) (s .amounts .now) (l .part) (l .e) (c .loop-test .left) (l .inv)
+    write-end loadBytes loadAt 6 LoadFits loads-coded (s .part .now) (loadAmong (arcIn (s .net .now)) (s .amounts .now)) (length (s .amounts .now)) (l .part) (l .e) (loadsOf (listTo (length (s .amounts .now)) (arcIn (s .net .now))) (s .amounts .now)) (c .loop-test .left)
+    (loads-listed (arcIn (s .net .now)) (s .amounts .now) (length (s .amounts .now))) (l .inv)
 
 pub write-loads-spec : {M : Type 1} → statement M
 write-loads-spec =
@@ -37,7 +42,7 @@ write-loads-spec =
     (tie.spec
     Inv-loop
     μ-loop
-    (λ c. load-none _ _ _)
+    (λ c. write-none _ _ _ _ _ _ _ _)
     (λ c κs. search needs)
     (λ c. search needs)
     (λ c. search needs)
@@ -45,5 +50,5 @@ write-loads-spec =
     (λ c. search needs)
     (λ c. search needs)
     loop-again
-    (λ c. let s = c .before .before .before .before .before .args in let l = c .before .loop in load-length (s .part .now) (arcIn (s .net .now)) (s .amounts .now) (l .part) (l .e) (l .inv))
+    (λ c. let s = c .before .before .before .before .before .args in let l = c .before .loop in write-length loadBytes loadAt 6 LoadFits loads-coded (s .part .now) (loadAmong (arcIn (s .net .now)) (s .amounts .now)) (length (s .amounts .now)) (l .part) (l .e) (l .inv))
     returns)

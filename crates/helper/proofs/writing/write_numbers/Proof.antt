@@ -9,8 +9,10 @@ use mir.Syntax.{w32}
 use borrow.Author.Needs.{needs}
 use Rattle.prelude.specs.Lists.{at}
 use Rattle.prelude.proofs.Signs.{back}
-use Rattle.format.specs.Bytes.{byte32}
-use Rattle.helper.proofs.Parts.{Numbering, number-none, number-turn, number-length, number-end}
+use Rattle.format.specs.Bytes.{byte32, readSigned}
+use Rattle.format.specs.Promises.{Signed32}
+use Rattle.format.proofs.Codings.{numbers-coded}
+use Rattle.helper.proofs.Parts.{Numbering, numbers-listed, write-none, write-turn, write-length, write-end}
 use Rattle.helper.proofs.writing.write_numbers.Statement.{statement}
 use Rattle.helper.proofs.writing.write_numbers.Tie as tie
 
@@ -24,7 +26,7 @@ loop-again : tie.Need-loop-again Inv-loop μ-loop
 loop-again c =
     let s = c .before .before .before .before .before .before .before .before .args in
     let l = c .before .before .before .before .before .before .loop in
-    number-turn (s .part .now) (s .numbers .now) (l .part) (c .before .before .write-number .last .0) (l .v) (c .before .before .before .before .before .loop-test .taken)
+    write-turn byte32 readSigned 4 Signed32 numbers-coded (s .part .now) (at (s .numbers .now)) (length (s .numbers .now)) (l .part) (c .before .before .write-number .last .0) (l .v) (c .before .before .before .before .before .loop-test .taken)
     (c .before .before .write-number .ensures ∙ ap (λ (z : ℤ). sets (l .part) (4 * l .v) (byte32 z)) (back w32 (at (s .numbers .now) (l .v)) (c .before .before .before .write-number-arg2 .given)))
     (l .inv)
 
@@ -32,7 +34,7 @@ returns : tie.Need-returns Inv-loop μ-loop
 returns c =
     let s = c .before .before .before .args in
     let l = c .before .loop in
-    number-end (s .part .now) (s .numbers .now) (l .part) (l .v) (c .loop-test .left) (l .inv)
+    write-end byte32 readSigned 4 Signed32 numbers-coded (s .part .now) (at (s .numbers .now)) (length (s .numbers .now)) (l .part) (l .v) (s .numbers .now) (c .loop-test .left) (numbers-listed (s .numbers .now)) (l .inv)
 
 pub write-numbers-spec : {M : Type 1} → statement M
 write-numbers-spec =
@@ -40,12 +42,12 @@ write-numbers-spec =
     (tie.spec
     Inv-loop
     μ-loop
-    (λ c. number-none _ _)
+    (λ c. write-none _ _ _ _ _ _ _ _)
     (λ c. search needs)
     (λ c. search needs)
     (λ c κs. search needs)
     (λ c. search needs)
     (λ c. search needs)
     loop-again
-    (λ c. let s = c .before .before .before .args in let l = c .before .loop in number-length (s .part .now) (s .numbers .now) (l .part) (l .v) (l .inv))
+    (λ c. let s = c .before .before .before .args in let l = c .before .loop in write-length byte32 readSigned 4 Signed32 numbers-coded (s .part .now) (at (s .numbers .now)) (length (s .numbers .now)) (l .part) (l .v) (l .inv))
     returns)

@@ -9,20 +9,20 @@ use Rattle.runs.specs.Exchange.{readRules}
 use Rattle.format.specs.Bytes.{listTo}
 use Rattle.format.specs.Files.{networkFile}
 use Rattle.solver.specs.Instance.{loadsOf}
-use Rattle.known_waters.specs.Table.{R1, R2, R3, R4, R5, R6}
-use Rattle.known_waters.specs.Promises.{KnownWaters}
-use Rattle.known_waters.proofs.Routes.{r1-lengths, r4-lengths}
-use Rattle.known_waters.proofs.Plans.{plan-yields}
-use Rattle.known_waters.proofs.Meetings.{r8-yields, r9-yields}
+use Rattle.worked_examples.specs.Table.{R1, R2, R3, R4, R5, R6}
+use Rattle.worked_examples.specs.Promises.{WorkedExamples}
+use Rattle.worked_examples.proofs.Routes.{r1-lengths, r4-lengths}
+use Rattle.worked_examples.proofs.Plans.{plan-yields}
+use Rattle.worked_examples.proofs.Meetings.{r8-yields, r9-yields}
 
 infixr 5 _and_
 _and_ : {A B : Type 0} → A → B → A × B
 _and_ a b = (a, b)
 
 -- the tests of the plans, the keys and the fingerprints of one arc are computed
-pub known-waters : KnownWaters
+pub worked-examples : WorkedExamples
 unfolding networkFile flatMap listTo readRules loadsOf delta sumOf cut allTo sumTo sumToℤ product
-known-waters =
+worked-examples =
     plan-yields R1 refl refl refl refl refl refl tt tt r1-lengths
     and plan-yields R2 refl refl refl refl refl refl tt tt tt
     and plan-yields R3 refl refl refl refl refl refl tt tt tt

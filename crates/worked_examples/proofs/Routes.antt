@@ -9,6 +9,7 @@ use native.Mathlib.Omega.{arith}
 use lib.Dec.{lit≤}
 use lib.IntN.{ℤ, pos}
 use lib.ListN.{length}
+use lib.Seq.{ext-getD}
 use Rattle.prelude.specs.Integers.{natural}
 use Rattle.prelude.specs.Lists.{Every, Member, at}
 use Rattle.network.specs.Network.{Arc, arcOf, total}
@@ -19,20 +20,13 @@ use Rattle.network.proofs.Paths.{walk-above, no-walk}
 use Rattle.network.proofs.Promises.{one-answer}
 use Rattle.solver.specs.Instance.{toward}
 use Rattle.solver.specs.Certify.{toldBy, Told, LengthsFor}
-use Rattle.known_waters.specs.Table.{setting, SameNumbers, R1, R4}
+use Rattle.worked_examples.specs.Table.{setting, SameNumbers, R1, R4}
 
 -- ---- the numbers of a route are determined
 
--- lists as long with the same entries
-same-list : (ys zs : List ℤ) → length ys ≡ length zs → ((v : ℕ) → v < length ys → at ys v ≡ at zs v) → ys ≡ zs
-same-list [] [] e h = refl
-same-list [] (z ∷ zs) e h = absurd (omega arith)
-same-list (y ∷ ys) [] e h = absurd (omega arith)
-same-list (y ∷ ys) (z ∷ zs) e h = ap₂ _∷_ (h 0 (omega arith)) (same-list ys zs (omega arith) (λ v l. h (suc v) (omega arith)))
-
 pub numbers-alike : (q : Question) (st : Setting) (net : List Arc) (c : Claim) (ys zs : List ℤ) → length ys ≡ st .n → length zs ≡ st .n
     → LengthsFor q st net c (at ys) → LengthsFor q st net c (at zs) → SameNumbers q ys zs
-numbers-alike shortestPath st net c ys zs ny nz hy hz = same-list ys zs (ny ∙ sym nz) (λ v l. go v (hy v (omega arith)) (hz v (omega arith)))
+numbers-alike shortestPath st net c ys zs ny nz hy hz = ext-getD (pos 0) ys zs (ny ∙ sym nz) (λ v l. go v (hy v (omega arith)) (hz v (omega arith)))
   where
     go : (v : ℕ) → Told st net c (at ys) v → Told st net c (at zs) v → at ys v ≡ at zs v
     go v a b = a .told ∙ ap (toldBy c) (one-answer (toward st v) net (a .answer) (b .answer) (a .is-true) (b .is-true)) ∙ sym (b .told)

@@ -1,4 +1,4 @@
--- The known waters R1 to R10: a table of inputs and outcomes, and what it means that the definitions yield the outcomes of a row.
+-- The worked examples R1 to R10, which the scope calls its known waters: a table of inputs and outcomes, and what it means that the definitions yield the outcomes of a row.
 -- Quotations are of the scope's sections "Known waters" and "The strength of the contracts".
 -- Assumes nothing.
 use mathlib.Core.Path.{_≡_}

@@ -26,8 +26,8 @@ use Rattle.judging.proofs.AcceptedFiles.{file-opened, file-readable}
 use Rattle.solver.specs.Certify.{LengthsFor}
 use Rattle.helper.specs.Helper.{Annotation}
 use Rattle.helper.proofs.Promises.{annotation-judged}
-use Rattle.known_waters.specs.Table.{Plan, setting, loads, annotation, Helped, PlanYields}
-use Rattle.known_waters.proofs.Routes.{numbers-alike}
+use Rattle.worked_examples.specs.Table.{Plan, setting, loads, annotation, Helped, PlanYields}
+use Rattle.worked_examples.proofs.Routes.{numbers-alike}
 
 -- every check holds, as one test
 abbrev pub holding : List Check → Bool

@@ -6,7 +6,7 @@ use Prim.Native.Nat.{ℕ, _+_, _*_, _-_, _%_, _<_}
 use native.Mathlib.Omega.{arith}
 use lib.Dec.{lit≤}
 use Rattle.field.specs.Field.{p, product}
-use Rattle.known_waters.specs.Table.{R8, R9, MeetingYields}
+use Rattle.worked_examples.specs.Table.{R8, R9, MeetingYields}
 
 -- a (a + 3) and (a + 2)² differ by a + 4
 line : (a : ℕ) → (a + 3) * (a * 1) % p ≡ (a + 2) * ((a + 2) * 1) % p → (a + 4) % p ≡ 0

@@ -1,0 +1,1 @@
+// Definitions and proofs alone: the worked examples R1 to R10.
