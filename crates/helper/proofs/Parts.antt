@@ -8,7 +8,7 @@ use native.Mathlib.Numerals.{add-one}
 use native.Mathlib.Omega.{arith}
 use lib.IntN.{ℤ, pos}
 use lib.ListN.{length, getD, set, take, drop, length-map, length-drop, drop-of-length-le, List·getD-map}
-use lib.Seq.{sets, length-sets, take-suc, take-length, length-take-le}
+use lib.Seq.{sets, length-sets, take-length}
 use borrow.Rule.Slice.PartMut.{midOf, postOf, putMid}
 use Rattle.prelude.specs.Lists.{at}
 use Rattle.network.specs.Network.{Arc, Load}

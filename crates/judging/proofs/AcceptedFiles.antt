@@ -8,13 +8,16 @@ use lib.ListN.{length}
 use Rattle.prelude.specs.Checks.{Hold}
 use Rattle.prelude.specs.Lists.{Every}
 use Rattle.prelude.proofs.Settle.{hold-left, hold-right}
+use Rattle.field.specs.Field.{p}
 use Rattle.network.specs.Network.{Arc}
 use Rattle.network.specs.Question.{Setting, Opened, Allowed}
 use Rattle.network.specs.Tests.{openingChecks}
 use Rattle.network.proofs.Allowed.{size-rule, ends-rule}
-use Rattle.runs.specs.Exchange.{readRule, readRules, Readable}
+use Rattle.session.specs.Print.{Point}
+use Rattle.session.specs.Steps.{openChecks}
+use Rattle.runs.specs.Exchange.{readRule, readRules, Open, Readable}
 use Rattle.runs.proofs.Good.{arc-allowed}
-use Rattle.format.specs.Files.{questionIn, arcsIn, networkLayout}
+use Rattle.format.specs.Files.{questionIn, nIn, sIn, tIn, arcsIn, networkLayout}
 use Rattle.judging.specs.Judging.{settingIn, AcceptedFile}
 
 pub record Parts (net : List ℕ) : Type 0 where
@@ -44,10 +47,19 @@ arcs-allowed st i [] u = tt
 arcs-allowed st i (e ∷ es) u =
     (arc-allowed st e (hold-left (readRule st i e) (readRules st (suc i) es) u .1), arcs-allowed st (suc i) es (hold-right (readRule st i e) (readRules st (suc i) es) u))
 
+-- what opening lets through
+opened-by : (k : ℕ) (st : Setting) → Hold (openingChecks k st) → Opened st
+opened-by k st h = record { sized = size-rule st (h .1 .0); ends = ends-rule st (h .1 .1 .0) }
+
+pub well-opened : (net : List ℕ) (r : Point) → Hold (openChecks (questionIn net) (nIn net) (sIn net) (tIn net) r) → Open (questionIn net) (nIn net) (sIn net) (tIn net) r
+well-opened net r h = record {
+  question = h .0;
+  opened = opened-by (questionIn net) (settingIn net) (h .0, (h .1 .0, (h .1 .1 .0, tt)));
+  point = ltb→lt r p (h .1 .1 .1 .0);
+}
+
 pub file-opened : (net : List ℕ) → AcceptedFile net → Opened (settingIn net)
-file-opened net h =
-    let o = accepted-parts net h .opening-held in
-    record { sized = size-rule (settingIn net) (o .1 .0); ends = ends-rule (settingIn net) (o .1 .1 .0) }
+file-opened net h = opened-by (questionIn net) (settingIn net) (accepted-parts net h .opening-held)
 
 pub file-readable : (net : List ℕ) → AcceptedFile net → Readable (settingIn net) (arcsIn net)
 file-readable net h =

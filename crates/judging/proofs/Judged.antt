@@ -5,22 +5,20 @@ use mathlib.Core.Bool.{true, false}
 use mathlib.Core.List.{List, [], _∷_, _++_, map}
 use Prim.Native.Nat.{ℕ}
 use native.Mathlib.Omega.{arith}
-use lib.Dec.{ltb→lt}
 use Rattle.prelude.specs.Checks.{Check, _unless_, settle, firstBroken, Hold}
-use Rattle.prelude.proofs.Settle.{settled, settle-append, settle-map, none-broken}
-use Rattle.field.specs.Field.{p}
-use Rattle.network.proofs.Allowed.{size-rule, ends-rule}
+use Rattle.prelude.proofs.Settle.{settled, settled-back, settle-append, settle-map, none-broken}
 use Rattle.session.specs.Print.{Point}
 use Rattle.session.specs.Session.{Said, accepted, gives, refused, said, hand, accept, void, holding, emptyStream}
 use Rattle.session.specs.Steps.{opening}
 use Rattle.session.specs.declared.Answer.the-variants.{Refused}
 use Rattle.session.specs.declared.Reply.{Reply}
 use Rattle.runs.specs.Run.{read, run}
-use Rattle.runs.specs.Exchange.{outcome, Open}
+use Rattle.runs.specs.Exchange.{outcome}
 use Rattle.runs.proofs.Verdict.{reading-broken}
 use Rattle.format.specs.Files.{questionIn, nIn, sIn, tIn, arcsIn, networkLayout, annotationLayout}
-use Rattle.judging.specs.Judging.{settingIn, networkChecks, annotationChecks, judged}
+use Rattle.judging.specs.Judging.{networkChecks, annotationChecks, judged}
 use Rattle.judging.specs.Going.{Goes, stepsIn}
+use Rattle.judging.proofs.AcceptedFiles.{well-opened}
 use Rattle.judging.proofs.Promises.{by-steps, opens, reads, notes, ends, answer}
 use Rattle.judging.proofs.Turns.{goes-no-further, goes-on}
 
@@ -37,9 +35,7 @@ stuck ((k unless true) ∷ cs) later n = stuck cs later n
 stuck ((k unless false) ∷ cs) later n = refl
 
 clear : (cs : List Check) → settle refused cs accepted ≡ accepted → Hold cs
-clear [] e = tt
-clear ((k unless true) ∷ cs) e = (tt, clear cs e)
-clear ((k unless false) ∷ cs) e = let z : _≡_ {A = ℕ} 0 1 = cc in absurd (omega arith)
+clear cs e = settled-back refused cs accepted accepted (λ k q. let z : _≡_ {A = ℕ} 0 1 = cc in omega arith) e .0
 
 -- ---- judging, part by part
 
@@ -90,13 +86,6 @@ module _ (net ann : List ℕ) (r : Point) where
         ho : Hold O
         ho = clear O (sym opening-said ∙ ok)
 
-        opens-well : Open (questionIn net) (nIn net) (sIn net) (tIn net) r
-        opens-well = record {
-          question = ho .0;
-          opened = record { sized = size-rule (settingIn net) (ho .1 .0); ends = ends-rule (settingIn net) (ho .1 .1 .0) };
-          point = ltb→lt r p (ho .1 .1 .1 .0);
-        }
-
         G : Goes (opening (questionIn net) (nIn net) (sIn net) (tIn net) r .session) (map read (arcsIn net)) reply
         G = subst (λ (x : Reply). Goes (x .session) (map read (arcsIn net)) reply) oe g
 
@@ -104,7 +93,7 @@ module _ (net ann : List ℕ) (r : Point) where
         past-opening = past-layout ∙ settled refused O (settle refused R (settle refused A rest)) ho
 
         read-through : settle refused R accepted ≡ outcome (run (opening (questionIn net) (nIn net) (sIn net) (tIn net) r .session) (map read (arcsIn net) ++ []))
-        read-through = sym (reading-broken (questionIn net) (nIn net) (sIn net) (tIn net) r (arcsIn net) opens-well)
+        read-through = sym (reading-broken (questionIn net) (nIn net) (sIn net) (tIn net) r (arcsIn net) (well-opened net r ho))
 
         pub at-reading : (said (reply .answer) ≡ accepted → ⊥) → said (reply .answer) ≡ judged net ann r
         at-reading n =

@@ -5,7 +5,7 @@ use mathlib.Core.List.{List, [], _∷_, _++_, map, append-nil, append-assoc}
 use mathlib.Core.Logic.{inl, inr}
 use Prim.Native.Nat.{ℕ, suc, _≤_}
 use native.Mathlib.Omega.{arith}
-use lib.Dec.{lt→ltb, ltb→lt}
+use lib.Dec.{lt→ltb}
 use lib.IntN.{ℤ}
 use lib.ListN.{length, length-map, length-append}
 use Rattle.prelude.specs.Checks.{Check, _unless_, settle, Hold}
@@ -18,13 +18,12 @@ use Rattle.field.specs.Promises.{misleading}
 use Rattle.network.specs.Network.{Arc, Load}
 use Rattle.network.specs.Question.{Setting, Answer, value, none, TrueAnswer}
 use Rattle.network.specs.Tests.{openingChecks, claimNumber, claimFor, claimOf, answerOf}
-use Rattle.network.proofs.Allowed.{size-rule, ends-rule}
 use Rattle.network.proofs.Promises.{certificates-sound}
 use Rattle.session.specs.Print.{Point, pointOk}
 use Rattle.session.specs.Session.{Said, accepted, gives, refused}
 use Rattle.session.specs.Steps.{openChecks}
 use Rattle.runs.specs.Run.{Step, read, end, claim, number, repeat, finish, runFrom, listFrom, listRead, Wrong, WrongAt}
-use Rattle.runs.specs.Exchange.{exchange, outcome, readRule, readRules, sumsAt, annotationRules, finalRules, Open}
+use Rattle.runs.specs.Exchange.{exchange, outcome, readRule, readRules, sumsAt, annotationRules, finalRules}
 use Rattle.runs.proofs.Looks.{no-answer}
 use Rattle.runs.proofs.Meets.{given}
 use Rattle.runs.proofs.Bound.{wrong-held}
@@ -33,7 +32,7 @@ use Rattle.format.specs.Files.{questionIn, nIn, sIn, tIn, arcsIn, claimIn, numb
 use Rattle.format.specs.Promises.{Byte}
 use Rattle.format.proofs.Promises.{annotation-round-trip}
 use Rattle.judging.specs.Judging.{settingIn, numbersFor, loadsFor, networkChecks, annotationChecks, judged, JudgedWrong}
-use Rattle.judging.proofs.AcceptedFiles.{accepted-parts, file-opened, file-readable}
+use Rattle.judging.proofs.AcceptedFiles.{accepted-parts, well-opened, file-opened, file-readable}
 use Rattle.judging.specs.Promises.{JudgedBySteps, FewJudgedWrong, OnlyAccepted, CertificatesJudged}
 
 -- ---- the list read of an exchange
@@ -87,14 +86,7 @@ module _ (net ann : List ℕ) (r : Point) where
       ∙ settle-append refused (annotationLayout (nIn net) ann) (notes ++ ends) (gives answer)
       ∙ settled refused (annotationLayout (nIn net) ann) (settle refused (notes ++ ends) (gives answer)) ha
       ∙ sym (settle-append refused reads (notes ++ ends) (gives answer) ∙ settled refused reads (settle refused (notes ++ ends) (gives answer)) hr)
-      ∙ sym (first-broken (questionIn net) (nIn net) (sIn net) (tIn net) r (arcsIn net) (claimIn ann) (numbersFor net ann) (loadsFor net ann) open-ok)
-    where
-      open-ok : Open (questionIn net) (nIn net) (sIn net) (tIn net) r
-      open-ok = record {
-        question = ho .0;
-        opened = record { sized = size-rule st (ho .1 .0); ends = ends-rule st (ho .1 .1 .0) };
-        point = ltb→lt r p (ho .1 .1 .1 .0);
-      }
+      ∙ sym (first-broken (questionIn net) (nIn net) (sIn net) (tIn net) r (arcsIn net) (claimIn ann) (numbersFor net ann) (loadsFor net ann) (well-opened net r ho))
 
 pub judged-by-steps : JudgedBySteps
 judged-by-steps net ann r h ha hr =

@@ -1,13 +1,14 @@
 -- What the judging program answers is never an acceptance.
 -- Assumes nothing.
 use mathlib.Core.Path.{_≡_, sym, _∙_}
-use mathlib.Core.Bool.{true, false}
+use mathlib.Core.Bool.{false}
 use mathlib.Core.List.{List, [], _∷_, _++_}
 use Prim.Native.Nat.{ℕ, _≤_}
 use native.Mathlib.Decide.{decLe}
 use native.Mathlib.Omega.{arith}
 use lib.ListN.{length}
 use Rattle.prelude.specs.Checks.{Check, _unless_, settle}
+use Rattle.prelude.proofs.Settle.{settled-back}
 use Rattle.network.specs.Question.{Answer, none}
 use Rattle.session.specs.Print.{Point}
 use Rattle.session.specs.Session.{Said, accepted, gives, refused}
@@ -16,9 +17,10 @@ use Rattle.plan_files.specs.AnswerLine.{JudgedAt, Answered}
 
 -- checks refuse or let an answer through
 not-accepted : (cs : List Check) (a : Answer) → settle refused cs (gives a) ≡ accepted → ⊥
-not-accepted [] a e = let z : _≡_ {A = ℕ} 0 1 = cc in omega arith
-not-accepted ((k unless true) ∷ cs) a e = not-accepted cs a e
-not-accepted ((k unless false) ∷ cs) a e = let z : _≡_ {A = ℕ} 0 1 = cc in omega arith
+not-accepted cs a e =
+    let same = settled-back refused cs (gives a) accepted (λ k q. let z : _≡_ {A = ℕ} 0 1 = cc in omega arith) e .1 in
+    let z : _≡_ {A = ℕ} 0 1 = cc in
+    omega arith
 
 judged-not-accepted : {r : Point} {answer : Said} → JudgedAt r answer → answer ≡ accepted → ⊥
 judged-not-accepted {r} j e = not-accepted (networkChecks (j .net) r ++ annotationChecks (j .net) (j .ann) r) _ (sym (j .judges) ∙ e)

@@ -1,7 +1,7 @@
 -- The room of 32768 bytes is large enough for the annotation of every accepted file, so check 20 refuses none.
 -- Assumes nothing.
-use mathlib.Core.Path.{_≡_, ap, _∙_}
-use mathlib.Core.Bool.{Bool, true, false}
+use mathlib.Core.Path.{_≡_, sym, ap, _∙_}
+use mathlib.Core.Bool.{Bool}
 use mathlib.Core.List.{List, [], _∷_}
 use Prim.Native.Nat.{ℕ, _≤_}
 use native.Mathlib.Omega.{arith}
@@ -9,12 +9,12 @@ use lib.Dec.{leb}
 use borrow.Author.Tests.{le-leb}
 use Rattle.prelude.specs.Checks.{Check, _unless_, settle, Hold}
 use Rattle.prelude.specs.Choice.{pick}
-use Rattle.prelude.proofs.Settle.{settle-append, settle-when}
+use Rattle.prelude.proofs.Settle.{settled-back, settle-append, settle-when}
 use Rattle.format.specs.Files.{countIn, arcIn}
 use Rattle.format.proofs.Records.{listTo-length}
 use Rattle.judging.specs.Judging.{helperChecks, AcceptedFile}
 use Rattle.judging.proofs.AcceptedFiles.{file-opened, file-readable}
-use Rattle.helper.specs.Helper.{Done, wrote, refused, annotated, sizeFor}
+use Rattle.helper.specs.Helper.{wrote, refused, annotated, sizeFor}
 use Rattle.plan_files.specs.AnnotationLine.{annotatedInRoom}
 
 -- at most 8 + 4 * 255 + 6 * 4096 bytes
@@ -28,9 +28,10 @@ in-room net =
     (λ h. ap (λ (b : Bool). pick b (wrote (sizeFor net)) (refused 20)) (le-leb (sizeFor net) 32768 (omega (arith, small net h))))
 
 wrote-held : (cs : List Check) (s k : ℕ) → wrote k ≡ settle refused cs (wrote s) → Hold cs × (k ≡ s)
-wrote-held [] s k e = (tt, cc)
-wrote-held ((k' unless true) ∷ cs) s k e = let u = wrote-held cs s k e in ((tt, u .0), u .1)
-wrote-held ((k' unless false) ∷ cs) s k e = let z : _≡_ {A = ℕ} 0 1 = cc in absurd (omega arith)
+wrote-held cs s k e =
+    let u = settled-back refused cs (wrote s) (wrote k) (λ j q. let z : _≡_ {A = ℕ} 0 1 = cc in omega arith) (sym e) in
+    let same = u .1 in
+    (u .0, cc)
 
 -- the bytes that are written lie in the room
 pub within : (net : List ℕ) (k : ℕ) → wrote k ≡ annotatedInRoom net → k ≤ 32768

@@ -29,6 +29,12 @@ settle-when g [] v w h = h tt
 settle-when g ((k unless true) ∷ cs) v w h = settle-when g cs v w (λ a. h (tt, a))
 settle-when g ((k unless false) ∷ cs) v w h = refl
 
+-- what is settled and is no refusal is the value, and every check holds
+pub settled-back : {A : Type 0} (g : ℕ → A) (cs : List Check) (v w : A) → ((k : ℕ) → g k ≡ w → ⊥) → settle g cs v ≡ w → Hold cs × (v ≡ w)
+settled-back g [] v w n e = (tt, e)
+settled-back g ((k unless true) ∷ cs) v w n e = let u = settled-back g cs v w n e in ((tt, u .0), u .1)
+settled-back g ((k unless false) ∷ cs) v w n e = absurd (n k e)
+
 pub hold-append : (cs ds : List Check) → Hold cs → Hold ds → Hold (cs ++ ds)
 hold-append [] ds h k = k
 hold-append ((j unless b) ∷ cs) ds h k = (h .0, hold-append cs ds (h .1) k)

@@ -2,7 +2,7 @@
 -- Assumes nothing.
 use mathlib.Core.Path.{_≡_, refl, sym, _∙_, ap, subst}
 use mathlib.Core.Logic.{_↔_}
-use mathlib.Core.Bool.{true, false, _&&_}
+use mathlib.Core.Bool.{_&&_}
 use mathlib.Core.List.{List, [], _∷_, _++_}
 use Prim.Native.Nat.{ℕ, zero, suc, _+_, _≤_, _<_}
 use native.Mathlib.Omega.{arith}
@@ -12,11 +12,11 @@ use lib.Dec.{T, eqb, leb, eqb→eq, eqb-refl, leb→le, le→leb, ltb→lt, lt�
 use lib.IntN.{ℤ}
 use lib.ListN.{length, take, length-map}
 use lib.Seq.{take-all}
-use Rattle.prelude.specs.Checks.{Check, _unless_, settle, Hold}
+use Rattle.prelude.specs.Checks.{Check, settle, Hold}
 use Rattle.prelude.specs.Lists.{Every, all, at}
 use Rattle.prelude.proofs.Booleans.{and-left, and-right, both}
 use Rattle.prelude.proofs.Permutations.{perm-sym, perm-length, perm-every, perm-map}
-use Rattle.prelude.proofs.Settle.{settled, hold-append, hold-left, hold-right}
+use Rattle.prelude.proofs.Settle.{settled, hold-append, hold-left, hold-right, settled-back}
 use Rattle.prelude.proofs.Sums.{allTo-at, at-allTo}
 use Rattle.field.proofs.Promises.{permutations-agree}
 use Rattle.network.specs.Network.{Arc, Load, arcs, key}
@@ -36,9 +36,7 @@ use Rattle.runs.proofs.Verdict.{first-broken, last-gives}
 -- ---- an answer is given where every rule holds
 
 pub given : (cs : List Check) (v a : Answer) → settle refused cs (gives v) ≡ gives a → Hold cs × (v ≡ a)
-given [] v a e = (tt, cc)
-given ((k unless true) ∷ cs) v a e = let u = given cs v a e in ((tt, u .0), u .1)
-given ((k unless false) ∷ cs) v a e = absurd (no-answer k a e)
+given cs v a e = let u = settled-back refused cs (gives v) (gives a) (λ k. no-answer k a) e in let same = u .1 in (u .0, cc)
 
 -- ---- the claim
 
