@@ -6,12 +6,15 @@ use mathlib.Core.List.{List, [], _∷_, _++_, map}
 use Prim.Native.Nat.{ℕ}
 use native.Mathlib.Omega.{arith}
 use Rattle.prelude.specs.Checks.{Check, _unless_, settle, firstBroken, Hold}
-use Rattle.prelude.proofs.Settle.{settled, settled-back, settle-append, settle-map, none-broken}
+use Rattle.prelude.proofs.Settle.{settled, settled-back, settle-append, none-broken}
 use Rattle.session.specs.Print.{Point}
-use Rattle.session.specs.Session.{Said, accepted, gives, refused, said, hand, accept, void, holding, emptyStream}
+use Rattle.session.specs.Session.{Said, accepted, gives, refused, joined, zeros}
 use Rattle.session.specs.Steps.{opening}
-use Rattle.session.specs.declared.Answer.the-variants.{Refused}
+use Rattle.session.specs.Turns.{openTurn}
 use Rattle.session.specs.declared.Reply.{Reply}
+use Rattle.session.specs.declared.Session.{Session}
+use Rattle.session.specs.declared.Turn.{Turn}
+use Rattle.session.proofs.Turns.{open-found, open-accepted}
 use Rattle.runs.specs.Run.{read, run}
 use Rattle.runs.specs.Exchange.{outcome}
 use Rattle.runs.proofs.Verdict.{reading-broken}
@@ -34,8 +37,11 @@ stuck [] later n = absurd (n refl)
 stuck ((k unless true) ∷ cs) later n = stuck cs later n
 stuck ((k unless false) ∷ cs) later n = refl
 
+not-accepted : (k : ℕ) → refused k ≡ accepted → ⊥
+not-accepted k e = let z : _≡_ {A = ℕ} 0 1 = cc in omega arith
+
 clear : (cs : List Check) → settle refused cs accepted ≡ accepted → Hold cs
-clear cs e = settled-back refused cs accepted accepted (λ k q. let z : _≡_ {A = ℕ} 0 1 = cc in omega arith) e .0
+clear cs e = settled-back refused cs accepted accepted not-accepted e .0
 
 -- ---- judging, part by part
 
@@ -72,22 +78,19 @@ module _ (net ann : List ℕ) (r : Point) where
     past-layout : judged net ann r ≡ settle refused O (settle refused R (settle refused A rest))
     past-layout = apart ∙ settled refused L (settle refused O (settle refused R (settle refused A rest))) hl
 
-    module _ (opened : Reply) (oe : opened ≡ opening (questionIn net) (nIn net) (sIn net) (tIn net) r) where
-      opening-said : said (opened .answer) ≡ settle refused O accepted
-      unfolding opening
-      opening-said =
-          ap (λ (x : Reply). said (x .answer)) oe
-          ∙ settle-map (λ (x : Reply). said (x .answer)) (λ why. hand void (Refused why)) O (accept (holding 1 (record { question = questionIn net; n = nIn net; s = sIn net; t = tIn net }) r emptyStream))
+    module _ (u : Turn) (oe : u ≡ openTurn (questionIn net) (nIn net) (sIn net) (tIn net) r) where
+      at-first : u .why ≡ firstBroken O
+      at-first = open-found (questionIn net) (nIn net) (sIn net) (tIn net) r u oe
 
-      pub at-opening : (said (opened .answer) ≡ accepted → ⊥) → said (opened .answer) ≡ judged net ann r
-      at-opening n = opening-said ∙ sym (past-layout ∙ stuck O (settle refused R (settle refused A rest)) (λ e. n (opening-said ∙ e)))
+      pub at-opening : (u .why ≡ 0 → ⊥) → refused (u .why) ≡ judged net ann r
+      at-opening n = sym (past-layout ∙ broken-here O (settle refused R (settle refused A rest)) (u .why) at-first n)
 
-      module _ (ok : said (opened .answer) ≡ accepted) (reply : Reply) (g : Goes (opened .session) (map read (arcsIn net)) reply) where
+      module _ (ok : u .why ≡ 0) (k : ℕ) (y : Session) (g : Goes (joined zeros zeros (u .state)) (map read (arcsIn net)) k y) where
         ho : Hold O
-        ho = clear O (sym opening-said ∙ ok)
+        ho = none-broken O (refl, (refl, (refl, (refl, tt)))) (sym at-first ∙ ok)
 
-        G : Goes (opening (questionIn net) (nIn net) (sIn net) (tIn net) r .session) (map read (arcsIn net)) reply
-        G = subst (λ (x : Reply). Goes (x .session) (map read (arcsIn net)) reply) oe g
+        G : Goes (opening (questionIn net) (nIn net) (sIn net) (tIn net) r .session) (map read (arcsIn net)) k y
+        G = subst (λ (x : Reply). Goes (x .session) (map read (arcsIn net)) k y) (open-accepted (questionIn net) (nIn net) (sIn net) (tIn net) r u oe ok) g
 
         past-opening : judged net ann r ≡ settle refused R (settle refused A rest)
         past-opening = past-layout ∙ settled refused O (settle refused R (settle refused A rest)) ho
@@ -95,12 +98,12 @@ module _ (net ann : List ℕ) (r : Point) where
         read-through : settle refused R accepted ≡ outcome (run (opening (questionIn net) (nIn net) (sIn net) (tIn net) r .session) (map read (arcsIn net) ++ []))
         read-through = sym (reading-broken (questionIn net) (nIn net) (sIn net) (tIn net) r (arcsIn net) (well-opened net r ho))
 
-        pub at-reading : (said (reply .answer) ≡ accepted → ⊥) → said (reply .answer) ≡ judged net ann r
+        pub at-reading : (k ≡ 0 → ⊥) → refused k ≡ judged net ann r
         at-reading n =
             let q = read-through ∙ goes-no-further G n [] in
-            sym q ∙ sym (past-opening ∙ stuck R (settle refused A rest) (λ e. n (sym q ∙ e)))
+            sym q ∙ sym (past-opening ∙ stuck R (settle refused A rest) (λ e. not-accepted k (sym q ∙ e)))
 
-        module _ (going : said (reply .answer) ≡ accepted) where
+        module _ (going : k ≡ 0) where
           hr : Hold R
           unfolding run
           hr = clear R (read-through ∙ goes-on G going [])
@@ -108,11 +111,11 @@ module _ (net ann : List ℕ) (r : Point) where
           past-reading : judged net ann r ≡ settle refused A rest
           past-reading = past-opening ∙ settled refused R (settle refused A rest) hr
 
-          pub at-annotation : (k n : ℕ) → n ≡ nIn net → k ≡ firstBroken (annotationLayout n ann) → (k ≡ 0 → ⊥) → refused k ≡ judged net ann r
-          at-annotation k n en e no-zero = sym (past-reading ∙ broken-here A rest k (e ∙ ap (λ (j : ℕ). firstBroken (annotationLayout j ann)) en) no-zero)
+          pub at-annotation : (j n : ℕ) → n ≡ nIn net → j ≡ firstBroken (annotationLayout n ann) → (j ≡ 0 → ⊥) → refused j ≡ judged net ann r
+          at-annotation j n en e no-zero = sym (past-reading ∙ broken-here A rest j (e ∙ ap (λ (i : ℕ). firstBroken (annotationLayout i ann)) en) no-zero)
 
-          pub at-steps : (k n : ℕ) → n ≡ nIn net → k ≡ firstBroken (annotationLayout n ann) → k ≡ 0 → (s : Said) → s ≡ outcome (run (reply .session) (stepsIn n ann)) → s ≡ judged net ann r
-          at-steps k n en e z s q =
-              q ∙ ap (λ (j : ℕ). outcome (run (reply .session) (stepsIn j ann))) en
-              ∙ sym (by-steps net ann r hl ho hr (none-broken A (refl, (refl, (refl, tt))) (sym (e ∙ ap (λ (j : ℕ). firstBroken (annotationLayout j ann)) en) ∙ z))
+          pub at-steps : (j n : ℕ) → n ≡ nIn net → j ≡ firstBroken (annotationLayout n ann) → j ≡ 0 → (s : Said) → s ≡ outcome (run y (stepsIn n ann)) → s ≡ judged net ann r
+          at-steps j n en e z s q =
+              q ∙ ap (λ (i : ℕ). outcome (run y (stepsIn i ann))) en
+              ∙ sym (by-steps net ann r hl ho hr (none-broken A (refl, (refl, (refl, tt))) (sym (e ∙ ap (λ (i : ℕ). firstBroken (annotationLayout i ann)) en) ∙ z))
               ∙ goes-on G going (stepsIn (nIn net) ann))

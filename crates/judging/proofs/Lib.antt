@@ -1,3 +1,4 @@
+pub mod Annotated
 pub mod AcceptedFiles
 pub mod Promises
 pub mod Turns

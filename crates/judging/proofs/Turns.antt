@@ -4,49 +4,46 @@ use mathlib.Core.Path.{_≡_, refl, sym, _∙_, ap}
 use mathlib.Core.List.{List, [], _∷_, _++_, map, append-assoc, map-append}
 use Prim.Native.Nat.{ℕ, suc, _+_, _<_, _≤_}
 use native.Mathlib.Omega.{arith}
-use Rattle.session.specs.Session.{Said, accepted, gives, refused, said, accept}
+use borrow.Author.Tests.{eq-eqb, ne-eqb}
+use Rattle.prelude.proofs.Choice.{on, off}
+use Rattle.session.specs.Session.{Said, accepted, gives, refused, said, hand, accept, refuse}
+use Rattle.session.specs.declared.Answer.{Answer}
 use Rattle.session.specs.declared.Reply.{Reply}
 use Rattle.session.specs.declared.Session.{Session}
 use Rattle.runs.specs.Run.{Step, step, run}
 use Rattle.runs.specs.Exchange.{outcome}
 use Rattle.format.specs.Bytes.{listTo}
 use Rattle.format.proofs.Records.{split}
-use Rattle.judging.specs.Going.{thenSaid, Goes}
+use Rattle.judging.specs.Going.{Goes}
 
 -- ---- one step after the other
 
-said-first : (y : Session) (a : Step) (rest : List Step) → outcome (run y (a ∷ rest)) ≡ thenSaid (said (step y a .answer)) (outcome (run (step y a .session) rest))
+pub accepted-first : (x y : Session) (a : Step) (rest : List Step) → accept y ≡ step x a → outcome (run x (a ∷ rest)) ≡ outcome (run y rest)
 unfolding run
-said-first y a rest = go (said (step y a .answer))
-  where
-    go : (s : Said) → outcome (s ∷ run (step y a .session) rest) ≡ thenSaid s (outcome (run (step y a .session) rest))
-    go accepted = refl
-    go (gives b) = refl
-    go (refused k) = refl
+accepted-first x y a rest e = ap (λ (r : Reply). outcome (said (r .answer) ∷ run (r .session) rest)) (sym e)
 
-last-word : (s later : Said) → (s ≡ accepted → ⊥) → thenSaid s later ≡ s
-last-word accepted later n = absurd (n refl)
-last-word (gives v) later n = refl
-last-word (refused k) later n = refl
-
-pub goes-one : (y : Session) (a : Step) (r : Reply) → r ≡ step y a → Goes y (a ∷ []) r
-goes-one y a r q = record { out = λ rest. said-first y a rest ∙ ap (λ (k : Reply). thenSaid (said (k .answer)) (outcome (run (k .session) rest))) (sym q) }
-
-pub goes-no-further : {y : Session} {steps : List Step} {r : Reply} → Goes y steps r → (said (r .answer) ≡ accepted → ⊥) → (rest : List Step) → outcome (run y (steps ++ rest)) ≡ said (r .answer)
-goes-no-further {r = r} g n rest = g .out rest ∙ last-word (said (r .answer)) _ n
-
-pub goes-on : {y : Session} {steps : List Step} {r : Reply} → Goes y steps r → said (r .answer) ≡ accepted → (rest : List Step) → outcome (run y (steps ++ rest)) ≡ outcome (run (r .session) rest)
-goes-on {r = r} g ok rest = g .out rest ∙ ap (λ (k : Said). thenSaid k (outcome (run (r .session) rest))) ok
+pub refused-first : (x : Session) (k : ℕ) (a : Step) (rest : List Step) → refuse x k ≡ step x a → outcome (run x (a ∷ rest)) ≡ refused k
+unfolding run
+refused-first x k a rest e = ap (λ (r : Reply). outcome (said (r .answer) ∷ run (r .session) rest)) (sym e)
 
 -- the last step
-pub goes-last : {y : Session} {a : Step} {r : Reply} → Goes y (a ∷ []) r → outcome (run y (a ∷ [])) ≡ said (r .answer)
+pub answered-last : (x y : Session) (a : Step) (b : Answer) → hand y b ≡ step x a → outcome (run x (a ∷ [])) ≡ said b
 unfolding run
-goes-last {r = r} g = g .out [] ∙ go (said (r .answer))
+answered-last x y a b e = ap (λ (r : Reply). outcome (said (r .answer) ∷ [])) (sym e) ∙ go (said b)
   where
-    go : (s : Said) → thenSaid s accepted ≡ s
+    go : (s : Said) → outcome (s ∷ []) ≡ s
     go accepted = refl
     go (gives v) = refl
     go (refused k) = refl
+
+-- ---- a part of the steps
+
+module _ {x : Session} {steps : List Step} {why : ℕ} {y : Session} (g : Goes x steps why y) where
+  pub goes-no-further : (why ≡ 0 → ⊥) → (rest : List Step) → outcome (run x (steps ++ rest)) ≡ refused why
+  goes-no-further n rest = g .out rest ∙ sym (off Said (refused why) (outcome (run y rest)) (refused why) _ (ne-eqb why 0 n) refl)
+
+  pub goes-on : why ≡ 0 → (rest : List Step) → outcome (run x (steps ++ rest)) ≡ outcome (run y rest)
+  goes-on z rest = g .out rest ∙ sym (on Said (outcome (run y rest)) (outcome (run y rest)) (refused why) _ (eq-eqb why 0 z) refl)
 
 -- ---- a loop
 
@@ -65,35 +62,32 @@ module _ {A : Type 0} (make : A → Step) (h : ℕ → A) (x : Session) where
   one-more e later rest =
       ap (λ (l : List Step). l ++ rest) (map-append make (listTo e h) (h e ∷ later)) ∙ append-assoc (map make (listTo e h)) (make (h e) ∷ map make later) rest
 
-  pub going-on : (m : ℕ) (y : Session) (e : ℕ) (r : Reply) → Going m y e → e < m → r ≡ step y (make (h e)) → said (r .answer) ≡ accepted → Going m (r .session) (e + 1)
-  unfolding listTo
-  going-on m y e r g l q ok = record {
-    below = omega arith;
-    so-far = λ rest.
-        ap (λ (k : ℕ). outcome (run x (map make (listTo k h) ++ rest))) (let u : e + 1 ≡ suc e = omega arith in u)
-        ∙ ap (λ (k : List Step). outcome (run x k)) (one-more e [] rest)
-        ∙ g .so-far (make (h e) ∷ rest)
-        ∙ said-first y (make (h e)) rest
-        ∙ ap (λ (k : Reply). thenSaid (said (k .answer)) (outcome (run (k .session) rest))) (sym q)
-        ∙ ap (λ (k : Said). thenSaid k (outcome (run (r .session) rest))) ok;
-  }
+  module _ (m : ℕ) (y : Session) (e : ℕ) (g : Going m y e) where
+    pub going-on : e < m → (z : Session) → accept z ≡ step y (make (h e)) → Going m z (e + 1)
+    unfolding listTo
+    going-on l z q = record {
+      below = omega arith;
+      so-far = λ rest.
+          ap (λ (k : ℕ). outcome (run x (map make (listTo k h) ++ rest))) (let u : e + 1 ≡ suc e = omega arith in u)
+          ∙ ap (λ (k : List Step). outcome (run x k)) (one-more e [] rest)
+          ∙ g .so-far (make (h e) ∷ rest)
+          ∙ accepted-first y z (make (h e)) rest q;
+    }
 
-  -- a step that is not accepted is the last that counts
-  pub gone : (m : ℕ) (y : Session) (e : ℕ) (r : Reply) → Going m y e → e < m → r ≡ step y (make (h e)) → (said (r .answer) ≡ accepted → ⊥) → Goes x (map make (listTo m h)) r
-  gone m y e r g l q no-more = record {
-    out = λ rest. let s = split h e m l in
-        ap (λ (k : List A). outcome (run x (map make k ++ rest))) (s .is)
-        ∙ ap (λ (k : List Step). outcome (run x k)) (one-more e (s .later) rest)
-        ∙ g .so-far (make (h e) ∷ (map make (s .later) ++ rest))
-        ∙ said-first y (make (h e)) (map make (s .later) ++ rest)
-        ∙ ap (λ (k : Reply). thenSaid (said (k .answer)) (outcome (run (k .session) (map make (s .later) ++ rest)))) (sym q)
-        ∙ last-word (said (r .answer)) (outcome (run (r .session) (map make (s .later) ++ rest))) no-more
-        ∙ sym (last-word (said (r .answer)) (outcome (run (r .session) rest)) no-more);
-  }
+    -- a step that is refused is the last that counts
+    pub gone : e < m → (why : ℕ) (z : Session) → refuse y why ≡ step y (make (h e)) → (why ≡ 0 → ⊥) → Goes x (map make (listTo m h)) why z
+    gone l why z q n = record {
+      out = λ rest. let s = split h e m l in
+          ap (λ (k : List A). outcome (run x (map make k ++ rest))) (s .is)
+          ∙ ap (λ (k : List Step). outcome (run x k)) (one-more e (s .later) rest)
+          ∙ g .so-far (make (h e) ∷ (map make (s .later) ++ rest))
+          ∙ refused-first y why (make (h e)) (map make (s .later) ++ rest) q
+          ∙ off Said (refused why) (outcome (run z rest)) (refused why) _ (ne-eqb why 0 n) refl;
+    }
 
-  pub all-gone : (m : ℕ) (y : Session) (e : ℕ) → Going m y e → m ≤ e → Goes x (map make (listTo m h)) (accept y)
-  all-gone m y e g l = record {
-    out = λ rest.
-        let same : m ≡ e = omega (arith, g .below) in
-        ap (λ (k : ℕ). outcome (run x (map make (listTo k h) ++ rest))) same ∙ g .so-far rest;
-  }
+    pub all-gone : m ≤ e → Goes x (map make (listTo m h)) 0 y
+    all-gone l = record {
+      out = λ rest.
+          let same : m ≡ e = omega (arith, g .below) in
+          ap (λ (k : ℕ). outcome (run x (map make (listTo k h) ++ rest))) same ∙ g .so-far rest;
+    }

@@ -3,22 +3,17 @@
 use mathlib.Core.Path.{_≡_}
 use mathlib.Core.List.{List, [], _∷_, _++_, map}
 use Prim.Native.Nat.{ℕ}
-use Rattle.session.specs.Session.{Said, accepted, gives, refused, said}
-use Rattle.session.specs.declared.Reply.{Reply}
+use lib.Dec.{eqb}
+use Rattle.prelude.specs.Choice.{pick}
+use Rattle.session.specs.Session.{refused}
 use Rattle.session.specs.declared.Session.{Session}
 use Rattle.runs.specs.Run.{Step, end, claim, number, repeat, finish, run}
 use Rattle.runs.specs.Exchange.{outcome}
 use Rattle.format.specs.Files.{claimIn, numbersIn, loadsIn}
 
--- An acceptance goes on to what follows; a refusal or an answer is the last.
-abbrev pub thenSaid : Said → Said → Said
-thenSaid accepted later = later
-thenSaid (gives a) later = gives a
-thenSaid (refused k) later = refused k
-
--- Run from the session x, the steps come out as the reply, whatever follows them.
-pub record Goes (x : Session) (steps : List Step) (r : Reply) : Type 0 where
-  pub out : (rest : List Step) → outcome (run x (steps ++ rest)) ≡ thenSaid (said (r .answer)) (outcome (run (r .session) rest))
+-- Run from the session x, the steps come out as the refusal why, whatever follows them; or, where that is 0, as what follows comes out of the session y.
+pub record Goes (x : Session) (steps : List Step) (why : ℕ) (y : Session) : Type 0 where
+  pub out : (rest : List Step) → outcome (run x (steps ++ rest)) ≡ pick (eqb why 0) (outcome (run y rest)) (refused why)
 
 -- The steps of an annotation file with n node numbers, from the end of reading on, in file order.
 abbrev pub stepsIn : ℕ → List ℕ → List Step

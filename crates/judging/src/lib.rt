@@ -5,10 +5,9 @@ ghost use Rattle.judging.specs.Judging.{judged};
 use format::annotation_file::annotation_check;
 use format::network_file;
 use running::annotation_steps;
-use running::is_accepted;
 use running::read_all;
 use session::Answer;
-use session::Session;
+use session::State;
 
 mod running;
 
@@ -24,19 +23,19 @@ pub fn judge(net: &[u8], ann: &[u8], point: u32) -> Answer
     let n = network_file::vertices(net);
     let s = network_file::source(net) as u32;
     let t = network_file::sink(net) as u32;
-    let opened = Session::open(question, n as u32, s, t, point);
-    let at_opening = opened.answer;
-    if !is_accepted(at_opening) {
-        return at_opening;
+    let opened = State::open(question, n as u32, s, t, point);
+    let at_opening = opened.why;
+    if at_opening != 0 {
+        return Answer::Refused(at_opening);
     }
-    let reply = read_all(opened.session, net);
-    let at_reading = reply.answer;
-    if !is_accepted(at_reading) {
-        return at_reading;
+    let turn = read_all(opened.state, net);
+    let at_reading = turn.why;
+    if at_reading != 0 {
+        return Answer::Refused(at_reading);
     }
     let why = annotation_check(ann, n);
     if why != 0 {
         return Answer::Refused(why);
     }
-    annotation_steps(reply.session, ann, n)
+    annotation_steps(turn.state, ann, n)
 }

@@ -1,8 +1,7 @@
-// The steps that a file holds, run in file order until one is refused.
-ghost use mathlib.Core.Bool.{true, false};
+// The steps that a file holds, run in file order until one is refused. The node numbers and the balances stay in place.
 ghost use mathlib.Core.Path.{_≡_};
 ghost use mathlib.Core.List.{map};
-ghost use Rattle.session.specs.Session.{said, accepted};
+ghost use Rattle.session.specs.Session.{said, joined, zeros};
 ghost use Rattle.runs.specs.Run.{read, number, repeat, run};
 ghost use Rattle.runs.specs.Exchange.{outcome};
 ghost use Rattle.format.specs.Files.{arcsIn, numbersIn, loadsIn};
@@ -10,111 +9,108 @@ ghost use Rattle.judging.specs.Going.{Goes, stepsIn};
 use format::annotation_file;
 use format::network_file;
 use session::Answer;
-use session::Reply;
-use session::Session;
-
-pub(crate) fn is_accepted(answer: Answer) -> bool
-    ensures { λ r. ⌜ (r ≡ true → said answer ≡ accepted) × (r ≡ false → said answer ≡ accepted → ⊥) ⌝ }
-{
-    match answer {
-        Answer::Accepted => true,
-        _ => false,
-    }
-}
+use session::State;
+use session::Turn;
+use session::move_amount;
 
 // Reads the arcs of a network file.
-pub(crate) fn read_all(x: Session, file: &[u8]) -> Reply
-    ensures { λ r. ⌜ Goes x (map read (arcsIn (now (file .entry)))) r ⌝ }
+pub(crate) fn read_all(x: State, file: &[u8]) -> Turn
+    ensures { λ r. ⌜ Goes (joined zeros zeros x) (map read (arcsIn (now (file .entry)))) (r .why) (joined zeros zeros (r .state)) ⌝ }
 {
     let m = network_file::count(file) as usize;
     let mut y = x;
     let mut e = 0;
     while e < m {
         let arc = network_file::arc(file, e);
-        let reply = y.read_channel(arc.a as u32, arc.b as u32, arc.w as u32);
-        let answer = reply.answer;
-        if !is_accepted(answer) {
-            return reply;
+        let turn = y.read_channel(arc.a as u32, arc.b as u32, arc.w as u32);
+        let why = turn.why;
+        if why != 0 {
+            return turn;
         }
-        y = reply.session;
+        y = turn.state;
         e += 1;
     }
-    Reply {
-        session: y,
-        answer: Answer::Accepted,
-    }
+    Turn { state: y, why: 0 }
 }
 
 // The n node numbers of an annotation file.
-fn number_all(x: Session, file: &[u8], n: u8) -> Reply
-    ensures { λ r. ⌜ Goes x (map number (numbersIn n (now (file .entry)))) r ⌝ }
+fn number_all(x: State, potentials: &mut [i32; 255], file: &[u8], n: u8) -> Turn
+    ensures { λ r. ⌜ Goes (joined (now (potentials .entry)) zeros x) (map number (numbersIn n (now (file .entry)))) (r .why) (joined (now (potentials .exit)) zeros (r .state)) ⌝ }
 {
     let m = n as usize;
     let mut y = x;
     let mut v = 0;
     while v < m {
         let z = annotation_file::number(file, v);
-        let reply = y.node_number(z);
-        let answer = reply.answer;
-        if !is_accepted(answer) {
-            return reply;
+        let turn = y.node_number(z);
+        let why = turn.why;
+        if why != 0 {
+            return turn;
         }
-        y = reply.session;
+        y.store_number(potentials, z);
+        y = turn.state;
         v += 1;
     }
-    Reply {
-        session: y,
-        answer: Answer::Accepted,
-    }
+    Turn { state: y, why: 0 }
 }
 
 // The repeated arcs of an annotation file with n node numbers.
-fn repeat_all(x: Session, file: &[u8], n: u8) -> Reply
-    ensures { λ r. ⌜ Goes x (map repeat (loadsIn n (now (file .entry)))) r ⌝ }
+fn repeat_all(
+    x: State,
+    potentials: &[i32; 255],
+    balances: &mut [i64; 255],
+    file: &[u8],
+    n: u8,
+) -> Turn
+    ensures { λ r. ⌜ Goes (joined (now (potentials .entry)) (now (balances .entry)) x) (map repeat (loadsIn n (now (file .entry)))) (r .why) (joined (now (potentials .entry)) (now (balances .exit)) (r .state)) ⌝ }
 {
     let m = annotation_file::count(file) as usize;
     let mut y = x;
     let mut e = 0;
     while e < m {
         let l = annotation_file::load(file, n, e);
-        let reply = y.repeat_channel(l.a, l.b, l.w, l.x);
-        let answer = reply.answer;
-        if !is_accepted(answer) {
-            return reply;
+        let turn = y.repeat_channel(potentials, l.a, l.b, l.w, l.x);
+        let why = turn.why;
+        if why != 0 {
+            return turn;
         }
-        y = reply.session;
+        move_amount(balances, l.a, l.b, l.x);
+        y = turn.state;
         e += 1;
     }
-    Reply {
-        session: y,
-        answer: Answer::Accepted,
-    }
+    Turn { state: y, why: 0 }
 }
 
 // The steps of an annotation file with n node numbers, from the end of reading to finishing.
-pub(crate) fn annotation_steps(x: Session, file: &[u8], n: u8) -> Answer
-    ensures { λ r. ⌜ said r ≡ outcome (run x (stepsIn n (now (file .entry)))) ⌝ }
+pub(crate) fn annotation_steps(x: State, file: &[u8], n: u8) -> Answer
+    ensures { λ r. ⌜ said r ≡ outcome (run (joined zeros zeros x) (stepsIn n (now (file .entry)))) ⌝ }
 {
+    let mut potentials = [0i32; 255];
+    let mut balances = [0i64; 255];
     let ended = x.end_reading();
-    let at_end = ended.answer;
-    if !is_accepted(at_end) {
-        return at_end;
+    let at_end = ended.why;
+    if at_end != 0 {
+        return Answer::Refused(at_end);
     }
-    let claimed = ended.session.claim(annotation_file::claim(file) as u32);
-    let at_claim = claimed.answer;
-    if !is_accepted(at_claim) {
-        return at_claim;
+    let claimed = ended.state.claim(annotation_file::claim(file) as u32);
+    let at_claim = claimed.why;
+    if at_claim != 0 {
+        return Answer::Refused(at_claim);
     }
-    let numbered = number_all(claimed.session, file, n);
-    let at_numbers = numbered.answer;
-    if !is_accepted(at_numbers) {
-        return at_numbers;
+    let numbered = number_all(claimed.state, &mut potentials, file, n);
+    let at_numbers = numbered.why;
+    if at_numbers != 0 {
+        return Answer::Refused(at_numbers);
     }
-    let repeated = repeat_all(numbered.session, file, n);
-    let at_repeats = repeated.answer;
-    if !is_accepted(at_repeats) {
-        return at_repeats;
+    let repeated = repeat_all(numbered.state, &potentials, &mut balances, file, n);
+    let at_repeats = repeated.why;
+    if at_repeats != 0 {
+        return Answer::Refused(at_repeats);
     }
-    let finished = repeated.session.finish();
-    finished.answer
+    let last = repeated.state;
+    let at_finish = last.finish_check(potentials, balances);
+    if at_finish != 0 {
+        return Answer::Refused(at_finish);
+    }
+    last.answer()
 }

@@ -15,7 +15,7 @@ use Rattle.network.specs.Certificate.{marked}
 use Rattle.network.specs.Tests.{claimOf, claimOk, answerOf}
 use Rattle.checks.specs.declared.Setting.{Setting as Held}
 use Rattle.session.specs.Print.{Point, printOf}
-use Rattle.session.specs.Session.{Said, accepted, gives, refused, holding, void}
+use Rattle.session.specs.Session.{Said, accepted, gives, refused, joined, holding, void}
 use Rattle.session.specs.Steps.{marksAfter}
 use Rattle.session.specs.declared.Session.{Session}
 use Rattle.session.specs.declared.Stream.{Stream}
@@ -50,17 +50,15 @@ abbrev pub view : Held → Point → Trace → Session
 view st r closed = void
 view st r (during l) = holding 1 st r (stream r l)
 view st r (after l) = holding 2 st r (stream r l)
-view st r (certifying l k ys f) = record {
+view st r (certifying l k ys f) = joined (table 255 (at ys)) (table 255 (λ v. balance v f)) record {
   phase = 3;
   setting = st;
   point = r;
   read = stream r l;
   claim = k;
   given = length ys;
-  potentials = table 255 (at ys);
   marks = wordsOf ys;
   repeated = stream r (arcs f);
-  balances = table 255 (λ v. balance v f);
   cost = pos (cost f);
   cut = pos (cut (marked (at ys)) (arcs f));
 }

@@ -7,7 +7,7 @@ use Prim.Native.Nat.{ℕ, _*_, _≤_, _<_}
 use native.Mathlib.Omega.{arith}
 use lib.Dec.{eqb, leb, ltb, leb→le, ltb→lt}
 use lib.IntN.{ℤ, pos}
-use lib.ListN.{length, replicate, length-append, length-map}
+use lib.ListN.{length, set, length-append, length-map}
 use Rattle.prelude.specs.Checks.{Check, _unless_, settle, Hold}
 use Rattle.prelude.specs.Choice.{pick, indicator}
 use Rattle.prelude.specs.Integers.{plus}
@@ -23,8 +23,8 @@ use Rattle.network.proofs.Append.{arcs-snoc}
 use Rattle.checks.specs.declared.Setting.{Setting as Held}
 use Rattle.checks.specs.Setting.{asked, sumsHeld}
 use Rattle.session.specs.Print.{Point, printOf, samePrint}
-use Rattle.session.specs.Session.{Said, accepted, gives, refused, answered, emptyStream, extendStream, holding, void, hand, accept, refuse}
-use Rattle.session.specs.Steps.{withRead, withClaim, withNumber, withRepeat, repeatChecks, finishChecks, readStep, endStep, claimStep, numberStep, repeatStep, finishStep}
+use Rattle.session.specs.Session.{Said, accepted, gives, refused, answered, extendStream, joined, holding, void, withState, hand, accept, refuse}
+use Rattle.session.specs.Steps.{withRead, withClaim, withNumber, moved, withRepeat, repeatChecks, finishChecks, readStep, endStep, claimStep, numberStep, repeatStep, finishStep}
 use Rattle.session.specs.declared.Answer.{Answer}
 use Rattle.session.specs.declared.Answer.the-variants.{Accepted, Refused}
 use Rattle.session.specs.declared.Reply.{Reply}
@@ -102,22 +102,9 @@ module _ (held : Held) (r : Point) where
   abbrev pub Agrees : Trace → Step → Type 0
   Agrees tr a = step (See tr) a ≡ hand (See (next (asked held) tr a)) (told (reply (λ l m. samePrint (printOf r l) (printOf r m)) (asked held) tr a))
 
-  claim-one : (l : List Arc) (k : ℕ) → withClaim (See (after l)) k ≡ See (certifying l k [] [])
+  claim-one : (l : List Arc) (k : ℕ) → withState (See (after l)) (withClaim (See (after l) .state) k) ≡ See (certifying l k [] [])
   unfolding product sumOf cut
-  claim-one l k = λ i. record {
-    phase = 3;
-    setting = held;
-    point = r;
-    read = stream r l;
-    claim = k;
-    given = 0;
-    potentials = zeros 255 (at []) (λ v. refl) i;
-    marks = replicate 4 0;
-    repeated = emptyStream;
-    balances = zeros 255 (λ v. balance v []) (λ v. refl) i;
-    cost = pos 0;
-    cut = pos 0;
-  }
+  claim-one l k = λ i. joined (zeros 255 (at []) (λ v. refl) i) (zeros 255 (λ v. balance v []) (λ v. refl) i) (withClaim (See (after l) .state) k)
 
   module _ (l : List Arc) (k : ℕ) (ys : List ℤ) (f : List Load) where
     abbrev Here : Trace
@@ -151,19 +138,21 @@ module _ (held : Held) (r : Point) where
 
       -- ---- a node number
 
-      number-one : (z : ℤ) → length ys < held .n → withNumber (See Here) z ≡ See (certifying l k (ys ++ z ∷ []) f)
+      -- the session after it
+      abbrev numbered : ℤ → Session
+      numbered z = joined (set (See Here .potentials) (length ys) z) (See Here .balances) (withNumber (See Here .state) z)
+
+      number-one : (z : ℤ) → length ys < held .n → numbered z ≡ See (certifying l k (ys ++ z ∷ []) f)
       unfolding cut
-      number-one z h = λ i. record {
+      number-one z h = λ i. joined (list-more 255 ys z (omega (arith, h, o .sized .at-most)) i) (table 255 (λ v. balance v f)) record {
         phase = 3;
         setting = held;
         point = r;
         read = stream r l;
         claim = k;
         given = sym (length-append ys (z ∷ [])) i;
-        potentials = list-more 255 ys z (omega (arith, h, o .sized .at-most)) i;
         marks = marks-more ys z i;
         repeated = stream r (arcs f);
-        balances = table 255 (λ v. balance v f);
         cost = pos (cost f);
         cut = uncut i;
       }
@@ -174,29 +163,31 @@ module _ (held : Held) (r : Point) where
       number-step : (z : ℤ) → Agrees Here (number z)
       unfolding numberStep
       number-step z =
-          ruled (withNumber (See Here) z) (certifying l k (ys ++ z ∷ []) f) accepted (numberRule (asked held) (claimOf k) (length ys) z)
+          ruled (numbered z) (certifying l k (ys ++ z ∷ []) f) accepted (numberRule (asked held) (claimOf k) (length ys) z)
           (λ h. number-one z (ltb→lt (length ys) (held .n) (h .0)))
 
       -- ---- a repeated arc
 
-      repeat-one : (b : Load) → Light b → withRepeat (See Here) b ≡ See (certifying l k ys (f ++ b ∷ []))
-      repeat-one b h = λ i. record {
+      -- the session after it
+      abbrev loaded : Load → Session
+      loaded b = joined (See Here .potentials) (moved (See Here .balances) (b .arc .tail) (b .arc .head) (b .amount)) (withRepeat (See Here .state) b)
+
+      repeat-one : (b : Load) → Light b → loaded b ≡ See (certifying l k ys (f ++ b ∷ []))
+      repeat-one b h = λ i. joined (table 255 (at ys)) (balances-more f lights few b h i) record {
         phase = 3;
         setting = held;
         point = r;
         read = stream r l;
         claim = k;
         given = length ys;
-        potentials = table 255 (at ys);
         marks = wordsOf ys;
         repeated = (stream-more r (arcs f) (b .arc) ∙ ap (stream r) (sym (arcs-snoc f b))) i;
-        balances = balances-more f lights few b h i;
         cost = cost-more f lights few b h i;
         cut = (ap (λ (m : ℕ → Bool). plus (pos (cut (marked (at ys)) (arcs f))) (pos (b .arc .weight * indicator (crosses m (b .arc))))) (marks-same ys fits)
             ∙ cut-more f lights few b h (marked (at ys))) i;
       }
 
-      repeat-checks : (b : Load) → repeatChecks (See Here) b ≡ repeatRule (asked held) (claimOf k) ys (length l) (length f) b
+      repeat-checks : (b : Load) → repeatChecks (See Here .state) (at (table 255 (at ys))) b ≡ repeatRule (asked held) (claimOf k) ys (length l) (length f) b
       repeat-checks b = λ i.
           5 unless eqb (length ys) (held .n)
           ∷ 6 unless ltb (length-map f (λ b. b .arc) i) (length l)
@@ -208,8 +199,8 @@ module _ (held : Held) (r : Point) where
       repeat-step : (b : Load) → Agrees Here (repeat b)
       unfolding repeatStep
       repeat-step b =
-          ap (λ (cs : List Check). settle (refuse (See Here)) cs (accept (withRepeat (See Here) b))) (repeat-checks b)
-          ∙ ruled (withRepeat (See Here) b) (certifying l k ys (f ++ b ∷ [])) accepted (repeatRule (asked held) (claimOf k) ys (length l) (length f) b)
+          ap (λ (cs : List Check). settle (refuse (See Here)) cs (accept (loaded b))) (repeat-checks b)
+          ∙ ruled (loaded b) (certifying l k ys (f ++ b ∷ [])) accepted (repeatRule (asked held) (claimOf k) ys (length l) (length f) b)
           (λ h. repeat-one b (light (asked held) o (claimOf k) ys b (repeat-fine (asked held) (claimOf k) ys (length l) (length f) b h)))
 
       -- ---- finishing
@@ -217,7 +208,7 @@ module _ (held : Held) (r : Point) where
       sums-same : sumsHeld (table 255 (λ v. balance v f)) (pos (cost f)) (pos (cut (marked (at ys)) (arcs f))) ≡ sumsAt ys f
       sums-same = λ i. record { balances = balances-at f lights few i; cost = pos (cost f); cut = pos (cut (marked (at ys)) (arcs f)) }
 
-      finish-checks : finishChecks (See Here) ≡ finishRule (asked held) (claimOf k) (length l) Agree ys f
+      finish-checks : finishChecks (See Here .state) (at (table 255 (at ys))) (sumsHeld (table 255 (λ v. balance v f)) (pos (cost f)) (pos (cut (marked (at ys)) (arcs f)))) ≡ finishRule (asked held) (claimOf k) (length l) Agree ys f
       finish-checks = λ i.
           5 unless eqb (length ys) (held .n)
           ∷ 13 unless leb (length l) (length-map f (λ b. b .arc) i)
@@ -239,7 +230,7 @@ module _ (held : Held) (r : Point) where
   unfolding readStep endStep claimStep numberStep repeatStep finishStep
   steps-agree closed o g a = void-stays a
   steps-agree (during l) o g (read e) =
-      decided (λ l. See (during l)) (refuse (See (during l))) (λ why. l) (λ why. refl) (withRead (See (during l)) e) (l ++ e ∷ []) accepted (readRule (asked held) (length l) e)
+      decided (λ l. See (during l)) (refuse (See (during l))) (λ why. l) (λ why. refl) (withState (See (during l)) (withRead (See (during l) .state) e)) (l ++ e ∷ []) accepted (readRule (asked held) (length l) e)
       (λ h. ap (holding 1 held r) (stream-more r l e))
   steps-agree (during l) o g end = refl
   steps-agree (during l) o g (claim k) = refl
@@ -249,7 +240,7 @@ module _ (held : Held) (r : Point) where
   steps-agree (after l) o g (read e) = refl
   steps-agree (after l) o g end = refl
   steps-agree (after l) o g (claim k) =
-      decided See (refuse (See (after l))) (λ why. after l) (λ why. refl) (withClaim (See (after l)) k) (certifying l k [] []) accepted (9 unless claimOk (asked held) k ∷ [])
+      decided See (refuse (See (after l))) (λ why. after l) (λ why. refl) (withState (See (after l)) (withClaim (See (after l) .state) k)) (certifying l k [] []) accepted (9 unless claimOk (asked held) k ∷ [])
       (λ h. claim-one l k)
   steps-agree (after l) o g (number z) = refl
   steps-agree (after l) o g (repeat b) = refl

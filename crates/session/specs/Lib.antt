@@ -1,3 +1,4 @@
 pub mod Print
 pub mod Session
 pub mod Steps
+pub mod Turns

@@ -12,12 +12,13 @@ use Rattle.prelude.specs.Integers.{eqZ, plus, minus}
 use Rattle.prelude.specs.Lists.{at}
 use Rattle.prelude.specs.Marks.{withMark}
 use Rattle.network.specs.Network.{Arc, Load, crosses}
-use Rattle.network.specs.Tests.{settingOf, openingChecks, arcChecks, claimOk, nodeOk, amountOk, ruleOk, balancesOk, sumsOk, answerOf}
+use Rattle.network.specs.Tests.{settingOf, openingChecks, arcChecks, claimOk, nodeOk, amountOk, ruleOk, Sums, balancesOk, sumsOk, answerOf}
 use Rattle.session.specs.Print.{Point, pointOk, samePrint}
-use Rattle.session.specs.Session.{answered, isReading, hasRead, isClaimed, settingIn, claimIn, potentialsIn, marksIn, sumsIn, isComplete, emptyStream, extendStream, holding, void, hand, accept, refuse}
+use Rattle.session.specs.Session.{answered, isReading, hasRead, isClaimed, settingIn, claimIn, potentialsIn, marksIn, sumsIn, isComplete, emptyStream, extendStream, joined, holding, void, withState, hand, accept, refuse}
 use Rattle.session.specs.declared.Answer.the-variants.{Refused}
 use Rattle.session.specs.declared.Reply.{Reply}
 use Rattle.session.specs.declared.Session.{Session}
+use Rattle.session.specs.declared.State.{State}
 
 -- ---- "Opening takes question, n, s, t, r. A refusal hands back a void session."
 
@@ -31,10 +32,10 @@ opening k n s t r =
 
 -- ---- "Reading a channel."
 
-abbrev pub readChecks : Session → Arc → List Check
+abbrev pub readChecks : State → Arc → List Check
 readChecks x e = 5 unless isReading x ∷ 6 unless ltb (x .read .count) 4096 ∷ arcChecks (settingIn x) e
 
-abbrev pub withRead : Session → Arc → Session
+abbrev pub withRead : State → Arc → State
 withRead x e = record {
   phase = x .phase;
   setting = x .setting;
@@ -42,23 +43,21 @@ withRead x e = record {
   read = extendStream (x .point) (x .read) e;
   claim = x .claim;
   given = x .given;
-  potentials = x .potentials;
   marks = x .marks;
   repeated = x .repeated;
-  balances = x .balances;
   cost = x .cost;
   cut = x .cut;
 }
 
 unfoldable pub readStep : Session → Arc → Reply
-readStep x e = settle (refuse x) (readChecks x e) (accept (withRead x e))
+readStep x e = settle (refuse x) (readChecks (x .state) e) (accept (withState x (withRead (x .state) e)))
 
 -- ---- "Ending the reading."
 
-abbrev pub endChecks : Session → List Check
+abbrev pub endChecks : State → List Check
 endChecks x = 5 unless isReading x ∷ []
 
-abbrev pub withEnd : Session → Session
+abbrev pub withEnd : State → State
 withEnd x = record {
   phase = 2;
   setting = x .setting;
@@ -66,23 +65,21 @@ withEnd x = record {
   read = x .read;
   claim = x .claim;
   given = x .given;
-  potentials = x .potentials;
   marks = x .marks;
   repeated = x .repeated;
-  balances = x .balances;
   cost = x .cost;
   cut = x .cut;
 }
 
 unfoldable pub endStep : Session → Reply
-endStep x = settle (refuse x) (endChecks x) (accept (withEnd x))
+endStep x = settle (refuse x) (endChecks (x .state)) (accept (withState x (withEnd (x .state))))
 
 -- ---- "The claim."
 
-abbrev pub claimChecks : Session → ℕ → List Check
+abbrev pub claimChecks : State → ℕ → List Check
 claimChecks x k = 5 unless hasRead x ∷ 9 unless claimOk (settingIn x) k ∷ []
 
-abbrev pub withClaim : Session → ℕ → Session
+abbrev pub withClaim : State → ℕ → State
 withClaim x k = record {
   phase = 3;
   setting = x .setting;
@@ -90,20 +87,18 @@ withClaim x k = record {
   read = x .read;
   claim = k;
   given = x .given;
-  potentials = x .potentials;
   marks = x .marks;
   repeated = x .repeated;
-  balances = x .balances;
   cost = x .cost;
   cut = x .cut;
 }
 
 unfoldable pub claimStep : Session → ℕ → Reply
-claimStep x k = settle (refuse x) (claimChecks x k) (accept (withClaim x k))
+claimStep x k = settle (refuse x) (claimChecks (x .state) k) (accept (withState x (withClaim (x .state) k)))
 
 -- ---- "A node number."
 
-abbrev pub numberChecks : Session → ℤ → List Check
+abbrev pub numberChecks : State → ℤ → List Check
 numberChecks x z =
     5 unless (isClaimed x && ltb (x .given) (x .setting .n))
     ∷ 10 unless nodeOk (settingIn x) (claimIn x) (x .given) z
@@ -113,7 +108,7 @@ numberChecks x z =
 abbrev pub marksAfter : List ℕ → ℕ → ℤ → List ℕ
 marksAfter words v z = pick (eqZ z (pos 1)) (withMark words v) words
 
-abbrev pub withNumber : Session → ℤ → Session
+abbrev pub withNumber : State → ℤ → State
 withNumber x z = record {
   phase = x .phase;
   setting = x .setting;
@@ -121,26 +116,24 @@ withNumber x z = record {
   read = x .read;
   claim = x .claim;
   given = x .given + 1;
-  potentials = set (x .potentials) (x .given) z;
   marks = marksAfter (x .marks) (x .given) z;
   repeated = x .repeated;
-  balances = x .balances;
   cost = x .cost;
   cut = x .cut;
 }
 
 unfoldable pub numberStep : Session → ℤ → Reply
-numberStep x z = settle (refuse x) (numberChecks x z) (accept (withNumber x z))
+numberStep x z = settle (refuse x) (numberChecks (x .state) z) (accept (joined (set (x .potentials) (x .state .given) z) (x .balances) (withNumber (x .state) z)))
 
--- ---- "A repeated channel."
+-- ---- "A repeated channel." The function y gives the node numbers.
 
-abbrev pub repeatChecks : Session → Load → List Check
-repeatChecks x l =
+abbrev pub repeatChecks : State → (ℕ → ℤ) → Load → List Check
+repeatChecks x y l =
     5 unless isComplete x
     ∷ 6 unless ltb (x .repeated .count) (x .read .count)
     ∷ (arcChecks (settingIn x) (l .arc)
     ++ 11 unless amountOk (settingIn x) (claimIn x) l
-    ∷ 12 unless ruleOk (settingIn x) (claimIn x) (potentialsIn x) (marksIn x) (l .arc)
+    ∷ 12 unless ruleOk (settingIn x) (claimIn x) y (marksIn x) (l .arc)
     ∷ [])
 
 -- The balances with the amount x added at the tail a and then taken off at the head b.
@@ -153,7 +146,7 @@ takenAt l v z = set l v (minus (at l v) z)
 unfoldable pub moved : List ℤ → ℕ → ℕ → ℕ → List ℤ
 moved l a b x = takenAt (addedAt l a (pos x)) b (pos x)
 
-abbrev pub withRepeat : Session → Load → Session
+abbrev pub withRepeat : State → Load → State
 withRepeat x l = record {
   phase = x .phase;
   setting = x .setting;
@@ -161,27 +154,29 @@ withRepeat x l = record {
   read = x .read;
   claim = x .claim;
   given = x .given;
-  potentials = x .potentials;
   marks = x .marks;
   repeated = extendStream (x .point) (x .repeated) (l .arc);
-  balances = moved (x .balances) (l .arc .tail) (l .arc .head) (l .amount);
   cost = plus (x .cost) (pos (l .amount * l .arc .weight));
   cut = plus (x .cut) (pos (l .arc .weight * indicator (crosses (marksIn x) (l .arc))));
 }
 
 unfoldable pub repeatStep : Session → Load → Reply
-repeatStep x l = settle (refuse x) (repeatChecks x l) (accept (withRepeat x l))
+repeatStep x l =
+    settle (refuse x) (repeatChecks (x .state) (potentialsIn x) l)
+    (accept (joined (x .potentials) (moved (x .balances) (l .arc .tail) (l .arc .head) (l .amount)) (withRepeat (x .state) l)))
 
 -- ---- "Finishing ends the session unless it gave 5."
 
-abbrev pub finishChecks : Session → List Check
-finishChecks x =
+abbrev pub finishChecks : State → (ℕ → ℤ) → Sums → List Check
+finishChecks x y u =
     5 unless isComplete x
     ∷ 13 unless leb (x .read .count) (x .repeated .count)
     ∷ 14 unless samePrint (x .read .fingerprint) (x .repeated .fingerprint)
-    ∷ 15 unless balancesOk (settingIn x) (claimIn x) (sumsIn x)
-    ∷ 16 unless sumsOk (settingIn x) (claimIn x) (potentialsIn x) (marksIn x) (sumsIn x)
+    ∷ 15 unless balancesOk (settingIn x) (claimIn x) u
+    ∷ 16 unless sumsOk (settingIn x) (claimIn x) y (marksIn x) u
     ∷ []
 
 unfoldable pub finishStep : Session → Reply
-finishStep x = settle (refuse x) (finishChecks x) (hand void (answered (answerOf (settingIn x) (claimIn x) (sumsIn x))))
+finishStep x =
+    settle (refuse x) (finishChecks (x .state) (potentialsIn x) (sumsIn x))
+    (hand void (answered (answerOf (settingIn (x .state)) (claimIn (x .state)) (sumsIn x))))

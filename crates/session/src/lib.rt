@@ -1,19 +1,24 @@
 // A checking session: opening and the six steps, by value. Each step takes the session and hands it back with its answer.
+// Each step is thin over a step of the session's state, so that a caller who keeps the two arrays in place copies only the state.
 ghost use mathlib.Core.Path.{_≡_};
-ghost use mathlib.Core.Bool.{not, _&&_};
+ghost use mathlib.Core.Bool.{false, not, _&&_};
 ghost use mathlib.Core.List.{[], _∷_, _++_};
 ghost use Prim.Native.Nat.{_+_, _*_, _≤_, _<_};
 ghost use lib.Dec.{eqb, leb, ltb};
 ghost use lib.IntN.{pos};
 ghost use Rattle.prelude.specs.Checks.{_unless_, firstBroken};
-ghost use Rattle.prelude.specs.Choice.{indicator};
+ghost use Rattle.prelude.specs.Choice.{pick, indicator};
+ghost use lib.ListN.{set};
 ghost use Rattle.prelude.specs.Integers.{plus};
+ghost use Rattle.prelude.specs.Lists.{at};
 ghost use Rattle.network.specs.Network.{arcOf, loadOf};
 ghost use Rattle.network.specs.Tests.{arcChecks, claimOf, nodeOk, amountOk, answerFor, questionOf};
-ghost use Rattle.checks.specs.Setting.{asked};
+ghost use Rattle.checks.specs.Setting.{asked, sumsHeld};
 ghost use Rattle.session.specs.Print.{samePrint};
-ghost use Rattle.session.specs.Session.{answered, emptyStream, extendStream, holding, void, refuse};
-ghost use Rattle.session.specs.Steps.{openChecks, opening, readStep, endStep, claimStep, withNumber, numberStep, repeatStep, finishStep};
+ghost use Rattle.session.specs.Session.{answered, settingIn, claimIn, emptyStream, extendStream, begun, zeros, void, refuse};
+ghost use Rattle.session.specs.declared.Answer.the-variants.{Accepted, Refused};
+ghost use Rattle.session.specs.Steps.{openChecks, opening, readStep, endStep, claimStep, withNumber, numberStep, addedAt, takenAt, moved, repeatStep, finishChecks, finishStep};
+ghost use Rattle.session.specs.Turns.{idle, openTurn, readTurn, endTurn, claimTurn, numberTurn, repeatTurn};
 use checks::Setting;
 use checks::annotation::amount_ok;
 use checks::annotation::claim_ok;
@@ -44,20 +49,32 @@ pub struct Stream {
     fingerprint: u32,
 }
 
+// What a session knows, but for the node numbers and the balances of the vertices.
 // phase: 1 reading is under way, 2 reading has just ended, 3 a claim stands; any other: void or ended.
-pub struct Session {
+pub struct State {
     phase: u8,
     setting: Setting,
     point: u32,
     read: Stream,
     claim: u8,
     given: u8,
-    potentials: [i32; 255],
     marks: [u64; 4],
     repeated: Stream,
-    balances: [i64; 255],
     cost: i64,
     cut: i64,
+}
+
+// The state stands last: so a step that touches nothing else is compiled without a copy of the arrays.
+pub struct Session {
+    potentials: [i32; 255],
+    balances: [i64; 255],
+    state: State,
+}
+
+// What a step makes of a state: 0 and the next state, or the number of the refusal and the state as it was.
+pub struct Turn {
+    pub state: State,
+    pub why: u8,
 }
 
 pub struct Reply {
@@ -65,33 +82,31 @@ pub struct Reply {
     pub answer: Answer,
 }
 
-// A session before the claim that has read nothing.
-fn started(phase: u8, setting: Setting, point: u32) -> Session
-    ensures { λ r. ⌜ r ≡ holding phase setting point emptyStream ⌝ }
+// The state before the claim that has read nothing.
+fn started(phase: u8, setting: Setting, point: u32) -> State
+    ensures { λ r. ⌜ r ≡ begun phase setting point emptyStream ⌝ }
 {
     let nothing = Stream {
         count: 0,
         fingerprint: 1,
     };
-    Session {
+    State {
         phase: phase,
         setting: setting,
         point: point,
         read: nothing,
         claim: 0,
         given: 0,
-        potentials: [0i32; 255],
         marks: [0u64; 4],
         repeated: nothing,
-        balances: [0i64; 255],
         cost: 0,
         cut: 0,
     }
 }
 
-// A void session; an ended one is the same.
-fn nothing() -> Session
-    ensures { λ r. ⌜ r ≡ void ⌝ }
+// The state of a void session.
+fn nothing() -> State
+    ensures { λ r. ⌜ r ≡ idle ⌝ }
 {
     let setting = Setting {
         question: 0,
@@ -100,6 +115,124 @@ fn nothing() -> Session
         t: 0,
     };
     started(0, setting, 0)
+}
+
+// A void session; an ended one is the same.
+fn ended() -> Session
+    ensures { λ r. ⌜ r ≡ void ⌝ }
+{
+    Session {
+        potentials: [0i32; 255],
+        balances: [0i64; 255],
+        state: nothing(),
+    }
+}
+
+// The node number of the vertex v, 0 past the end.
+fn potential_of(potentials: &[i32], v: u32) -> i32
+    ensures { λ r. ⌜ r ≡ at (now (potentials .entry)) v ⌝ }
+{
+    let i = v as usize;
+    if potentials.len() <= i {
+        return 0;
+    }
+    potentials[i]
+}
+
+// The node number y for the vertex v, and nothing past the end.
+fn store_at(potentials: &mut [i32], v: u8, y: i32)
+    ensures { λ _. ⌜ now (potentials .exit) ≡ set (now (potentials .entry)) v y ⌝ }
+{
+    let i = v as usize;
+    if potentials.len() <= i {
+        return;
+    }
+    potentials[i] = y;
+}
+
+// The balance of the vertex v with z added, and nothing past the end.
+fn add_at(balances: &mut [i64], v: u32, z: i64)
+    ensures { λ _. ⌜ now (balances .exit) ≡ addedAt (now (balances .entry)) v z ⌝ }
+{
+    let i = v as usize;
+    if balances.len() <= i {
+        return;
+    }
+    let b = balances[i];
+    balances[i] = add(b, z);
+}
+
+// The balance of the vertex v with z taken off, and nothing past the end.
+fn take_at(balances: &mut [i64], v: u32, z: i64)
+    ensures { λ _. ⌜ now (balances .exit) ≡ takenAt (now (balances .entry)) v z ⌝ }
+{
+    let i = v as usize;
+    if balances.len() <= i {
+        return;
+    }
+    let b = balances[i];
+    balances[i] = subtract(b, z);
+}
+
+// 0 for each vertex where the session is over.
+fn clear_numbers(potentials: &mut [i32; 255], over: bool)
+    ensures { λ _. ⌜ now (potentials .exit) ≡ pick over zeros (now (potentials .entry)) ⌝ }
+{
+    if !over {
+        return;
+    }
+    *potentials = [0i32; 255];
+}
+
+fn clear_balances(balances: &mut [i64; 255], over: bool)
+    ensures { λ _. ⌜ now (balances .exit) ≡ pick over zeros (now (balances .entry)) ⌝ }
+{
+    if !over {
+        return;
+    }
+    *balances = [0i64; 255];
+}
+
+// Once a claim stands, a refusal other than 5 ends the session.
+fn is_over(phase: u8, why: u8) -> bool
+    ensures { λ r. ⌜ r ≡ pick (eqb why 0) false (pick (eqb phase 3) (not (eqb why 5)) false) ⌝ }
+{
+    if why == 0 {
+        return false;
+    }
+    if phase != 3 {
+        return false;
+    }
+    why != 5
+}
+
+// What a step says.
+fn answer_to(why: u8) -> Answer
+    ensures { λ r. ⌜ r ≡ pick (eqb why 0) Accepted (Refused why) ⌝ }
+{
+    if why == 0 {
+        return Answer::Accepted;
+    }
+    Answer::Refused(why)
+}
+
+// The balances with the amount x on an arc from a to b.
+pub fn move_amount(balances: &mut [i64; 255], a: u32, b: u32, x: u32)
+    ensures { λ _. ⌜ now (balances .exit) ≡ moved (now (balances .entry)) a b x ⌝ }
+{
+    let amount = from_unsigned(x);
+    add_at(balances, a, amount);
+    take_at(balances, b, amount);
+}
+
+// The same where the arc was accepted.
+fn move_accepted(balances: &mut [i64; 255], why: u8, a: u32, b: u32, x: u32)
+    ensures { λ _. ⌜ now (balances .exit) ≡ pick (eqb why 0) (moved (now (balances .entry)) a b x) (now (balances .entry)) ⌝ }
+{
+    if why != 0 {
+        return;
+    }
+    move_amount(balances, a, b, x);
 }
 
 // The list of arcs with one more.
@@ -260,12 +393,238 @@ fn answer_for(st: Setting, claim: u8, cost: i64, cut: i64) -> Answer
     Answer::Value(to_unsigned(cost))
 }
 
+impl State {
+    // Opening.
+    pub fn open(question: u32, n: u32, s: u32, t: u32, point: u32) -> Turn
+        ensures { λ r. ⌜ r ≡ openTurn question n s t point ⌝ }
+    {
+        let why = open_check(question, n, s, t, point);
+        if why != 0 {
+            return Turn {
+                state: nothing(),
+                why: why,
+            };
+        }
+        let setting = Setting {
+            question: question as u8,
+            n: n as u8,
+            s: s as u8,
+            t: t as u8,
+        };
+        Turn {
+            state: started(1, setting, point),
+            why: 0,
+        }
+    }
+
+    // Reading a channel.
+    pub fn read_channel(mut self, a: u32, b: u32, w: u32) -> Turn
+        ensures { λ r. ⌜ r ≡ readTurn self (arcOf a b w) ⌝ }
+    {
+        let st = self.setting;
+        let read = self.read;
+        let why = read_check(self.phase, read.count, st, a, b, w);
+        if why != 0 {
+            return Turn {
+                state: self,
+                why: why,
+            };
+        }
+        let next = longer(self.point, read, a, b, w);
+        self.read = next;
+        Turn {
+            state: self,
+            why: 0,
+        }
+    }
+
+    // Ending the reading.
+    pub fn end_reading(mut self) -> Turn
+        ensures { λ r. ⌜ r ≡ endTurn self ⌝ }
+    {
+        let phase = self.phase;
+        if phase != 1 {
+            return Turn {
+                state: self,
+                why: 5,
+            };
+        }
+        self.phase = 2;
+        Turn {
+            state: self,
+            why: 0,
+        }
+    }
+
+    // The claim.
+    pub fn claim(mut self, claim: u32) -> Turn
+        ensures { λ r. ⌜ r ≡ claimTurn self claim ⌝ }
+    {
+        let phase = self.phase;
+        let st = self.setting;
+        if phase != 2 {
+            return Turn {
+                state: self,
+                why: 5,
+            };
+        }
+        if !claim_ok(st, claim) {
+            return Turn {
+                state: self,
+                why: 9,
+            };
+        }
+        self.phase = 3;
+        self.claim = claim as u8;
+        Turn {
+            state: self,
+            why: 0,
+        }
+    }
+
+    // The state with one node number more.
+    fn with_node(mut self, y: i32) -> State
+        requires { ⌜ self .given < 255 ⌝ }
+        ensures { λ r. ⌜ r ≡ withNumber self y ⌝ }
+    {
+        let given = self.given;
+        self.given = given + 1;
+        if y == 1 {
+            let marks = self.marks;
+            let next = with_mark(marks, given as u32);
+            self.marks = next;
+            return self;
+        }
+        self
+    }
+
+    // A node number, which is then to be stored.
+    pub fn node_number(self, y: i32) -> Turn
+        ensures { λ r. ⌜ r ≡ numberTurn self y ⌝ }
+    {
+        let st = self.setting;
+        let why = number_check(self.phase, self.given, st, self.claim, y);
+        if why != 0 {
+            return Turn {
+                state: self,
+                why: why,
+            };
+        }
+        Turn {
+            state: self.with_node(y),
+            why: 0,
+        }
+    }
+
+    // Stores the node number y as that of the next vertex.
+    pub fn store_number(self, potentials: &mut [i32; 255], y: i32)
+        ensures { λ _. ⌜ now (potentials .exit) ≡ set (now (potentials .entry)) (self .given) y ⌝ }
+    {
+        store_at(potentials, self.given, y);
+    }
+
+    // The same where the number was accepted.
+    fn store_accepted(self, potentials: &mut [i32; 255], why: u8, y: i32)
+        ensures { λ _. ⌜ now (potentials .exit) ≡ pick (eqb why 0) (set (now (potentials .entry)) (self .given) y) (now (potentials .entry)) ⌝ }
+    {
+        if why != 0 {
+            return;
+        }
+        self.store_number(potentials, y);
+    }
+
+    // The state, or that of a void session where the session is over.
+    fn left(self, over: bool) -> State
+        ensures { λ r. ⌜ r ≡ pick over idle self ⌝ }
+    {
+        if over {
+            return nothing();
+        }
+        self
+    }
+
+    // A repeated channel, whose amount is then to be moved between the balances.
+    pub fn repeat_channel(mut self, potentials: &[i32; 255], a: u32, b: u32, w: u32, x: u32) -> Turn
+        ensures { λ r. ⌜ r ≡ repeatTurn self (at (now (potentials .entry))) (loadOf a b w x) ⌝ }
+    {
+        let st = self.setting;
+        let claim = self.claim;
+        let read = self.read;
+        let repeated = self.repeated;
+        if !is_complete(self.phase, self.given, st) {
+            return Turn {
+                state: self,
+                why: 5,
+            };
+        }
+        let why = load_check(st, claim, repeated.count, read.count, a, b, w, x);
+        if why != 0 {
+            return Turn {
+                state: self,
+                why: why,
+            };
+        }
+        let ya = potential_of(potentials, a);
+        let yb = potential_of(potentials, b);
+        let marks = self.marks;
+        let ma = is_marked(marks, a);
+        let mb = is_marked(marks, b);
+        if !rule_ok(st, claim, ya, yb, ma, mb, w) {
+            return Turn {
+                state: self,
+                why: 12,
+            };
+        }
+        let next = longer(self.point, repeated, a, b, w);
+        self.repeated = next;
+        self.cost = cost_after(self.cost, w, x);
+        self.cut = cut_after(self.cut, w, leads_out(ma, mb));
+        Turn {
+            state: self,
+            why: 0,
+        }
+    }
+
+    // 0, or the number of the first check that refuses finishing: 5, 13, 14, 15 or 16.
+    pub fn finish_check(self, potentials: [i32; 255], balances: [i64; 255]) -> u8
+        ensures { λ r. ⌜ r ≡ firstBroken (finishChecks self (at potentials) (sumsHeld balances (self .cost) (self .cut))) ⌝ }
+    {
+        let st = self.setting;
+        let claim = self.claim;
+        let read = self.read;
+        let repeated = self.repeated;
+        if !is_complete(self.phase, self.given, st) {
+            return 5;
+        }
+        let why = lists_check(read, repeated);
+        if why != 0 {
+            return why;
+        }
+        if !balances_ok(st, claim, balances) {
+            return 15;
+        }
+        let marks = self.marks;
+        if !sums_ok(st, claim, potentials, marks, balances, self.cost, self.cut) {
+            return 16;
+        }
+        0
+    }
+
+    // The answer where finishing is not refused.
+    pub fn answer(self) -> Answer
+        ensures { λ r. ⌜ r ≡ answered (answerFor (settingIn self .question) (claimIn self) (self .cost) (self .cut)) ⌝ }
+    {
+        let st = self.setting;
+        answer_for(st, self.claim, self.cost, self.cut)
+    }
+}
+
 impl Session {
     // What a refusal hands back: once a claim stands, a refusal other than 5 ends the session.
     fn refuse(self, why: u8) -> Reply
         ensures { λ r. ⌜ r ≡ refuse self why ⌝ }
     {
-        let phase = self.phase;
+        let phase = self.state.phase;
         if phase != 3 {
             return Reply {
                 session: self,
@@ -279,63 +638,31 @@ impl Session {
             };
         }
         Reply {
-            session: nothing(),
+            session: ended(),
             answer: Answer::Refused(why),
         }
-    }
-
-    // Ending the reading.
-    pub fn end_reading(mut self) -> Reply
-        ensures { λ r. ⌜ r ≡ endStep self ⌝ }
-    {
-        let phase = self.phase;
-        if phase != 1 {
-            return self.refuse(5);
-        }
-        self.phase = 2;
-        Reply {
-            session: self,
-            answer: Answer::Accepted,
-        }
-    }
-
-    // The session with one node number more.
-    fn with_node(mut self, y: i32) -> Session
-        requires { ⌜ self .given < 255 ⌝ }
-        ensures { λ r. ⌜ r ≡ withNumber self y ⌝ }
-    {
-        let given = self.given;
-        let i = given as usize;
-        self.potentials[i] = y;
-        self.given = given + 1;
-        if y == 1 {
-            let marks = self.marks;
-            let next = with_mark(marks, given as u32);
-            self.marks = next;
-            return self;
-        }
-        self
     }
 
     // Opening.
     pub fn open(question: u32, n: u32, s: u32, t: u32, point: u32) -> Reply
         ensures { λ r. ⌜ r ≡ opening question n s t point ⌝ }
     {
-        let why = open_check(question, n, s, t, point);
+        let turn = State::open(question, n, s, t, point);
+        let why = turn.why;
+        let state = turn.state;
+        let session = Session {
+            potentials: [0i32; 255],
+            balances: [0i64; 255],
+            state: state,
+        };
         if why != 0 {
             return Reply {
-                session: nothing(),
+                session: session,
                 answer: Answer::Refused(why),
             };
         }
-        let setting = Setting {
-            question: question as u8,
-            n: n as u8,
-            s: s as u8,
-            t: t as u8,
-        };
         Reply {
-            session: started(1, setting, point),
+            session: session,
             answer: Answer::Accepted,
         }
     }
@@ -344,14 +671,32 @@ impl Session {
     pub fn read_channel(mut self, a: u32, b: u32, w: u32) -> Reply
         ensures { λ r. ⌜ r ≡ readStep self (arcOf a b w) ⌝ }
     {
-        let st = self.setting;
-        let read = self.read;
-        let why = read_check(self.phase, read.count, st, a, b, w);
+        let state = self.state;
+        let turn = state.read_channel(a, b, w);
+        let why = turn.why;
         if why != 0 {
             return self.refuse(why);
         }
-        let next = longer(self.point, read, a, b, w);
-        self.read = next;
+        let next = turn.state;
+        self.state = next;
+        Reply {
+            session: self,
+            answer: Answer::Accepted,
+        }
+    }
+
+    // Ending the reading.
+    pub fn end_reading(mut self) -> Reply
+        ensures { λ r. ⌜ r ≡ endStep self ⌝ }
+    {
+        let state = self.state;
+        let turn = state.end_reading();
+        let why = turn.why;
+        if why != 0 {
+            return self.refuse(why);
+        }
+        let next = turn.state;
+        self.state = next;
         Reply {
             session: self,
             answer: Answer::Accepted,
@@ -362,75 +707,55 @@ impl Session {
     pub fn claim(mut self, claim: u32) -> Reply
         ensures { λ r. ⌜ r ≡ claimStep self claim ⌝ }
     {
-        let phase = self.phase;
-        let st = self.setting;
-        if phase != 2 {
-            return self.refuse(5);
+        let state = self.state;
+        let turn = state.claim(claim);
+        let why = turn.why;
+        if why != 0 {
+            return self.refuse(why);
         }
-        if !claim_ok(st, claim) {
-            return self.refuse(9);
-        }
-        self.phase = 3;
-        self.claim = claim as u8;
+        let next = turn.state;
+        self.state = next;
         Reply {
             session: self,
             answer: Answer::Accepted,
         }
     }
 
-    // A node number.
-    pub fn node_number(self, y: i32) -> Reply
+    // A node number. With one way out, so that the session is copied as seldom as can be.
+    pub fn node_number(mut self, y: i32) -> Reply
         ensures { λ r. ⌜ r ≡ numberStep self y ⌝ }
     {
-        let st = self.setting;
-        let why = number_check(self.phase, self.given, st, self.claim, y);
-        if why != 0 {
-            return self.refuse(why);
-        }
+        let state = self.state;
+        let turn = state.node_number(y);
+        let why = turn.why;
+        let over = is_over(state.phase, why);
+        state.store_accepted(&mut self.potentials, why, y);
+        clear_numbers(&mut self.potentials, over);
+        clear_balances(&mut self.balances, over);
+        let next = turn.state;
+        self.state = next.left(over);
         Reply {
-            session: self.with_node(y),
-            answer: Answer::Accepted,
+            session: self,
+            answer: answer_to(why),
         }
     }
 
-    // A repeated channel.
+    // A repeated channel. With one way out, as above.
     pub fn repeat_channel(mut self, a: u32, b: u32, w: u32, x: u32) -> Reply
         ensures { λ r. ⌜ r ≡ repeatStep self (loadOf a b w x) ⌝ }
     {
-        let st = self.setting;
-        let claim = self.claim;
-        let read = self.read;
-        let repeated = self.repeated;
-        if !is_complete(self.phase, self.given, st) {
-            return self.refuse(5);
-        }
-        let why = load_check(st, claim, repeated.count, read.count, a, b, w, x);
-        if why != 0 {
-            return self.refuse(why);
-        }
-        let i = a as usize;
-        let j = b as usize;
-        let ya = self.potentials[i];
-        let yb = self.potentials[j];
-        let marks = self.marks;
-        let ma = is_marked(marks, a);
-        let mb = is_marked(marks, b);
-        if !rule_ok(st, claim, ya, yb, ma, mb, w) {
-            return self.refuse(12);
-        }
-        // in place: a function of its own would copy the session
-        let amount = from_unsigned(x);
-        let at_tail = self.balances[i];
-        self.balances[i] = add(at_tail, amount);
-        let at_head = self.balances[j];
-        self.balances[j] = subtract(at_head, amount);
-        let next = longer(self.point, repeated, a, b, w);
-        self.repeated = next;
-        self.cost = cost_after(self.cost, w, x);
-        self.cut = cut_after(self.cut, w, leads_out(ma, mb));
+        let state = self.state;
+        let turn = state.repeat_channel(&self.potentials, a, b, w, x);
+        let why = turn.why;
+        let over = is_over(state.phase, why);
+        move_accepted(&mut self.balances, why, a, b, x);
+        clear_numbers(&mut self.potentials, over);
+        clear_balances(&mut self.balances, over);
+        let next = turn.state;
+        self.state = next.left(over);
         Reply {
             session: self,
-            answer: Answer::Accepted,
+            answer: answer_to(why),
         }
     }
 
@@ -438,29 +763,16 @@ impl Session {
     pub fn finish(self) -> Reply
         ensures { λ r. ⌜ r ≡ finishStep self ⌝ }
     {
-        let st = self.setting;
-        let claim = self.claim;
-        let read = self.read;
-        let repeated = self.repeated;
-        if !is_complete(self.phase, self.given, st) {
-            return self.refuse(5);
-        }
-        let why = lists_check(read, repeated);
+        let state = self.state;
+        let potentials = self.potentials;
+        let balances = self.balances;
+        let why = state.finish_check(potentials, balances);
         if why != 0 {
             return self.refuse(why);
         }
-        let balances = self.balances;
-        if !balances_ok(st, claim, balances) {
-            return self.refuse(15);
-        }
-        let potentials = self.potentials;
-        let marks = self.marks;
-        if !sums_ok(st, claim, potentials, marks, balances, self.cost, self.cut) {
-            return self.refuse(16);
-        }
         Reply {
-            session: nothing(),
-            answer: answer_for(st, claim, self.cost, self.cut),
+            session: ended(),
+            answer: state.answer(),
         }
     }
 }

@@ -1,13 +1,16 @@
--- `judging::running::number_all` meets its contract. The loop's invariant: the numbers below v were accepted and left y.
+-- `judging::running::number_all` meets its contract. The loop's invariant: the numbers below v were accepted and left the potentials and y.
 -- Assumes nothing.
 use mathlib.Core.Path.{_∙_, ap}
 use Prim.Native.Nat.{_-_}
 use native.Mathlib.Omega.{arith}
+use lib.IntN.{ℤ}
+use lib.ListN.{set}
 use mir.Syntax.{w32}
-use Rattle.prelude.proofs.Signs.{back}
 use borrow.Author.Needs.{needs}
-use borrow.Author.Tests.{not-true, not-false}
-use Rattle.session.specs.Steps.{numberStep}
+use Rattle.prelude.proofs.Signs.{back}
+use Rattle.session.specs.Session.{joined, zeros}
+use Rattle.session.specs.Turns.{numberTurn}
+use Rattle.session.proofs.Turns.{number-refused, number-accepted}
 use Rattle.runs.specs.Run.{number}
 use Rattle.format.specs.Files.{numberIn}
 use Rattle.judging.proofs.Turns.{Going, going-none, going-on, gone, all-gone}
@@ -15,37 +18,43 @@ use Rattle.judging.proofs.running.number_all.Statement.{statement}
 use Rattle.judging.proofs.running.number_all.Tie as tie
 
 abbrev Inv-loop : tie.InvT-loop
-Inv-loop file n m y₀ v₀ y v = Going number (numberIn file) y₀ m y v
+Inv-loop potentials₀ file n m y₀ v₀ potentials y v = Going number (numberIn file) (joined potentials₀ zeros y₀) m (joined potentials zeros y) v
 
 abbrev μ-loop : tie.MeasureT-loop
-μ-loop file n m y₀ v₀ y v = m - v
+μ-loop potentials₀ file n m y₀ v₀ potentials y v = m - v
 
 loop-holds : tie.Need-loop-holds Inv-loop μ-loop
 loop-holds c =
-    let s = c .before in
-    going-none number (numberIn (s .args .file .now)) (s .args .x) (s .args .n)
+    let s = c .before .args in
+    going-none number (numberIn (s .file .now)) (joined (s .potentials .now) zeros (s .x)) (s .n)
 
 returns : tie.Need-returns Inv-loop μ-loop
 returns c =
-    let s = c .before .before .before .before .before .before .before in
-    let l = c .before .before .before .before .before .loop in
-    gone number (numberIn (s .args .file .now)) (s .args .x) (s .args .n) (l .y) (l .v) (c .before .before .node-number .result) (l .inv) (c .before .before .before .before .loop-test .taken)
-    (c .before .before .node-number .ensures ∙ ap (numberStep (l .y)) (back w32 (c .before .before .before .number .result) (c .before .before .before .number .ok) ∙ c .before .before .before .number .ensures))
-    (c .before .is-accepted .ensures .1 (not-true (c .before .is-accepted .result) (c .if1 .taken)))
+    let s = c .before .before .before .before .before .before .args in
+    let l = c .before .before .before .before .loop in
+    let found = c .before .before .number in
+    let turn = c .before .node-number in
+    let y = joined (l .potentials) zeros (l .y) in
+    gone number (numberIn (s .file .now)) (joined (s .potentials .now) zeros (s .x)) (s .n) y (l .v) (l .inv) (c .before .before .before .loop-test .taken) (turn .result .why) _
+    (number-refused y (numberIn (s .file .now) (l .v)) (turn .result) (turn .ensures ∙ ap (numberTurn (l .y)) (back w32 (found .result) (found .ok) ∙ found .ensures)) (c .if1 .taken)) (c .if1 .taken)
 
 loop-again : tie.Need-loop-again Inv-loop μ-loop
 loop-again c =
-    let s = c .before .before .before .before .before .before .before .before in
-    let l = c .before .before .before .before .before .before .loop in
-    going-on number (numberIn (s .args .file .now)) (s .args .x) (s .args .n) (l .y) (l .v) (c .before .before .before .node-number .result) (l .inv) (c .before .before .before .before .before .loop-test .taken)
-    (c .before .before .before .node-number .ensures ∙ ap (numberStep (l .y)) (back w32 (c .before .before .before .before .number .result) (c .before .before .before .before .number .ok) ∙ c .before .before .before .before .number .ensures))
-    (c .before .before .is-accepted .ensures .0 (not-false (c .before .before .is-accepted .result) (c .before .if1 .left)))
+    let s = c .before .before .before .before .before .before .before .before .before .args in
+    let l = c .before .before .before .before .before .before .before .loop in
+    let found = c .before .before .before .before .before .number in
+    let turn = c .before .before .before .before .node-number in
+    let y = joined (l .potentials) zeros (l .y) in
+    let same = back w32 (found .result) (found .ok) ∙ found .ensures in
+    going-on number (numberIn (s .file .now)) (joined (s .potentials .now) zeros (s .x)) (s .n) y (l .v) (l .inv) (c .before .before .before .before .before .before .loop-test .taken) _
+    (number-accepted y (numberIn (s .file .now) (l .v)) (turn .result) (turn .ensures ∙ ap (numberTurn (l .y)) same) _
+    (c .before .store-number .ensures ∙ ap (λ (z : ℤ). set (l .potentials) (l .y .given) z) same) (c .before .before .before .if1 .left))
 
 returns-2 : tie.Need-returns-2 Inv-loop μ-loop
 returns-2 c =
-    let s = c .before .before .before in
+    let s = c .before .before .before .args in
     let l = c .before .loop in
-    all-gone number (numberIn (s .args .file .now)) (s .args .x) (s .args .n) (l .y) (l .v) (l .inv) (c .loop-test .left)
+    all-gone number (numberIn (s .file .now)) (joined (s .potentials .now) zeros (s .x)) (s .n) (joined (l .potentials) zeros (l .y)) (l .v) (l .inv) (c .loop-test .left)
 
 pub number-all-spec : {M : Type 1} → statement M
 number-all-spec =
@@ -56,9 +65,9 @@ number-all-spec =
     loop-holds
     (λ c κs. search needs)
     (λ c κs. search needs)
-    (λ c κs. search needs)
     returns
+    (λ c κs. search needs)
     (λ c. search needs)
-    (λ c. omega (arith, c .before .before .before .before .before .loop-test .taken))
+    (λ c. omega (arith, c .before .before .before .before .before .before .loop-test .taken))
     loop-again
     returns-2)

@@ -5,9 +5,9 @@ use mathlib.Core.List.{map}
 use Prim.Native.Nat.{ℕ, _-_}
 use native.Mathlib.Omega.{arith}
 use borrow.Author.Needs.{needs}
-use borrow.Author.Tests.{not-true, not-false}
-use Rattle.session.specs.Session.{accept}
-use Rattle.session.specs.Steps.{readStep}
+use Rattle.session.specs.Session.{joined, zeros}
+use Rattle.session.specs.Turns.{readTurn}
+use Rattle.session.proofs.Turns.{read-refused, read-accepted}
 use Rattle.runs.specs.Run.{read}
 use Rattle.format.specs.Bytes.{listTo}
 use Rattle.format.specs.Files.{arcIn}
@@ -17,44 +17,42 @@ use Rattle.judging.proofs.running.read_all.Statement.{statement}
 use Rattle.judging.proofs.running.read_all.Tie as tie
 
 abbrev Inv-loop : tie.InvT-loop
-Inv-loop file m y₀ e₀ y e = Going read (arcIn file) y₀ m y e
+Inv-loop file m y₀ e₀ y e = Going read (arcIn file) (joined zeros zeros y₀) m (joined zeros zeros y) e
 
 abbrev μ-loop : tie.MeasureT-loop
 μ-loop file m y₀ e₀ y e = m - e
 
 loop-holds : tie.Need-loop-holds Inv-loop μ-loop
 loop-holds c =
-    let s = c .before .before in
-    going-none read (arcIn (s .args .file .now)) (s .args .x) (c .count .result)
+    let s = c .before .before .args in
+    going-none read (arcIn (s .file .now)) (joined zeros zeros (s .x)) (c .count .result)
 
 returns : tie.Need-returns Inv-loop μ-loop
 returns c =
-    let reply = c .before .before .read-channel in
-    let found = c .before .before .before .before .before .before in
-    let l = found .before .before .loop in
-    let asked = found .before .before .before .count in
-    let s = found .before .before .before .before .before in
-    subst (λ (m : ℕ). Goes (s .args .x) (map read (listTo m (arcIn (s .args .file .now)))) (reply .result)) (asked .ensures)
-    (gone read (arcIn (s .args .file .now)) (s .args .x) (asked .result) (l .y) (l .e) (reply .result) (l .inv) (found .before .loop-test .taken)
-    (reply .ensures ∙ ap (readStep (l .y)) (found .arc .ensures))
-    (c .before .is-accepted .ensures .1 (not-true (c .before .is-accepted .result) (c .if1 .taken))))
+    let s = c .before .before .before .before .before .before .before .before .before .before .args in
+    let asked = c .before .before .before .before .before .before .before .before .count in
+    let l = c .before .before .before .before .before .before .before .loop in
+    let turn = c .before .read-channel in
+    let y = joined zeros zeros (l .y) in
+    subst (λ (m : ℕ). Goes (joined zeros zeros (s .x)) (map read (listTo m (arcIn (s .file .now)))) (turn .result .why) (joined zeros zeros (turn .result .state))) (asked .ensures)
+    (gone read (arcIn (s .file .now)) (joined zeros zeros (s .x)) (asked .result) y (l .e) (l .inv) (c .before .before .before .before .before .before .loop-test .taken) (turn .result .why) _
+    (read-refused y (arcIn (s .file .now) (l .e)) (turn .result) (turn .ensures ∙ ap (readTurn (l .y)) (c .before .before .before .before .before .arc .ensures)) (c .if1 .taken)) (c .if1 .taken))
 
 loop-again : tie.Need-loop-again Inv-loop μ-loop
 loop-again c =
-    let reply = c .before .before .before .read-channel in
-    let found = c .before .before .before .before .before .before .before in
-    let l = found .before .before .loop in
-    let s = found .before .before .before .before .before in
-    going-on read (arcIn (s .args .file .now)) (s .args .x) (found .before .before .before .count .result) (l .y) (l .e) (reply .result) (l .inv) (found .before .loop-test .taken)
-    (reply .ensures ∙ ap (readStep (l .y)) (found .arc .ensures))
-    (c .before .before .is-accepted .ensures .0 (not-false (c .before .before .is-accepted .result) (c .before .if1 .left)))
+    let s = c .before .before .before .before .before .before .before .before .before .before .before .args in
+    let l = c .before .before .before .before .before .before .before .before .loop in
+    let turn = c .before .before .read-channel in
+    let y = joined zeros zeros (l .y) in
+    going-on read (arcIn (s .file .now)) (joined zeros zeros (s .x)) (c .before .before .before .before .before .before .before .before .before .count .result) y (l .e) (l .inv) (c .before .before .before .before .before .before .before .loop-test .taken) _
+    (read-accepted y (arcIn (s .file .now) (l .e)) (turn .result) (turn .ensures ∙ ap (readTurn (l .y)) (c .before .before .before .before .before .before .arc .ensures)) (c .before .if1 .left))
 
 returns-2 : tie.Need-returns-2 Inv-loop μ-loop
 returns-2 c =
-    let s = c .before .before .before .before in
+    let s = c .before .before .before .before .args in
     let l = c .before .loop in
-    subst (λ (m : ℕ). Goes (s .args .x) (map read (listTo m (arcIn (s .args .file .now)))) (accept (l .y))) (c .before .before .count .ensures)
-    (all-gone read (arcIn (s .args .file .now)) (s .args .x) (c .before .before .count .result) (l .y) (l .e) (l .inv) (c .loop-test .left))
+    subst (λ (m : ℕ). Goes (joined zeros zeros (s .x)) (map read (listTo m (arcIn (s .file .now)))) 0 (joined zeros zeros (l .y))) (c .before .before .count .ensures)
+    (all-gone read (arcIn (s .file .now)) (joined zeros zeros (s .x)) (c .before .before .count .result) (joined zeros zeros (l .y)) (l .e) (l .inv) (c .loop-test .left))
 
 pub read-all-spec : {M : Type 1} → statement M
 read-all-spec =
@@ -70,9 +68,8 @@ read-all-spec =
     (λ c. search needs)
     (λ c. search needs)
     (λ c κs. search needs)
-    (λ c κs. search needs)
     returns
     (λ c. search needs)
-    (λ c. omega (arith, c .before .before .before .before .before .before .before .before .loop-test .taken))
+    (λ c. omega (arith, c .before .before .before .before .before .before .before .loop-test .taken))
     loop-again
     returns-2)

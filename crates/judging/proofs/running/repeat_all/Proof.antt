@@ -1,13 +1,16 @@
--- `judging::running::repeat_all` meets its contract. The loop's invariant: the loads below e were accepted and left y.
+-- `judging::running::repeat_all` meets its contract. The loop's invariant: the loads below e were accepted and left the balances and y.
 -- Assumes nothing.
 use mathlib.Core.Path.{_∙_, ap, subst}
 use mathlib.Core.List.{map}
 use Prim.Native.Nat.{ℕ, _-_}
 use native.Mathlib.Omega.{arith}
 use borrow.Author.Needs.{needs}
-use borrow.Author.Tests.{not-true, not-false}
-use Rattle.session.specs.Session.{accept}
-use Rattle.session.specs.Steps.{repeatStep}
+use Rattle.prelude.specs.Lists.{at}
+use Rattle.network.specs.Network.{Load}
+use Rattle.session.specs.Session.{joined}
+use Rattle.session.specs.Steps.{moved}
+use Rattle.session.specs.Turns.{repeatTurn}
+use Rattle.session.proofs.Turns.{repeat-refused, repeat-accepted}
 use Rattle.runs.specs.Run.{repeat}
 use Rattle.format.specs.Bytes.{listTo}
 use Rattle.format.specs.Files.{loadIn}
@@ -17,39 +20,49 @@ use Rattle.judging.proofs.running.repeat_all.Statement.{statement}
 use Rattle.judging.proofs.running.repeat_all.Tie as tie
 
 abbrev Inv-loop : tie.InvT-loop
-Inv-loop file n m y₀ e₀ y e = Going repeat (loadIn n file) y₀ m y e
+Inv-loop potentials balances₀ file n m y₀ e₀ balances y e = Going repeat (loadIn n file) (joined potentials balances₀ y₀) m (joined potentials balances y) e
 
 abbrev μ-loop : tie.MeasureT-loop
-μ-loop file n m y₀ e₀ y e = m - e
+μ-loop potentials balances₀ file n m y₀ e₀ balances y e = m - e
 
 loop-holds : tie.Need-loop-holds Inv-loop μ-loop
 loop-holds c =
-    let s = c .before .before in
-    going-none repeat (loadIn (s .args .n) (s .args .file .now)) (s .args .x) (c .count .result)
+    let s = c .before .before .args in
+    going-none repeat (loadIn (s .n) (s .file .now)) (joined (s .potentials .now) (s .balances .now) (s .x)) (c .count .result)
 
 returns : tie.Need-returns Inv-loop μ-loop
 returns c =
-    let s = c .before .before .before .before .before .before .before .before in
-    let l = c .before .before .before .before .before .loop in
-    subst (λ (m : ℕ). Goes (s .args .x) (map repeat (listTo m (loadIn (s .args .n) (s .args .file .now)))) (c .before .before .repeat-channel .result)) (c .before .before .before .before .before .before .count .ensures)
-    (gone repeat (loadIn (s .args .n) (s .args .file .now)) (s .args .x) (c .before .before .before .before .before .before .count .result) (l .y) (l .e) (c .before .before .repeat-channel .result) (l .inv) (c .before .before .before .before .loop-test .taken)
-    (c .before .before .repeat-channel .ensures ∙ ap (repeatStep (l .y)) (c .before .before .before .load .ensures))
-    (c .before .is-accepted .ensures .1 (not-true (c .before .is-accepted .result) (c .if1 .taken))))
+    let s = c .before .before .before .before .before .before .before .args in
+    let asked = c .before .before .before .before .before .count in
+    let l = c .before .before .before .before .loop in
+    let turn = c .before .repeat-channel in
+    let ys = s .potentials .now in
+    let x = joined ys (s .balances .now) (s .x) in
+    let y = joined ys (l .balances) (l .y) in
+    subst (λ (m : ℕ). Goes x (map repeat (listTo m (loadIn (s .n) (s .file .now)))) (turn .result .why) (joined ys (l .balances) (turn .result .state))) (asked .ensures)
+    (gone repeat (loadIn (s .n) (s .file .now)) x (asked .result) y (l .e) (l .inv) (c .before .before .before .loop-test .taken) (turn .result .why) _
+    (repeat-refused y (loadIn (s .n) (s .file .now) (l .e)) (turn .result) (turn .ensures ∙ ap (repeatTurn (l .y) (at ys)) (c .before .before .load .ensures)) (c .if1 .taken)) (c .if1 .taken))
 
 loop-again : tie.Need-loop-again Inv-loop μ-loop
 loop-again c =
-    let s = c .before .before .before .before .before .before .before .before .before in
-    let l = c .before .before .before .before .before .before .loop in
-    going-on repeat (loadIn (s .args .n) (s .args .file .now)) (s .args .x) (c .before .before .before .before .before .before .before .count .result) (l .y) (l .e) (c .before .before .before .repeat-channel .result) (l .inv) (c .before .before .before .before .before .loop-test .taken)
-    (c .before .before .before .repeat-channel .ensures ∙ ap (repeatStep (l .y)) (c .before .before .before .before .load .ensures))
-    (c .before .before .is-accepted .ensures .0 (not-false (c .before .before .is-accepted .result) (c .before .if1 .left)))
+    let s = c .before .before .before .before .before .before .before .before .before .before .args in
+    let l = c .before .before .before .before .before .before .before .loop in
+    let found = c .before .before .before .before .before .load in
+    let turn = c .before .before .before .before .repeat-channel in
+    let ys = s .potentials .now in
+    let y = joined ys (l .balances) (l .y) in
+    going-on repeat (loadIn (s .n) (s .file .now)) (joined ys (s .balances .now) (s .x)) (c .before .before .before .before .before .before .before .before .count .result) y (l .e) (l .inv) (c .before .before .before .before .before .before .loop-test .taken) _
+    (repeat-accepted y (loadIn (s .n) (s .file .now) (l .e)) (turn .result) (turn .ensures ∙ ap (repeatTurn (l .y) (at ys)) (found .ensures)) _
+    (c .before .move-amount .ensures ∙ ap (λ (b : Load). moved (l .balances) (b .arc .tail) (b .arc .head) (b .amount)) (found .ensures)) (c .before .before .before .if1 .left))
 
 returns-2 : tie.Need-returns-2 Inv-loop μ-loop
 returns-2 c =
-    let s = c .before .before .before .before in
+    let s = c .before .before .before .before .args in
     let l = c .before .loop in
-    subst (λ (m : ℕ). Goes (s .args .x) (map repeat (listTo m (loadIn (s .args .n) (s .args .file .now)))) (accept (l .y))) (c .before .before .count .ensures)
-    (all-gone repeat (loadIn (s .args .n) (s .args .file .now)) (s .args .x) (c .before .before .count .result) (l .y) (l .e) (l .inv) (c .loop-test .left))
+    let ys = s .potentials .now in
+    let x = joined ys (s .balances .now) (s .x) in
+    subst (λ (m : ℕ). Goes x (map repeat (listTo m (loadIn (s .n) (s .file .now)))) 0 (joined ys (l .balances) (l .y))) (c .before .before .count .ensures)
+    (all-gone repeat (loadIn (s .n) (s .file .now)) x (c .before .before .count .result) (joined ys (l .balances) (l .y)) (l .e) (l .inv) (c .loop-test .left))
 
 pub repeat-all-spec : {M : Type 1} → statement M
 repeat-all-spec =
@@ -62,9 +75,9 @@ repeat-all-spec =
     loop-holds
     (λ c κs. search needs)
     (λ c κs. search needs)
-    (λ c κs. search needs)
     returns
+    (λ c κs. search needs)
     (λ c. search needs)
-    (λ c. omega (arith, c .before .before .before .before .before .loop-test .taken))
+    (λ c. omega (arith, c .before .before .before .before .before .before .loop-test .taken))
     loop-again
     returns-2)

@@ -1,22 +1,24 @@
 -- `session::Session::end_reading` meets its contract.
 -- Assumes nothing.
 use mathlib.Core.Path.{_∙_}
+use Rattle.session.proofs.Turns.{end-refused, end-accepted}
 use borrow.Author.Needs.{needs}
-use Rattle.prelude.proofs.Choice.{checks}
-use Rattle.session.specs.Steps.{endStep}
 use Rattle.session.proofs.Session.end_reading.Statement.{statement}
 use Rattle.session.proofs.Session.end_reading.Tie as tie
+
+end-reading-requires : tie.Need-end-reading-requires
+end-reading-requires c κs = search needs
 
 refuse-requires : tie.Need-refuse-requires
 refuse-requires c κs = search needs
 
 returns : tie.Need-returns
-unfolding endStep
-returns c = c .refuse .ensures ∙ search checks
+returns c =
+    let s = c .before .before .before .before .args in c .refuse .ensures ∙ end-refused (s .self) (c .before .before .end-reading .result) (c .before .before .end-reading .ensures) (c .before .if1 .taken)
 
 returns-2 : tie.Need-returns-2
-unfolding endStep
-returns-2 c = search checks
+returns-2 c =
+    let s = c .before .before .before .before .args in end-accepted (s .self) (c .before .before .end-reading .result) (c .before .before .end-reading .ensures) (c .before .if1 .left)
 
 pub end-reading-spec : {M : Type 1} → statement M
-end-reading-spec = tie.close (tie.spec refuse-requires returns returns-2)
+end-reading-spec = tie.close (tie.spec end-reading-requires refuse-requires returns returns-2)

@@ -1,50 +1,58 @@
 -- `session::Session::node_number` meets its contract.
 -- Assumes nothing.
-use mathlib.Core.Path.{refl, _∙_, ap}
-use native.Mathlib.Omega.{arith}
+use mathlib.Core.Path.{_∙_, ap}
+use Prim.Native.Nat.{ℕ}
+use Rattle.prelude.specs.Choice.{pick}
+use Rattle.session.proofs.Turns.{number-handed}
 use borrow.Author.Needs.{needs}
-use lib.Dec.{ltb, ltb→lt}
+use lib.Dec.{eqb}
 use lib.IntN.{ℤ}
+use lib.ListN.{set}
 use mir.Facts.{toZ-ofZ}
-use Rattle.prelude.proofs.Booleans.{and-right}
-use Rattle.session.specs.Session.{isClaimed, accept}
-use Rattle.session.specs.Steps.{numberChecks, withNumber, numberStep}
-use Rattle.session.specs.declared.Session.{Session}
-use Rattle.session.proofs.Laws.{step-refused, step-holds, step-accepted}
+use Rattle.session.specs.Turns.{numberTurn}
 use Rattle.session.proofs.Session.node_number.Statement.{statement}
 use Rattle.session.proofs.Session.node_number.Tie as tie
 
-number-check-requires : tie.Need-number-check-requires
-number-check-requires c κs = search needs
+node-number-requires : tie.Need-node-number-requires
+node-number-requires c κs = search needs
 
-refuse-requires : tie.Need-refuse-requires
-refuse-requires c κs = search needs
+is-over-requires : tie.Need-is-over-requires
+is-over-requires c κs = search needs
+
+store-accepted-requires : tie.Need-store-accepted-requires
+store-accepted-requires c κs = search needs
+
+clear-numbers-requires : tie.Need-clear-numbers-requires
+clear-numbers-requires c κs = search needs
+
+clear-balances-requires : tie.Need-clear-balances-requires
+clear-balances-requires c κs = search needs
+
+left-requires : tie.Need-left-requires
+left-requires c κs = search needs
+
+answer-to-requires : tie.Need-answer-to-requires
+answer-to-requires c κs = search needs
 
 returns : tie.Need-returns
-unfolding numberStep
 returns c =
-    let s = c .before .before .before .before .args in
-    let back = toZ-ofZ (c .before .before .before .before .fits .y) in
-    let found = simp back at (c .before .before .number-check .ensures) in
-    c .refuse .ensures ∙ step-refused (s .self) (numberChecks (s .self) (s .y)) (accept (withNumber (s .self) (s .y))) (refl, (refl, tt)) (c .before .before .number-check .result) found (c .before .if1 .taken)
-
-with-node-requires : tie.Need-with-node-requires
-with-node-requires c κs =
-    let s = c .before .before .before .args in
-    let back = toZ-ofZ (c .before .before .before .fits .y) in
-    let found = simp back at (c .before .number-check .ensures) in
-    let h = step-holds (s .self) (numberChecks (s .self) (s .y)) (accept (withNumber (s .self) (s .y))) (refl, (refl, tt)) (c .before .number-check .result) found (c .if1 .left) in
-    omega (arith, ltb→lt (s .self .given) (s .self .setting .n) (and-right (isClaimed (s .self)) (ltb (s .self .given) (s .self .setting .n)) (h .0)))
-
-returns-2 : tie.Need-returns-2
-unfolding numberStep
-returns-2 c =
-    let s = c .before .before .before .before .args in
-    let back = toZ-ofZ (c .before .before .before .before .fits .y) in
-    let found = simp back at (c .before .before .number-check .ensures) in
-    step-accepted (s .self) (numberChecks (s .self) (s .y)) (accept (withNumber (s .self) (s .y))) (refl, (refl, tt)) (c .before .before .number-check .result) found (c .before .if1 .left) _
-    (ap (λ (x : Session). accept x) (c .with-node .ensures ∙ ap (λ (z : ℤ). withNumber (s .self) z) back))
+    let s = c .before .before .before .before .before .before .before .before .before .before .before .before .args in
+    let x = s .t1 in
+    let back = toZ-ofZ (c .before .before .before .before .before .before .before .before .before .before .before .before .fits .y) in
+    let turn = c .before .before .before .before .before .before .before .before .before .before .node-number in
+    number-handed x (s .y) (turn .result) (turn .ensures ∙ ap (numberTurn (x .state)) back) (c .before .before .before .before .before .before .before .before .before .is-over .result) (c .before .before .before .before .before .before .before .before .before .is-over .ensures) _
+    (c .before .before .before .before .before .before .before .store-accepted .ensures ∙ ap (λ (z : ℤ). pick (eqb (turn .result .why) 0) (set (x .potentials) (x .state .given) z) (x .potentials)) back)
+    (c .before .before .before .before .before .clear-numbers .ensures) (c .before .before .before .clear-balances .ensures) (c .before .left .ensures) (c .answer-to .ensures)
 
 pub node-number-spec : {M : Type 1} → statement M
 node-number-spec =
-    tie.close (tie.spec number-check-requires refuse-requires returns with-node-requires returns-2)
+    tie.close
+    (tie.spec
+    node-number-requires
+    is-over-requires
+    store-accepted-requires
+    clear-numbers-requires
+    clear-balances-requires
+    left-requires
+    answer-to-requires
+    returns)
