@@ -13,7 +13,7 @@ use borrow.Author.Tests.{not-true, not-false, lt-ltb, le-ltb, le-leb, lt-leb, eq
 use Rattle.prelude.specs.Choice.{pick, implies}
 use Rattle.prelude.specs.Integers.{eqZ}
 use Rattle.prelude.proofs.Choice.{same, on, off}
-use Rattle.prelude.proofs.Signs.{signs, back, bits-eq}
+use Rattle.words.proofs.Signs.{signs, back, bits-eq}
 use Rattle.network.specs.Question.{Question, shortestPath, maximumFlow, assignment}
 use Rattle.network.specs.Tests.{questionOf, claimOf, ofValue, ofNone, mayClaim}
 

@@ -15,11 +15,11 @@ use mir.Val.{Val}
 use denote.Array.{each}
 use denote.Shadow.{shadow}
 use denote.Signed.{SInt}
-use Rattle.prelude.specs.Integers.{small, plus, minus}
+use Rattle.words.specs.Bounded.{small, boundedSum, boundedDifference}
 use Rattle.prelude.specs.Lists.{at}
 use Rattle.prelude.specs.Sums.{sumToℤ, allTo}
 use Rattle.prelude.proofs.Booleans.{both, fails, T→true}
-use Rattle.prelude.proofs.Signs.{mag-add, plus-small, minus-small}
+use Rattle.words.proofs.Signs.{mag-add, plus-small, minus-small}
 use Rattle.prelude.proofs.Sums.{allTo-at}
 
 -- ---- the test of every vertex
@@ -59,7 +59,7 @@ module _ (ys : List ℤ) (sized : (i : ℕ) → mag (at ys i) < 2 ^ 31) where
   sum-small k n h = mag-small (sumToℤ n (λ i. at ys (k + i))) (omega (arith, sum-sized (λ i. at ys (k + i)) (λ i. sized (k + i)) n))
 
   -- one number more
-  pub sum-more : (low v : ℕ) (s r : ℤ) → low ≤ v → v < 255 → s ≡ sumToℤ (v - low) (λ i. at ys (low + i)) → r ≡ plus s (at ys v)
+  pub sum-more : (low v : ℕ) (s r : ℤ) → low ≤ v → v < 255 → s ≡ sumToℤ (v - low) (λ i. at ys (low + i)) → r ≡ boundedSum s (at ys v)
       → r ≡ sumToℤ (v + 1 - low) (λ i. at ys (low + i))
   unfolding sumToℤ
   sum-more low v s r h l e f =
@@ -67,10 +67,10 @@ module _ (ys : List ℤ) (sized : (i : ℕ) → mag (at ys i) < 2 ^ 31) where
       let last : low + (v - low) ≡ v = omega arith in
       let total = sumToℤ (v - low) (λ i. at ys (low + i)) in
       let one = mag-small (at ys v) (omega (arith, sized v)) in
-      rw (more, last) (f ∙ ap (λ (z : ℤ). plus z (at ys v)) e ∙ plus-small total (at ys v) (sum-small low (v - low) (omega arith)) one)
+      rw (more, last) (f ∙ ap (λ (z : ℤ). boundedSum z (at ys v)) e ∙ plus-small total (at ys v) (sum-small low (v - low) (omega arith)) one)
 
   -- the first h numbers from the k after them
-  pub difference : (h k : ℕ) → h ≤ 255 → k ≤ 255 → (r : ℤ) → r ≡ minus (sumToℤ k (λ i. at ys (h + i))) (sumToℤ h (λ i. at ys (0 + i)))
+  pub difference : (h k : ℕ) → h ≤ 255 → k ≤ 255 → (r : ℤ) → r ≡ boundedDifference (sumToℤ k (λ i. at ys (h + i))) (sumToℤ h (λ i. at ys (0 + i)))
       → r ≡ sumToℤ k (λ i. at ys (h + i)) -ℤ sumToℤ h (at ys)
   difference h k p q r e =
       let start : sumToℤ h (λ i. at ys (0 + i)) ≡ sumToℤ h (at ys) = simp zero-add in

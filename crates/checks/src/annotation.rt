@@ -97,7 +97,7 @@ pub fn node_ok(st: Setting, claim: u8, v: u8, z: i32) -> bool
     let question = st.question;
     let low = lowest_node(question, claim);
     let high = highest_node(question, claim);
-    if !prelude::signed::within(low, high, z) {
+    if !words::signed::within(low, high, z) {
         return false;
     }
     node_ends(st, claim, v, z)
@@ -126,7 +126,7 @@ pub fn rule_ok(st: Setting, claim: u8, ya: i32, yb: i32, ma: bool, mb: bool, w: 
         return true;
     }
     if claim == 1 {
-        return prelude::signed::at_most_sum(yb, ya, w);
+        return words::signed::at_most_sum(yb, ya, w);
     }
     if ma {
         return mb;

@@ -3,17 +3,17 @@ ghost use mathlib.Core.Path.{_≡_};
 ghost use Prim.Native.Nat.{_+_, _-_};
 ghost use lib.Dec.{ltb};
 ghost use Rattle.prelude.specs.Lists.{at};
-ghost use Rattle.prelude.specs.Marks.{isMarked};
+ghost use Rattle.words.specs.Marks.{isMarked};
 ghost use Rattle.prelude.specs.Sums.{sumToℤ};
 ghost use Rattle.network.specs.Certificate.{potentialGap, markedPumps, markedSites};
 ghost use Rattle.network.specs.Tests.{questionOf, claimOf, balanceFor, balancesFor, sumsFor};
 ghost use Rattle.checks.specs.Setting.{asked, sumsHeld};
 use super::Setting;
-use prelude::marks::count_marked;
-use prelude::signed::add;
-use prelude::signed::equal;
-use prelude::signed::subtract;
-use prelude::signed::widened;
+use words::marks::count_marked;
+use words::signed::add;
+use words::signed::equal;
+use words::signed::subtract;
+use words::signed::widened;
 
 // The entry of a vertex, 0 past the end.
 pub fn potential_at(potentials: [i32; 255], v: u8) -> i32

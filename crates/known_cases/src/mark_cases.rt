@@ -1,9 +1,9 @@
 // Marks: bits at the ends of the words, and counts over ranges that start and end anywhere.
 use super::print::answer;
 use super::print::line;
-use prelude::marks::count_marked;
-use prelude::marks::is_marked;
-use prelude::marks::with_mark;
+use words::marks::count_marked;
+use words::marks::is_marked;
+use words::marks::with_mark;
 
 fn some() -> [u64; 4] {
     let none = [0u64; 4];

@@ -1,10 +1,10 @@
 // Signed numbers at the ends of their ranges.
 use super::print::answer;
-use prelude::signed::add;
-use prelude::signed::at_most_sum;
-use prelude::signed::equal;
-use prelude::signed::subtract;
-use prelude::signed::within;
+use words::signed::add;
+use words::signed::at_most_sum;
+use words::signed::equal;
+use words::signed::subtract;
+use words::signed::within;
 
 pub fn run() {
     answer(b"-8322818 within:", within(-8322818, 8322818, -8322818));

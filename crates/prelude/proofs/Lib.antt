@@ -2,12 +2,8 @@ pub mod Choice
 pub mod Settle
 pub mod Booleans
 pub mod Integers
-pub mod Signs
 pub mod Lists
 pub mod Permutations
 pub mod Sums
 pub mod Counts
-pub mod Bits
-pub mod MarkLaws
-pub mod CountLaws
 pub mod Filling

@@ -3,5 +3,3 @@ pub mod Checks
 pub mod Lists
 pub mod Sums
 pub mod Integers
-pub mod Marks
-pub mod Masks

@@ -1,3 +1,1 @@
-// The signed and bit operations that the other crates are built from.
-pub mod marks;
-pub mod signed;
+// Nothing to run: the definitions and laws that every other crate uses.

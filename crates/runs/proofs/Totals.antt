@@ -12,12 +12,12 @@ use lib.IntN.{ℤ, pos, negℤ, _+ℤ_, _-ℤ_}
 use lib.ListN.{length, set, length-set, length-map}
 use lib.Signed.{_≤ℤ_, leZ}
 use Rattle.prelude.specs.Choice.{indicator}
-use Rattle.prelude.specs.Integers.{small, plus}
+use Rattle.words.specs.Bounded.{small, boundedSum}
 use Rattle.prelude.specs.Lists.{Every, at}
 use Rattle.prelude.proofs.Booleans.{both}
 use Rattle.prelude.proofs.Integers.{posPart, negPart, signed, parts-add, parts-sub, parts-neg, parts-min}
 use Rattle.prelude.proofs.Lists.{every-map, image-every}
-use Rattle.prelude.proofs.Signs.{plus-small, minus-small}
+use Rattle.words.proofs.Signs.{plus-small, minus-small}
 use Rattle.network.specs.Network.{Arc, Load, arcs, delta, sumOf, leaving, entering, balance, cost, crosses, cut}
 use Rattle.network.proofs.Append.{sumOf-snoc, arcs-snoc, cut-snoc, balance-snoc, sumOf-most, cut-most}
 use Rattle.network.proofs.Sound.{balance-parts}
@@ -45,7 +45,7 @@ small-parts z p q =
     let high : z ≤ℤ pos limit = omega signed in
     both (leZ (negℤ (pos limit)) z) (leZ z (pos limit)) (low .le) (high .le)
 
-plus-pos : (a b : ℕ) → a ≤ limit → b ≤ limit → plus (pos a) (pos b) ≡ pos (a + b)
+plus-pos : (a b : ℕ) → a ≤ limit → b ≤ limit → boundedSum (pos a) (pos b) ≡ pos (a + b)
 plus-pos a b h k = plus-small (pos a) (pos b) (small-parts (pos a) h (omega arith)) (small-parts (pos b) k (omega arith))
 
 at-one-end : (x u v : ℕ) → x * delta u v ≤ x
@@ -132,13 +132,13 @@ module _ (f : List Load) (light : Every Light f) (few : length f ≤ 4096) where
             let m = parts-min (balance v f +ℤ pos (x * delta a v)) in
             small-parts (balance v f +ℤ pos (x * delta a v)) (omega arith) (omega arith)
 
-    pub cost-more : plus (pos (cost f)) (pos (l .amount * l .arc .weight)) ≡ pos (cost (f ++ l ∷ []))
+    pub cost-more : boundedSum (pos (cost f)) (pos (l .amount * l .arc .weight)) ≡ pos (cost (f ++ l ∷ []))
     cost-more =
         let most = sumOf-most (λ e. e .weight) 1073676289 f (every-map (λ b (k : Light b). mul-le-mul (k .amount-within) (k .weight-within)) f light) in
         plus-pos (cost f) (l .amount * l .arc .weight) (omega arith) (omega (arith, mul-le-mul (h .amount-within) (h .weight-within)))
         ∙ ap pos (sym (sumOf-snoc (λ e. e .weight) f l))
 
-    pub cut-more : (m : ℕ → Bool) → plus (pos (cut m (arcs f))) (pos (l .arc .weight * indicator (crosses m (l .arc)))) ≡ pos (cut m (arcs (f ++ l ∷ [])))
+    pub cut-more : (m : ℕ → Bool) → boundedSum (pos (cut m (arcs f))) (pos (l .arc .weight * indicator (crosses m (l .arc)))) ≡ pos (cut m (arcs (f ++ l ∷ [])))
     cut-more m =
         let most = cut-most m 32767 (arcs f) (image-every (λ b. b .arc) (λ e. e .weight * indicator (crosses m e) ≤ 32767) f
         (every-map (λ b (k : Light b). let w = k .weight-within in omega (arith, part-of (b .arc .weight) (crosses m (b .arc)))) f light)) in

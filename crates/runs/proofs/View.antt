@@ -10,7 +10,7 @@ use lib.IntN.{ℤ, pos}
 use lib.ListN.{length, set, length-append, length-map}
 use Rattle.prelude.specs.Checks.{Check, _unless_, settle, Hold}
 use Rattle.prelude.specs.Choice.{pick, indicator}
-use Rattle.prelude.specs.Integers.{plus}
+use Rattle.words.specs.Bounded.{boundedSum}
 use Rattle.prelude.specs.Lists.{Every, at}
 use Rattle.prelude.proofs.Lists.{every-map}
 use Rattle.field.specs.Field.{product, fingerprint}
@@ -183,7 +183,7 @@ module _ (held : Held) (r : Point) where
         marks = wordsOf ys;
         repeated = (stream-more r (arcs f) (b .arc) ∙ ap (stream r) (sym (arcs-snoc f b))) i;
         cost = cost-more f lights few b h i;
-        cut = (ap (λ (m : ℕ → Bool). plus (pos (cut (marked (at ys)) (arcs f))) (pos (b .arc .weight * indicator (crosses m (b .arc))))) (marks-same ys fits)
+        cut = (ap (λ (m : ℕ → Bool). boundedSum (pos (cut (marked (at ys)) (arcs f))) (pos (b .arc .weight * indicator (crosses m (b .arc))))) (marks-same ys fits)
             ∙ cut-more f lights few b h (marked (at ys))) i;
       }
 

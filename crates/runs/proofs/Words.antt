@@ -12,8 +12,8 @@ use lib.ListN.{length, getD, replicate, length-set, length-replicate, getD-repli
 use Rattle.prelude.specs.Choice.{pick}
 use Rattle.prelude.specs.Integers.{eqZ}
 use Rattle.prelude.specs.Lists.{at}
-use Rattle.prelude.specs.Marks.{isMarked, withMark}
-use Rattle.prelude.proofs.MarkLaws.{marked-same, marked-other}
+use Rattle.words.specs.Marks.{isMarked, withMark}
+use Rattle.words.proofs.MarkLaws.{marked-same, marked-other}
 use Rattle.network.specs.Certificate.{marked}
 use Rattle.session.specs.Steps.{marksAfter}
 use Rattle.runs.proofs.Trace.{words, wordsOf}

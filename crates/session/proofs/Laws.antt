@@ -13,7 +13,7 @@ use mir.Syntax.{w32}
 use mir.Val.{Fits}
 use Rattle.prelude.specs.Checks.{Check, _unless_, settle, firstBroken, Hold}
 use Rattle.prelude.specs.Choice.{pick, indicator}
-use Rattle.prelude.specs.Integers.{small, plus, minus}
+use Rattle.words.specs.Bounded.{small, boundedSum, boundedDifference}
 use Rattle.prelude.specs.Lists.{at}
 use Rattle.prelude.proofs.Booleans.{and-left, and-right}
 use Rattle.prelude.proofs.Integers.{signed, parts-add}
@@ -73,15 +73,15 @@ pub product-fits : (x w : ℕ) → w ≤ 32767 → x ≤ 32767 → Fits w32 (x *
 product-fits x w h k = omega (arith, mul-le-mul k h)
 
 -- nothing more
-pub plus-zero : (c : ℤ) (w : ℕ) → c ≡ plus c (pos (w * 0))
+pub plus-zero : (c : ℤ) (w : ℕ) → c ≡ boundedSum c (pos (w * 0))
 plus-zero c w = go (small c && small (pos (w * 0)))
   where
     go : (b : Bool) → c ≡ pick b (c +ℤ pos (w * 0)) c
     go true = omega (signed, parts-add c (pos (w * 0)))
     go false = refl
 
-pub load-done : (x : State) (l : Load) (m : Stream) (k c : ℤ) → m ≡ extendStream (x .point) (x .repeated) (l .arc) → k ≡ plus (x .cost) (pos (l .amount * l .arc .weight))
-    → c ≡ plus (x .cut) (pos (l .arc .weight * indicator (crosses (marksIn x) (l .arc)))) → record {
+pub load-done : (x : State) (l : Load) (m : Stream) (k c : ℤ) → m ≡ extendStream (x .point) (x .repeated) (l .arc) → k ≡ boundedSum (x .cost) (pos (l .amount * l .arc .weight))
+    → c ≡ boundedSum (x .cut) (pos (l .arc .weight * indicator (crosses (marksIn x) (l .arc)))) → record {
       phase = x .phase;
       setting = x .setting;
       point = x .point;

@@ -8,7 +8,7 @@ use lib.IntN.{ℤ, pos}
 use lib.ListN.{replicate}
 use Rattle.prelude.specs.Choice.{pick}
 use Rattle.prelude.specs.Lists.{at}
-use Rattle.prelude.specs.Marks.{isMarked}
+use Rattle.words.specs.Marks.{isMarked}
 use Rattle.network.specs.Network.{Arc}
 use Rattle.network.specs.Question.{Setting, value, none}
 use Rattle.network.specs.Question.{Answer as True}

@@ -8,9 +8,10 @@ use lib.IntN.{ℤ, pos}
 use lib.ListN.{set}
 use Rattle.prelude.specs.Checks.{Check, _unless_, settle}
 use Rattle.prelude.specs.Choice.{pick, indicator}
-use Rattle.prelude.specs.Integers.{eqZ, plus, minus}
+use Rattle.prelude.specs.Integers.{eqZ}
+use Rattle.words.specs.Bounded.{boundedSum, boundedDifference}
 use Rattle.prelude.specs.Lists.{at}
-use Rattle.prelude.specs.Marks.{withMark}
+use Rattle.words.specs.Marks.{withMark}
 use Rattle.network.specs.Network.{Arc, Load, crosses}
 use Rattle.network.specs.Tests.{settingOf, openingChecks, arcChecks, claimOk, nodeOk, amountOk, ruleOk, Sums, balancesOk, sumsOk, answerOf}
 use Rattle.session.specs.Print.{Point, pointOk, samePrint}
@@ -138,10 +139,10 @@ repeatChecks x y l =
 
 -- The balances with the amount x added at the tail a and then taken off at the head b.
 abbrev pub addedAt : List ℤ → ℕ → ℤ → List ℤ
-addedAt l v z = set l v (plus (at l v) z)
+addedAt l v z = set l v (boundedSum (at l v) z)
 
 abbrev pub takenAt : List ℤ → ℕ → ℤ → List ℤ
-takenAt l v z = set l v (minus (at l v) z)
+takenAt l v z = set l v (boundedDifference (at l v) z)
 
 unfoldable pub moved : List ℤ → ℕ → ℕ → ℕ → List ℤ
 moved l a b x = takenAt (addedAt l a (pos x)) b (pos x)
@@ -156,8 +157,8 @@ withRepeat x l = record {
   given = x .given;
   marks = x .marks;
   repeated = extendStream (x .point) (x .repeated) (l .arc);
-  cost = plus (x .cost) (pos (l .amount * l .arc .weight));
-  cut = plus (x .cut) (pos (l .arc .weight * indicator (crosses (marksIn x) (l .arc))));
+  cost = boundedSum (x .cost) (pos (l .amount * l .arc .weight));
+  cut = boundedSum (x .cut) (pos (l .arc .weight * indicator (crosses (marksIn x) (l .arc))));
 }
 
 unfoldable pub repeatStep : Session → Load → Reply

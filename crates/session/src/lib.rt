@@ -9,7 +9,7 @@ ghost use lib.IntN.{pos};
 ghost use Rattle.prelude.specs.Checks.{_unless_, firstBroken};
 ghost use Rattle.prelude.specs.Choice.{pick, indicator};
 ghost use lib.ListN.{set};
-ghost use Rattle.prelude.specs.Integers.{plus};
+ghost use Rattle.words.specs.Bounded.{boundedSum};
 ghost use Rattle.prelude.specs.Lists.{at};
 ghost use Rattle.network.specs.Network.{arcOf, loadOf};
 ghost use Rattle.network.specs.Tests.{arcChecks, claimOf, nodeOk, amountOk, answerFor, questionOf};
@@ -28,12 +28,12 @@ use checks::finishing::balances_ok;
 use checks::finishing::sums_ok;
 use checks::opening::arc_check;
 use checks::opening::opening_check;
-use prelude::marks::is_marked;
-use prelude::marks::with_mark;
-use prelude::signed::add;
-use prelude::signed::from_unsigned;
-use prelude::signed::subtract;
-use prelude::signed::to_unsigned;
+use words::marks::is_marked;
+use words::marks::with_mark;
+use words::signed::add;
+use words::signed::from_unsigned;
+use words::signed::subtract;
+use words::signed::to_unsigned;
 
 // What a step answers.
 pub enum Answer {
@@ -256,7 +256,7 @@ fn longer(point: u32, list: Stream, a: u32, b: u32, w: u32) -> Stream
 fn cost_after(cost: i64, w: u32, x: u32) -> i64
     requires { ⌜ w ≤ 32767 ⌝ }
     requires { ⌜ x ≤ 32767 ⌝ }
-    ensures { λ r. ⌜ r ≡ plus cost (pos (x * w)) ⌝ }
+    ensures { λ r. ⌜ r ≡ boundedSum cost (pos (x * w)) ⌝ }
 {
     add(cost, from_unsigned(x * w))
 }
@@ -273,7 +273,7 @@ fn leads_out(from: bool, to: bool) -> bool
 
 // The capacity of the cut with one arc more.
 fn cut_after(cut: i64, w: u32, crossing: bool) -> i64
-    ensures { λ r. ⌜ r ≡ plus cut (pos (w * indicator crossing)) ⌝ }
+    ensures { λ r. ⌜ r ≡ boundedSum cut (pos (w * indicator crossing)) ⌝ }
 {
     if crossing {
         return add(cut, from_unsigned(w));

@@ -43,9 +43,9 @@ fn mark(z: i32) -> usize {
 
 // A node number from -8322818 to 8322818, with 8322818 added.
 fn raised(z: i32) -> usize {
-    if prelude::signed::within(-8322818, 8322818, z) {
-        let r = prelude::signed::to_unsigned(prelude::signed::add(
-            prelude::signed::widened(z),
+    if words::signed::within(-8322818, 8322818, z) {
+        let r = words::signed::to_unsigned(words::signed::add(
+            words::signed::widened(z),
             8322818,
         ));
         return r as usize;

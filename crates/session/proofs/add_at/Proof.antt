@@ -1,8 +1,8 @@
 -- `session::add_at` meets its contract.
 -- Assumes nothing.
 use mathlib.Core.Path.{sym, _∙_, ap, ap₂}
-use Rattle.prelude.proofs.Signs.{back}
-use Rattle.prelude.specs.Integers.{plus}
+use Rattle.words.proofs.Signs.{back}
+use Rattle.words.specs.Bounded.{boundedSum}
 use Rattle.prelude.specs.Lists.{at}
 use borrow.Author.Needs.{needs}
 use lib.IntN.{ℤ}
@@ -17,7 +17,7 @@ use Rattle.session.proofs.add_at.Tie as tie
 returns : tie.Need-returns
 returns c =
     let s = c .before .args in
-    sym (set-out (s .balances .now) (s .v) (plus (at (s .balances .now) (s .v)) (s .z)) (omega arith))
+    sym (set-out (s .balances .now) (s .v) (boundedSum (at (s .balances .now) (s .v)) (s .z)) (omega arith))
 
 mul-b : tie.Need-mul-b
 mul-b c = search needs
@@ -41,7 +41,7 @@ returns-2 : tie.Need-returns-2
 returns-2 c =
     let s = c .before .before .before .args in
     ap (λ (u : ℤ). set (s .balances .now) (s .v) u)
-    (back w64 (c .add .result) (c .add .ok) ∙ c .add .ensures ∙ ap₂ plus (back w64 (at (s .balances .now) (s .v)) (c .before .b .given)) (toZ-ofZ (c .before .before .before .fits .z)))
+    (back w64 (c .add .result) (c .add .ok) ∙ c .add .ensures ∙ ap₂ boundedSum (back w64 (at (s .balances .now) (s .v)) (c .before .b .given)) (toZ-ofZ (c .before .before .before .fits .z)))
 
 pub add-at-spec : {M : Type 1} → statement M
 add-at-spec =

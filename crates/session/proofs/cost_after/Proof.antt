@@ -4,8 +4,8 @@ use mathlib.Core.Path.{_∙_, ap₂}
 use borrow.Author.Needs.{needs}
 use mir.Facts.{toZ-ofZ}
 use mir.Syntax.{w64}
-use Rattle.prelude.proofs.Signs.{back}
-use Rattle.prelude.specs.Integers.{plus}
+use Rattle.words.proofs.Signs.{back}
+use Rattle.words.specs.Bounded.{boundedSum}
 use Rattle.session.proofs.Laws.{product-fits}
 use Rattle.session.proofs.cost_after.Statement.{statement}
 use Rattle.session.proofs.cost_after.Tie as tie
@@ -21,7 +21,7 @@ add-requires c κs = search needs
 
 returns : tie.Need-returns
 returns c =
-    back w64 (c .add .result) (c .add .ok) ∙ c .add .ensures ∙ ap₂ plus (toZ-ofZ (c .before .before .fits .cost)) (back w64 (c .before .from-unsigned .result) (c .before .from-unsigned .ok) ∙ c .before .from-unsigned .ensures)
+    back w64 (c .add .result) (c .add .ok) ∙ c .add .ensures ∙ ap₂ boundedSum (toZ-ofZ (c .before .before .fits .cost)) (back w64 (c .before .from-unsigned .result) (c .before .from-unsigned .ok) ∙ c .before .from-unsigned .ensures)
 
 pub cost-after-spec : {M : Type 1} → statement M
 cost-after-spec =

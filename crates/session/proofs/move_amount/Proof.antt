@@ -2,7 +2,7 @@
 -- Assumes nothing.
 use mathlib.Core.List.{List}
 use mathlib.Core.Path.{_∙_, ap, ap₂}
-use Rattle.prelude.proofs.Signs.{back}
+use Rattle.words.proofs.Signs.{back}
 use Rattle.session.specs.Steps.{addedAt, takenAt, moved}
 use borrow.Author.Needs.{needs}
 use lib.IntN.{ℤ}

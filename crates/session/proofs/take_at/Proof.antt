@@ -1,8 +1,8 @@
 -- `session::take_at` meets its contract.
 -- Assumes nothing.
 use mathlib.Core.Path.{sym, _∙_, ap, ap₂}
-use Rattle.prelude.proofs.Signs.{back}
-use Rattle.prelude.specs.Integers.{minus}
+use Rattle.words.proofs.Signs.{back}
+use Rattle.words.specs.Bounded.{boundedDifference}
 use Rattle.prelude.specs.Lists.{at}
 use borrow.Author.Needs.{needs}
 use lib.IntN.{ℤ}
@@ -17,7 +17,7 @@ use Rattle.session.proofs.take_at.Tie as tie
 returns : tie.Need-returns
 returns c =
     let s = c .before .args in
-    sym (set-out (s .balances .now) (s .v) (minus (at (s .balances .now) (s .v)) (s .z)) (omega arith))
+    sym (set-out (s .balances .now) (s .v) (boundedDifference (at (s .balances .now) (s .v)) (s .z)) (omega arith))
 
 mul-b : tie.Need-mul-b
 mul-b c = search needs
@@ -41,7 +41,7 @@ returns-2 : tie.Need-returns-2
 returns-2 c =
     let s = c .before .before .before .args in
     ap (λ (u : ℤ). set (s .balances .now) (s .v) u)
-    (back w64 (c .subtract .result) (c .subtract .ok) ∙ c .subtract .ensures ∙ ap₂ minus (back w64 (at (s .balances .now) (s .v)) (c .before .b .given)) (toZ-ofZ (c .before .before .before .fits .z)))
+    (back w64 (c .subtract .result) (c .subtract .ok) ∙ c .subtract .ensures ∙ ap₂ boundedDifference (back w64 (at (s .balances .now) (s .v)) (c .before .b .given)) (toZ-ofZ (c .before .before .before .fits .z)))
 
 pub take-at-spec : {M : Type 1} → statement M
 take-at-spec =

@@ -10,7 +10,7 @@ use borrow.Author.Tests.{not-true, not-false}
 use Rattle.prelude.specs.Lists.{at}
 use Rattle.prelude.specs.Sums.{allTo}
 use Rattle.prelude.proofs.Booleans.{true→T}
-use Rattle.prelude.proofs.Signs.{back}
+use Rattle.words.proofs.Signs.{back}
 use Rattle.network.specs.Tests.{questionOf, balanceFor}
 use Rattle.checks.specs.Setting.{asked}
 use Rattle.checks.proofs.Laws.{is-value, is-none}

@@ -8,7 +8,7 @@ use mir.Val.{toZ}
 use borrow.Author.Needs.{needs}
 use Rattle.prelude.specs.Lists.{at}
 use Rattle.prelude.specs.Sums.{sumToℤ}
-use Rattle.prelude.proofs.Signs.{back}
+use Rattle.words.proofs.Signs.{back}
 use Rattle.checks.proofs.Laws.{returned}
 use Rattle.checks.proofs.Totals.{each-sized, sum-more}
 use Rattle.checks.proofs.finishing.sum_between.Statement.{statement}

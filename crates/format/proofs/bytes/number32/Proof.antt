@@ -5,7 +5,7 @@ use Prim.Native.Nat.{ℕ, _+_, _*_}
 use native.Mathlib.Omega.{arith}
 use mir.Syntax.{w32}
 use borrow.Author.Needs.{needs}
-use Rattle.prelude.proofs.Signs.{back}
+use Rattle.words.proofs.Signs.{back}
 use Rattle.format.specs.Bytes.{signedOf}
 use Rattle.format.proofs.Reading.{signed-past}
 use Rattle.format.proofs.bytes.number32.Statement.{statement}

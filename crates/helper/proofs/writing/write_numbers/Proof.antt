@@ -8,7 +8,7 @@ use lib.Seq.{sets}
 use mir.Syntax.{w32}
 use borrow.Author.Needs.{needs}
 use Rattle.prelude.specs.Lists.{at}
-use Rattle.prelude.proofs.Signs.{back}
+use Rattle.words.proofs.Signs.{back}
 use Rattle.format.specs.Bytes.{byte32, readSigned}
 use Rattle.format.specs.Promises.{Signed32}
 use Rattle.format.proofs.Codings.{numbers-coded}

@@ -7,7 +7,7 @@ use lib.IntN.{ℤ}
 use lib.ListN.{set}
 use mir.Syntax.{w32}
 use borrow.Author.Needs.{needs}
-use Rattle.prelude.proofs.Signs.{back}
+use Rattle.words.proofs.Signs.{back}
 use Rattle.session.specs.Session.{joined, zeros}
 use Rattle.session.specs.Turns.{numberTurn}
 use Rattle.session.proofs.Turns.{number-refused, number-accepted}

@@ -2,7 +2,7 @@
 -- Assumes nothing.
 use mathlib.Core.Path.{_∙_, ap₂}
 use Rattle.network.specs.Tests.{answerFor}
-use Rattle.prelude.proofs.Signs.{back}
+use Rattle.words.proofs.Signs.{back}
 use Rattle.session.specs.Session.{answered, settingIn, claimIn}
 use borrow.Author.Needs.{needs}
 use lib.IntN.{ℤ}

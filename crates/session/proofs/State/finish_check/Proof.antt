@@ -5,7 +5,7 @@ use Prim.Native.Nat.{ℕ}
 use Rattle.checks.proofs.Laws.{tested, passed, refused}
 use Rattle.checks.specs.Setting.{sumsHeld}
 use Rattle.prelude.proofs.Choice.{on, off}
-use Rattle.prelude.proofs.Signs.{back}
+use Rattle.words.proofs.Signs.{back}
 use Rattle.prelude.specs.Lists.{at}
 use Rattle.session.proofs.Laws.{balanced, summed, summed-read, lists-refused, listed}
 use Rattle.session.specs.Session.{isComplete}

@@ -5,9 +5,9 @@ use mathlib.Core.Path.{_∙_, ap, ap₂}
 use Prim.Native.Nat.{_*_}
 use Rattle.checks.proofs.Laws.{tested, passed, refused}
 use Rattle.network.specs.Network.{loadOf}
-use Rattle.prelude.proofs.Signs.{back}
+use Rattle.words.proofs.Signs.{back}
 use Rattle.prelude.specs.Choice.{indicator}
-use Rattle.prelude.specs.Integers.{plus}
+use Rattle.words.specs.Bounded.{boundedSum}
 use Rattle.prelude.specs.Lists.{at}
 use Rattle.session.proofs.Laws.{load-limits, load-done, ruleHolds, rule-read, load-refused, rule-refused, load-accepted}
 use Rattle.session.specs.Session.{isComplete}
@@ -106,9 +106,9 @@ returns-4 c =
     let costs = c .before .before .before .cost-after in
     load-accepted x y l whole (check .result) (check .ensures) (c .before .before .before .before .before .before .before .before .before .before .before .before .before .before .before .if2 .left) (passed (ruleHolds x y l) (c .before .before .before .before .before .before .before .rule-ok .result) (c .before .before .before .before .before .before .if3 .left) rule) _
     (load-done x l (c .before .before .before .before .before .longer .result) _ _ (c .before .before .before .before .before .longer .ensures)
-    (costs .ensures ∙ ap (λ (z : ℤ). plus z (pos (s .x * s .w))) (back w64 (x .cost) (omega (arith, c .before .before .before .before .struct-told .given))))
+    (costs .ensures ∙ ap (λ (z : ℤ). boundedSum z (pos (s .x * s .w))) (back w64 (x .cost) (omega (arith, c .before .before .before .before .struct-told .given))))
     (c .cut-after .ensures
-    ∙ ap₂ (λ (z : ℤ) (b : Bool). plus z (pos (s .w * indicator b))) (back w64 (x .cut) (omega (arith, c .before .struct-told2 .given)))
+    ∙ ap₂ (λ (z : ℤ) (b : Bool). boundedSum z (pos (s .w * indicator b))) (back w64 (x .cut) (omega (arith, c .before .struct-told2 .given)))
     (c .before .before .leads-out .ensures ∙ ap₂ (λ (m k : Bool). m && not k) (c .before .before .before .before .before .before .before .before .before .is-marked .ensures) (c .before .before .before .before .before .before .before .before .is-marked2 .ensures))))
 
 pub repeat-channel-spec : {M : Type 1} → statement M

@@ -1,7 +1,7 @@
 -- `session::State::with_node` meets its contract.
 -- Assumes nothing.
 use Rattle.prelude.proofs.Choice.{checks}
-use Rattle.prelude.proofs.Signs.{signs}
+use Rattle.words.proofs.Signs.{signs}
 use Rattle.session.proofs.Laws.{number-done}
 use borrow.Author.Needs.{needs}
 use Rattle.session.proofs.State.with_node.Statement.{statement}

@@ -1,0 +1,4 @@
+pub mod Signs
+pub mod Bits
+pub mod MarkLaws
+pub mod CountLaws

@@ -1,0 +1,20 @@
+-- `words::signed::is_small` meets its contract.
+-- Assumes nothing.
+use mir.Facts.{toZ-ofZ}
+use Rattle.words.proofs.signed.is_small.Statement.{statement}
+use Rattle.words.proofs.signed.is_small.Tie as tie
+
+returns : tie.Need-returns
+returns c =
+    let f = toZ-ofZ (c .before .fits .z) in
+    let h = simp f at (c .if1 .taken) in
+    simp (f, h)
+
+returns-2 : tie.Need-returns-2
+returns-2 c =
+    let f = toZ-ofZ (c .before .fits .z) in
+    let h = simp f at (c .if1 .left) in
+    simp (f, h)
+
+pub is-small-spec : {M : Type 1} → statement M
+is-small-spec = tie.close (tie.spec returns returns-2)
