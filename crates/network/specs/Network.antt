@@ -7,6 +7,7 @@ use lib.Dec.{eqb}
 use lib.IntN.{ℤ, pos, _-ℤ_}
 use Rattle.prelude.specs.Choice.{indicator}
 use Rattle.field.specs.Field.{keyOf}
+use Rattle.network.specs.declared.Record.{Record}
 
 -- "A channel record has a from-junction a, a to-junction b and a number w": an arc from its tail to its head, whose weight is a length, a capacity or a cost.
 pub record Arc : Type 0 where
@@ -17,6 +18,10 @@ pub record Arc : Type 0 where
 -- The arc from a to b with the number w.
 abbrev pub arcOf : ℕ → ℕ → ℕ → Arc
 arcOf a b w = record { tail = a; head = b; weight = w }
+
+-- The arc of a record as the code holds it.
+abbrev pub arcHeld : Record → Arc
+arcHeld r = arcOf (r .tail) (r .head) (r .weight)
 
 -- The key of an arc.
 abbrev pub key : Arc → ℕ
