@@ -3,7 +3,6 @@
 use mathlib.Core.Path.{_≡_, refl, sym, ap, _∙_}
 use mathlib.Core.Bool.{Bool, true, false, not, _&&_}
 use Prim.Native.Nat.{ℕ, _<_, _^_}
-use native.Mathlib.Decide.{ℕ-discrete}
 use lib.Dec.{eqb}
 use lib.IntN.{ℤ}
 use lib.Signed.{mag}
@@ -14,8 +13,9 @@ use Rattle.prelude.specs.Choice.{pick, implies}
 use Rattle.prelude.specs.Integers.{eqZ}
 use Rattle.prelude.proofs.Choice.{same, on, off}
 use Rattle.words.proofs.Signs.{signs, back, bits-eq}
-use Rattle.network.specs.Question.{Question, shortestPath, maximumFlow, assignment}
-use Rattle.network.specs.Tests.{questionOf, claimOf, ofValue, ofNone, mayClaim}
+use Rattle.network.specs.Question.{questionOf, shortestPath, maximumFlow, assignment, unasked}
+use Rattle.network.specs.Certificate.{ofValue, ofNone}
+use Rattle.network.specs.Tests.{claimOf}
 
 -- ---- the question and the claim of a number
 
@@ -25,35 +25,17 @@ is-path k h = rw (eq-eqb k 1 h)
 pub is-flow : (k : ℕ) → k ≡ 2 → questionOf k ≡ maximumFlow
 is-flow k h = rw h
 
-pub is-assignment : (k : ℕ) → (k ≡ 1 → ⊥) → (k ≡ 2 → ⊥) → questionOf k ≡ assignment
-is-assignment k g h = rw (ne-eqb k 1 g, ne-eqb k 2 h)
+pub is-assignment : (k : ℕ) → k ≡ 3 → questionOf k ≡ assignment
+is-assignment k h = rw h
+
+pub is-unasked : (k : ℕ) → (k ≡ 1 → ⊥) → (k ≡ 2 → ⊥) → (k ≡ 3 → ⊥) → questionOf k ≡ unasked
+is-unasked k f g h = rw (ne-eqb k 1 f, ne-eqb k 2 g, ne-eqb k 3 h)
 
 pub is-value : (k : ℕ) → k ≡ 1 → claimOf k ≡ ofValue
 is-value k h = rw (eq-eqb k 1 h)
 
 pub is-none : (k : ℕ) → (k ≡ 1 → ⊥) → claimOf k ≡ ofNone
 is-none k h = rw (ne-eqb k 1 h)
-
--- what is the same for a path and for an assignment, where the number is not that of a flow
-pub but-flow : {A : Type 0} (k : ℕ) (F : Question → A) → (k ≡ 2 → ⊥) → F assignment ≡ F shortestPath → F (questionOf k) ≡ F shortestPath
-but-flow k F h e = rw (ne-eqb k 2 h) (by (eqb k 1))
-  where
-    by : (t : Bool) → F (pick t shortestPath assignment) ≡ F shortestPath
-    by true = refl
-    by false = e
-
--- a value may be claimed of every question, none of all but a flow
-pub may-value : (q : Question) → true ≡ mayClaim q ofValue
-may-value shortestPath = refl
-may-value maximumFlow = refl
-may-value assignment = refl
-
-pub may-none : (k : ℕ) → not (eqb k 2) ≡ mayClaim (questionOf k) ofNone
-may-none k = go (ℕ-discrete k 2)
-  where
-    go : Dec (k ≡ 2) → not (eqb k 2) ≡ mayClaim (questionOf k) ofNone
-    go (yes e) = rw e
-    go (no ne) = rw (but-flow k (λ q. mayClaim q ofNone) ne refl, ne-eqb k 2 ne)
 
 -- ---- a test and its outcome
 

@@ -1,56 +1,96 @@
 // Checks 9 to 12: the claim, a node number, an amount, and the rule on an arc.
 ghost use mathlib.Core.Path.{_≡_};
-ghost use lib.Dec.{leb};
-ghost use Rattle.network.specs.Tests.{questionOf, claimOf, claimOk, lowest, highest, cutEnds, nodeEnds, nodeOk, mostFor, ruleOn};
-ghost use Rattle.checks.specs.Setting.{asked};
-use super::Setting;
+ghost use lib.Dec.{eqb, leb};
+ghost use lib.IntN.{pos};
+ghost use Rattle.prelude.specs.Choice.{implies};
+ghost use Rattle.prelude.specs.Integers.{eqZ};
+ghost use Rattle.network.specs.Network.{arcHeld, loadHeld};
+ghost use Rattle.network.specs.Certificate.{staysInside, separates, nodeMeets};
+ghost use Rattle.network.specs.Tests.{claimOk};
+ghost use Rattle.checks.specs.Held.{asked, rulesHeld, endsHeld};
+use super::HeldSetting;
+use super::rows::Row;
+use super::rows::row_of;
+use network::MOST_POTENTIAL;
+use network::Record;
 
-// 9: is the claim 1 or 2, and not 2 for a flow?
-pub fn claim_ok(st: Setting, claim: u32) -> bool
+// What the ends of an arc have: node numbers and marks.
+pub struct Ends {
+    pub tail_number: i32,
+    pub head_number: i32,
+    pub tail_marked: bool,
+    pub head_marked: bool,
+}
+
+// 9: may the claim be made?
+fn is_admitted(row: Row) -> bool
+    ensures { λ r. ⌜ r ≡ rulesHeld row .admitted ⌝ }
+{
+    match row {
+        Row::PathValue => true,
+        Row::FlowValue => true,
+        Row::AssignmentValue => true,
+        Row::PathNone => true,
+        Row::AssignmentNone => true,
+        Row::Nothing => false,
+    }
+}
+
+// 9: is the claim 1 or 2, and is there a certificate for it?
+pub fn claim_ok(st: HeldSetting, claim: u32) -> bool
     ensures { λ r. ⌜ r ≡ claimOk (asked st) claim ⌝ }
 {
-    let question = st.question;
     if claim < 1 {
         return false;
     }
     if 2 < claim {
         return false;
     }
-    if claim == 1 {
-        return true;
-    }
-    question != 2
+    is_admitted(row_of(st.question, claim as u8))
 }
 
 // The lowest node number.
-fn lowest_node(question: u8, claim: u8) -> i32
-    ensures { λ r. ⌜ r ≡ lowest (questionOf question) (claimOf claim) ⌝ }
+fn lowest_node(row: Row) -> i32
+    ensures { λ r. ⌜ r ≡ rulesHeld row .lowest ⌝ }
 {
-    if question == 2 {
-        return 0;
+    match row {
+        Row::PathValue => -MOST_POTENTIAL,
+        Row::FlowValue => 0,
+        Row::AssignmentValue => -MOST_POTENTIAL,
+        Row::PathNone => 0,
+        Row::AssignmentNone => 0,
+        Row::Nothing => 0,
     }
-    if claim == 1 {
-        return -8322818;
-    }
-    0
 }
 
 // The highest node number.
-fn highest_node(question: u8, claim: u8) -> i32
-    ensures { λ r. ⌜ r ≡ highest (questionOf question) (claimOf claim) ⌝ }
+fn highest_node(row: Row) -> i32
+    ensures { λ r. ⌜ r ≡ rulesHeld row .highest ⌝ }
 {
-    if question == 2 {
-        return 1;
+    match row {
+        Row::PathValue => MOST_POTENTIAL,
+        Row::FlowValue => 1,
+        Row::AssignmentValue => MOST_POTENTIAL,
+        Row::PathNone => 1,
+        Row::AssignmentNone => 1,
+        Row::Nothing => 0,
     }
-    if claim == 1 {
-        return 8322818;
+}
+
+// Is the node number of the source 0?
+fn source_zero(st: HeldSetting, v: u8, z: i32) -> bool
+    ensures { λ r. ⌜ r ≡ implies (eqb v (st .s)) (eqZ z (pos 0)) ⌝ }
+{
+    let s = st.s;
+    if v == s {
+        return z == 0;
     }
-    1
+    true
 }
 
 // Is the mark z of the vertex v 1 at the source and 0 at the sink?
-fn cut_ends(st: Setting, v: u8, z: i32) -> bool
-    ensures { λ r. ⌜ r ≡ cutEnds (asked st) v z ⌝ }
+fn separates(st: HeldSetting, v: u8, z: i32) -> bool
+    ensures { λ r. ⌜ r ≡ separates (asked st) v z ⌝ }
 {
     let s = st.s;
     let t = st.t;
@@ -69,67 +109,73 @@ fn cut_ends(st: Setting, v: u8, z: i32) -> bool
     true
 }
 
-// The rules on the node numbers of the source and the sink.
-fn node_ends(st: Setting, claim: u8, v: u8, z: i32) -> bool
-    ensures { λ r. ⌜ r ≡ nodeEnds (questionOf (st .question)) (claimOf claim) (asked st) v z ⌝ }
+// The rule on the node number of a vertex, besides the range.
+fn on_node(row: Row, st: HeldSetting, v: u8, z: i32) -> bool
+    ensures { λ r. ⌜ r ≡ rulesHeld row .onNode (asked st) v z ⌝ }
 {
-    let question = st.question;
-    let s = st.s;
-    if question == 1 {
-        if claim == 1 {
-            if v == s {
-                return z == 0;
-            }
-            return true;
-        }
-        return cut_ends(st, v, z);
+    match row {
+        Row::PathValue => source_zero(st, v, z),
+        Row::FlowValue => separates(st, v, z),
+        Row::AssignmentValue => true,
+        Row::PathNone => separates(st, v, z),
+        Row::AssignmentNone => true,
+        Row::Nothing => false,
     }
-    if question == 2 {
-        return cut_ends(st, v, z);
-    }
-    true
 }
 
 // 10: does the node number z of the vertex v meet the rules about that vertex alone?
-pub fn node_ok(st: Setting, claim: u8, v: u8, z: i32) -> bool
-    ensures { λ r. ⌜ r ≡ nodeOk (asked st) (claimOf claim) v z ⌝ }
+pub fn node_ok(row: Row, st: HeldSetting, v: u8, z: i32) -> bool
+    ensures { λ r. ⌜ r ≡ nodeMeets (rulesHeld row) (asked st) v z ⌝ }
 {
-    let question = st.question;
-    let low = lowest_node(question, claim);
-    let high = highest_node(question, claim);
+    let low = lowest_node(row);
+    let high = highest_node(row);
     if !words::signed::within(low, high, z) {
         return false;
     }
-    node_ends(st, claim, v, z)
+    on_node(row, st, v, z)
 }
 
-// 11: is the amount x allowed on an arc of weight w?
-pub fn amount_ok(st: Setting, claim: u8, w: u32, x: u32) -> bool
-    ensures { λ r. ⌜ r ≡ leb x (mostFor (questionOf (st .question)) (claimOf claim) w) ⌝ }
+// The most amount on an arc.
+fn most(row: Row, arc: Record) -> u32
+    ensures { λ r. ⌜ r ≡ rulesHeld row .most (arcHeld arc) ⌝ }
 {
-    let question = st.question;
-    if question == 2 {
-        return x <= w;
+    match row {
+        Row::PathValue => 1,
+        Row::FlowValue => arc.weight,
+        Row::AssignmentValue => 1,
+        Row::PathNone => 0,
+        Row::AssignmentNone => 0,
+        Row::Nothing => 0,
     }
-    if claim == 1 {
-        return x <= 1;
-    }
-    x <= 0
 }
 
-// 12: does an arc of weight w meet the rule on node numbers or on marks? ya and ma are of its tail, yb and mb of its head.
-pub fn rule_ok(st: Setting, claim: u8, ya: i32, yb: i32, ma: bool, mb: bool, w: u32) -> bool
-    ensures { λ r. ⌜ r ≡ ruleOn (questionOf (st .question)) (claimOf claim) ya yb ma mb w ⌝ }
+// 11: is the amount x allowed on the arc?
+pub fn amount_ok(row: Row, arc: Record, x: u32) -> bool
+    ensures { λ r. ⌜ r ≡ leb x (rulesHeld row .most (arcHeld arc)) ⌝ }
 {
-    let question = st.question;
-    if question == 2 {
-        return true;
-    }
-    if claim == 1 {
-        return words::signed::at_most_sum(yb, ya, w);
-    }
-    if ma {
-        return mb;
+    x <= most(row, arc)
+}
+
+// Does the arc not lead from mark 1 to mark 0?
+fn stays_inside(ends: Ends, arc: Record, x: u32) -> bool
+    ensures { λ r. ⌜ r ≡ staysInside (endsHeld ends) (loadHeld arc x) ⌝ }
+{
+    if ends.tail_marked {
+        return ends.head_marked;
     }
     true
+}
+
+// 12: does the arc with its amount meet the rule on node numbers or on marks?
+pub fn rule_ok(row: Row, ends: Ends, arc: Record, x: u32) -> bool
+    ensures { λ r. ⌜ r ≡ rulesHeld row .onArc (endsHeld ends) (loadHeld arc x) ⌝ }
+{
+    match row {
+        Row::PathValue => words::signed::at_most_sum(ends.head_number, ends.tail_number, arc.weight),
+        Row::FlowValue => true,
+        Row::AssignmentValue => words::signed::at_most_sum(ends.head_number, ends.tail_number, arc.weight),
+        Row::PathNone => stays_inside(ends, arc, x),
+        Row::AssignmentNone => stays_inside(ends, arc, x),
+        Row::Nothing => false,
+    }
 }

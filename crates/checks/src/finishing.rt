@@ -2,13 +2,15 @@
 ghost use mathlib.Core.Path.{_≡_};
 ghost use Prim.Native.Nat.{_+_, _-_};
 ghost use lib.Dec.{ltb};
+ghost use Rattle.prelude.specs.Integers.{eqZ};
 ghost use Rattle.prelude.specs.Lists.{at};
+ghost use Rattle.prelude.specs.Sums.{sumToℤ, allTo};
 ghost use Rattle.words.specs.Marks.{isMarked};
-ghost use Rattle.prelude.specs.Sums.{sumToℤ};
-ghost use Rattle.network.specs.Certificate.{potentialGap, markedPumps, markedSites};
-ghost use Rattle.network.specs.Tests.{questionOf, claimOf, balanceFor, balancesFor, sumsFor};
-ghost use Rattle.checks.specs.Setting.{asked, sumsHeld};
-use super::Setting;
+ghost use Rattle.network.specs.Certificate.{flowRules, pathBalance, assignmentBalance, potentialGap, markedPumps, markedSites};
+ghost use Rattle.checks.specs.Held.{asked, rulesHeld, sumsHeld};
+use super::HeldSetting;
+use super::reading::pumps;
+use super::rows::Row;
 use words::marks::count_marked;
 use words::signed::add;
 use words::signed::equal;
@@ -16,7 +18,7 @@ use words::signed::subtract;
 use words::signed::widened;
 
 // The entry of a vertex, 0 past the end.
-pub fn potential_at(potentials: [i32; 255], v: u8) -> i32
+fn potential_at(potentials: [i32; 255], v: u8) -> i32
     ensures { λ r. ⌜ r ≡ at potentials v ⌝ }
 {
     let i = v as usize;
@@ -26,7 +28,7 @@ pub fn potential_at(potentials: [i32; 255], v: u8) -> i32
     0
 }
 
-pub fn balance_at(balances: [i64; 255], v: u8) -> i64
+fn balance_at(balances: [i64; 255], v: u8) -> i64
     ensures { λ r. ⌜ r ≡ at balances v ⌝ }
 {
     let i = v as usize;
@@ -36,51 +38,71 @@ pub fn balance_at(balances: [i64; 255], v: u8) -> i64
     0
 }
 
-// Is b the balance that the vertex v must have?
-fn balance_ok(st: Setting, v: u8, b: i64) -> bool
-    ensures { λ r. ⌜ r ≡ balanceFor (questionOf (st .question)) (asked st) v b ⌝ }
+// Is b the balance of the vertex v of a path?
+fn path_balance(st: HeldSetting, v: u8, b: i64) -> bool
+    ensures { λ r. ⌜ r ≡ eqZ b (pathBalance (asked st) v) ⌝ }
 {
-    let question = st.question;
-    let n = st.n;
     let s = st.s;
     let t = st.t;
-    if question == 1 {
-        if v == s {
-            return b == 1;
-        }
-        if v == t {
-            return b == -1;
-        }
-        return b == 0;
+    if v == s {
+        return b == 1;
     }
-    if question == 2 {
-        if v == s {
-            return true;
-        }
-        if v == t {
-            return true;
-        }
-        return b == 0;
+    if v == t {
+        return b == -1;
     }
-    if v < n / 2 {
+    b == 0
+}
+
+// Is b a balance of the vertex v of a flow?
+fn flow_balance(st: HeldSetting, v: u8, b: i64) -> bool
+    ensures { λ r. ⌜ r ≡ flowRules .onBalance (asked st) v b ⌝ }
+{
+    let s = st.s;
+    let t = st.t;
+    if v == s {
+        return true;
+    }
+    if v == t {
+        return true;
+    }
+    b == 0
+}
+
+// Is b the balance of the vertex v of an assignment?
+fn assignment_balance(st: HeldSetting, v: u8, b: i64) -> bool
+    ensures { λ r. ⌜ r ≡ eqZ b (assignmentBalance (asked st) v) ⌝ }
+{
+    let half = pumps(st);
+    if v < half {
         return b == 1;
     }
     b == -1
 }
 
-// 15: does each vertex have the balance that it must have? Of value claims only.
-pub fn balances_ok(st: Setting, claim: u8, balances: [i64; 255]) -> bool
-    ensures { λ r. ⌜ r ≡ balancesFor (questionOf (st .question)) (claimOf claim) (asked st) (at balances) ⌝ }
+// Is b a balance that the vertex v may have?
+fn balance_ok(row: Row, st: HeldSetting, v: u8, b: i64) -> bool
+    ensures { λ r. ⌜ r ≡ rulesHeld row .onBalance (asked st) v b ⌝ }
+{
+    match row {
+        Row::PathValue => path_balance(st, v, b),
+        Row::FlowValue => flow_balance(st, v, b),
+        Row::AssignmentValue => assignment_balance(st, v, b),
+        Row::PathNone => true,
+        Row::AssignmentNone => true,
+        Row::Nothing => false,
+    }
+}
+
+// 15: does each vertex have a balance that it may have?
+pub fn balances_ok(row: Row, st: HeldSetting, balances: [i64; 255]) -> bool
+    ensures { λ r. ⌜ r ≡ allTo (st .n) (λ v. rulesHeld row .onBalance (asked st) v (at balances v)) ⌝ }
 {
     let n = st.n;
-    if claim != 1 {
-        return true;
-    }
     let mut v: u8 = 0;
     while v < n {
         let i = v as usize;
         let b = balances[i];
-        if !balance_ok(st, v, b) {
+        if !balance_ok(row, st, v, b) {
             return false;
         }
         v += 1;
@@ -104,56 +126,69 @@ fn sum_between(potentials: [i32; 255], low: u8, high: u8) -> i64
 }
 
 // The sum of the node numbers of sites, less that of pumps.
-fn potential_gap(st: Setting, potentials: [i32; 255]) -> i64
+fn potential_gap(st: HeldSetting, potentials: [i32; 255]) -> i64
     ensures { λ r. ⌜ r ≡ potentialGap (asked st) (at potentials) ⌝ }
 {
     let n = st.n;
-    let pumps = n / 2;
-    let of_pumps = sum_between(potentials, 0, pumps);
-    let of_sites = sum_between(potentials, pumps, n);
+    let half = pumps(st);
+    let of_pumps = sum_between(potentials, 0, half);
+    let of_sites = sum_between(potentials, half, n);
     subtract(of_sites, of_pumps)
 }
 
 // Are more pumps marked than sites?
-fn more_pumps(st: Setting, marks: [u64; 4]) -> bool
+fn more_pumps(st: HeldSetting, marks: [u64; 4]) -> bool
     ensures { λ r. ⌜ r ≡ ltb (markedSites (asked st) (isMarked marks)) (markedPumps (asked st) (isMarked marks)) ⌝ }
 {
     let n = st.n as u32;
-    let half = n / 2;
-    let pumps = count_marked(marks, 0, half);
-    let sites = count_marked(marks, half, n);
-    sites < pumps
+    let half = pumps(st) as u32;
+    let of_pumps = count_marked(marks, 0, half);
+    let of_sites = count_marked(marks, half, n);
+    of_sites < of_pumps
+}
+
+// Is the cost the node number of the sink?
+fn cost_is_potential(st: HeldSetting, potentials: [i32; 255], cost: i64) -> bool
+    ensures { λ r. ⌜ r ≡ eqZ cost (at potentials (st .t)) ⌝ }
+{
+    let y = potential_at(potentials, st.t);
+    equal(cost, widened(y))
+}
+
+// Is the balance of the source the capacity of the cut?
+fn flow_is_cut(st: HeldSetting, balances: [i64; 255], cut: i64) -> bool
+    ensures { λ r. ⌜ r ≡ eqZ (at balances (st .s)) cut ⌝ }
+{
+    let b = balance_at(balances, st.s);
+    equal(b, cut)
+}
+
+// Is the cost the sum over sites less that over pumps?
+fn cost_is_gap(st: HeldSetting, potentials: [i32; 255], cost: i64) -> bool
+    ensures { λ r. ⌜ r ≡ eqZ cost (potentialGap (asked st) (at potentials)) ⌝ }
+{
+    let gap = potential_gap(st, potentials);
+    equal(cost, gap)
 }
 
 // 16: do the two sums agree? For none: are more pumps marked than sites?
 pub fn sums_ok(
-    st: Setting,
-    claim: u8,
+    row: Row,
+    st: HeldSetting,
     potentials: [i32; 255],
     marks: [u64; 4],
     balances: [i64; 255],
     cost: i64,
     cut: i64,
 ) -> bool
-    ensures { λ r. ⌜ r ≡ sumsFor (questionOf (st .question)) (claimOf claim) (asked st) (at potentials) (isMarked marks) (sumsHeld balances cost cut) ⌝ }
+    ensures { λ r. ⌜ r ≡ rulesHeld row .onSums (asked st) (at potentials) (isMarked marks) (sumsHeld balances cost cut) ⌝ }
 {
-    let question = st.question;
-    let s = st.s;
-    let t = st.t;
-    if question == 2 {
-        let b = balance_at(balances, s);
-        return equal(b, cut);
+    match row {
+        Row::PathValue => cost_is_potential(st, potentials, cost),
+        Row::FlowValue => flow_is_cut(st, balances, cut),
+        Row::AssignmentValue => cost_is_gap(st, potentials, cost),
+        Row::PathNone => true,
+        Row::AssignmentNone => more_pumps(st, marks),
+        Row::Nothing => false,
     }
-    if claim == 1 {
-        if question == 1 {
-            let y = potential_at(potentials, t);
-            return equal(cost, widened(y));
-        }
-        let gap = potential_gap(st, potentials);
-        return equal(cost, gap);
-    }
-    if question == 1 {
-        return true;
-    }
-    more_pumps(st, marks)
 }

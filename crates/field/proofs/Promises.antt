@@ -11,18 +11,12 @@ use Rattle.prelude.proofs.Lists.{every-map}
 use Rattle.prelude.proofs.Permutations.{perm-decided}
 use Rattle.prelude.proofs.Counts.{Passes, at-most→count}
 use Rattle.field.specs.Field.{p, fingerprint, Agree, agree}
-use Rattle.field.specs.Promises.{PrimeModulus, KeysBelow, KeysDiffer, misleading, FewAgree, FewCounted, PermutationsAgree}
+use Rattle.field.specs.Promises.{PrimeModulus, misleading, FewAgree, FewCounted, PermutationsAgree}
 use Rattle.field.proofs.Prime.{p-prime}
 use Rattle.field.proofs.Bound.{product-perm, few-agree-modulo}
 
 pub prime-modulus : PrimeModulus
 prime-modulus = p-prime
-
-pub keys-below : KeysBelow
-keys-below tail head weight h = omega arith
-
-pub keys-differ : KeysDiffer
-keys-differ a b w c d x h k e = omega arith
 
 -- the polynomial argument, with q = p
 pub few-agree : FewAgree

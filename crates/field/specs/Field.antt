@@ -1,4 +1,4 @@
--- The prime p, the key of an arc, and the fingerprint of a list of keys at a point.
+-- The prime p, and the fingerprint of a list of numbers, the keys, at a point (document 01, The point and the product).
 -- Assumes nothing.
 use mathlib.Core.Path.{_≡_}
 use mathlib.Core.Logic.{_⊎_}
@@ -7,7 +7,7 @@ use mathlib.Core.List.{List, [], _∷_}
 use Prim.Native.Nat.{ℕ, _+_, _*_, _-_, _%_, _≤_, _<_}
 use lib.Dec.{eqb}
 
--- "The prime p is 2147483647."
+-- The prime p.
 abbrev pub p : ℕ
 p = 2147483647
 
@@ -15,16 +15,6 @@ p = 2147483647
 pub record Prime (n : ℕ) : Type 0 where
   pub two : 2 ≤ n
   pub only : (d e : ℕ) → d * e ≡ n → (d ≡ 1) ⊎ (d ≡ n)
-
--- "The key of a record is a × 8388608 + b × 32768 + w": of an arc from its tail to its head with a weight.
-abbrev pub keyOf : ℕ → ℕ → ℕ → ℕ
-keyOf tail head weight = tail * 8388608 + head * 32768 + weight
-
--- The limits of what a key is made of: vertices 0 to 254, weights 0 to 32767.
-pub record Keyed (tail head weight : ℕ) : Type 0 where
-  pub tail-within : tail ≤ 254
-  pub head-within : head ≤ 254
-  pub weight-within : weight ≤ 32767
 
 -- r - k modulo q, for k at most q: q is added so that no number is negative.
 abbrev pub factor : ℕ → ℕ → ℕ → ℕ
@@ -35,7 +25,7 @@ unfoldable pub product : ℕ → ℕ → List ℕ → ℕ
 product q r [] = 1
 product q r (k ∷ ks) = factor q r k * product q r ks
 
--- "The fingerprint of a list of records at a point r is the product of (r - key) over the list, modulo p, taken in 0 to p - 1."
+-- The fingerprint at the point r: the product of r - key over the list, modulo p, taken in 0 to p - 1.
 abbrev pub fingerprint : ℕ → List ℕ → ℕ
 fingerprint r ks = product p r ks % p
 

@@ -1,4 +1,4 @@
--- What is promised of keys and fingerprints; proofs/Promises.antt keeps it.
+-- What is promised of fingerprints; proofs/Promises.antt keeps it.
 -- Assumes nothing.
 use mathlib.Core.Path.{_≡_}
 use mathlib.Core.List.{List}
@@ -6,19 +6,11 @@ use Prim.Native.Nat.{ℕ, _-_, _≤_, _<_}
 use lib.ListN.{length}
 use Rattle.prelude.specs.Lists.{Every, Perm, AtMost}
 use Rattle.prelude.specs.Sums.{count}
-use Rattle.field.specs.Field.{p, Prime, keyOf, Keyed, fingerprint, Agree, agree}
+use Rattle.field.specs.Field.{p, Prime, fingerprint, Agree, agree}
 
--- "That p is prime is proved, never assumed."
+-- p is prime.
 abbrev pub PrimeModulus : Type 0
 PrimeModulus = Prime p
-
--- "Keys are below p, and different records have different keys."
-abbrev pub KeysBelow : Type 0
-KeysBelow = (tail head weight : ℕ) → Keyed tail head weight → keyOf tail head weight < p
-
-abbrev pub KeysDiffer : Type 0
-KeysDiffer =
-    (a b w c d x : ℕ) → Keyed a b w → Keyed c d x → keyOf a b w ≡ keyOf c d x → (a ≡ c) × (b ≡ d) × (w ≡ x)
 
 -- The lists are as long, their keys are below p, and they are no permutations of one another.
 pub record Different (ks ls : List ℕ) : Type 0 where

@@ -1,17 +1,19 @@
 -- The tests of checks 1, 2, 3, 7 and 8 hold exactly where opening and reading allow.
 -- Assumes nothing.
-use mathlib.Core.Path.{_≡_, refl}
+use mathlib.Core.Path.{_≡_}
 use mathlib.Core.Logic.{_≢_}
 use mathlib.Core.Bool.{Bool, not, _&&_}
-use Prim.Native.Nat.{ℕ, _%_}
+use Prim.Native.Nat.{ℕ, _%_, _≤_}
 use native.Mathlib.Omega.{arith}
 use native.Mathlib.Decide.{ℕ-discrete}
 use borrow.Author.Tests.{eq-eqb, ne-eqb}
 use lib.Dec.{T, eqb, leb, ltb, eqb→eq, eqb-refl, leb→le, le→leb, ltb→lt, lt→ltb}
 use Rattle.prelude.proofs.Booleans.{and-left, and-right, both, false→not}
+use Rattle.prelude.specs.Checks.{Hold}
+use Rattle.network.specs.Limits.{mostVertices, mostWeight}
 use Rattle.network.specs.Network.{Arc}
-use Rattle.network.specs.Question.{Question, shortestPath, maximumFlow, assignment, questionNumber, Setting, pumps, EvenFor, Sized, TwoVertices, EndsFor, SidesFor, Joins, WeightWithin}
-use Rattle.network.specs.Tests.{isQuestion, questionOf, evenFor, sizeOk, twoVertices, endsFor, endsOk, sidesFor, joinsOk, weightOk}
+use Rattle.network.specs.Question.{Question, shortestPath, maximumFlow, assignment, questionOf, unasked, Setting, asks, pumps, Asked, EvenFor, Sized, TwoVertices, EndsFor, Opened, SidesFor, Joins, WeightWithin, Allowed}
+use Rattle.network.specs.Tests.{isAsked, evenFor, sizeOk, twoVertices, endsFor, endsOk, openingChecks, sidesFor, joinsOk, weightOk, arcChecks}
 
 -- ---- numbers that differ
 
@@ -26,20 +28,27 @@ eq→T a b e = rw e (eqb-refl b)
 
 -- ---- 1
 
-pub question-of-number : (q : Question) → questionOf (questionNumber q) ≡ q
-question-of-number shortestPath = refl
-question-of-number maximumFlow = refl
-question-of-number assignment = refl
+asked-rule : (q : Question) → T (isAsked q) → Asked q
+asked-rule shortestPath t = tt
+asked-rule maximumFlow t = tt
+asked-rule assignment t = tt
+asked-rule unasked t = absurd t
 
-pub number-of-question : (k : ℕ) → T (isQuestion k) → questionNumber (questionOf k) ≡ k
-number-of-question k t = go (ℕ-discrete k 1) (ℕ-discrete k 2)
+asked-test : (q : Question) → Asked q → T (isAsked q)
+asked-test shortestPath h = tt
+asked-test maximumFlow h = tt
+asked-test assignment h = tt
+asked-test unasked h = absurd h
+
+-- a number that asks a question is 1, 2 or 3
+pub asked-least : (k : ℕ) → T (isAsked (questionOf k)) → k ≤ 3
+asked-least k t = go (ℕ-discrete k 1) (ℕ-discrete k 2) (ℕ-discrete k 3)
   where
-    go : Dec (k ≡ 1) → Dec (k ≡ 2) → questionNumber (questionOf k) ≡ k
-    go (yes e) d = rw e refl
-    go (no n1) (yes e) = rw e refl
-    go (no n1) (no n2) =
-        rw (ne-eqb k 1 n1, ne-eqb k 2 n2)
-        (omega (arith, leb→le 1 k (and-left (leb 1 k) (leb k 3) t), leb→le k 3 (and-right (leb 1 k) (leb k 3) t)))
+    go : Dec (k ≡ 1) → Dec (k ≡ 2) → Dec (k ≡ 3) → k ≤ 3
+    go (yes e) d f = omega arith
+    go (no n1) (yes e) f = omega arith
+    go (no n1) (no n2) (yes e) = omega arith
+    go (no n1) (no n2) (no n3) = absurd (rw (ne-eqb k 1 n1, ne-eqb k 2 n2, ne-eqb k 3 n3) at t)
 
 -- ---- 2
 
@@ -47,26 +56,28 @@ even-rule : (q : Question) (n : ℕ) → T (evenFor q n) → EvenFor q n
 even-rule shortestPath n t = tt
 even-rule maximumFlow n t = tt
 even-rule assignment n t = eqb→eq (n % 2) 0 t
+even-rule unasked n t = tt
 
 even-test : (q : Question) (n : ℕ) → EvenFor q n → T (evenFor q n)
 even-test shortestPath n h = tt
 even-test maximumFlow n h = tt
 even-test assignment n h = eq→T (n % 2) 0 h
+even-test unasked n h = tt
 
 pub size-rule : (st : Setting) → T (sizeOk st) → Sized st
 size-rule st t =
-    let r = and-left (leb 2 (st .n) && leb (st .n) 255) (evenFor (st .question) (st .n)) t in
+    let r = and-left (leb 2 (st .n) && leb (st .n) mostVertices) (evenFor (asks st) (st .n)) t in
     record {
-      at-least = leb→le 2 (st .n) (and-left (leb 2 (st .n)) (leb (st .n) 255) r);
-      at-most = leb→le (st .n) 255 (and-right (leb 2 (st .n)) (leb (st .n) 255) r);
-      even = even-rule (st .question) (st .n) (and-right (leb 2 (st .n) && leb (st .n) 255) (evenFor (st .question) (st .n)) t);
+      at-least = leb→le 2 (st .n) (and-left (leb 2 (st .n)) (leb (st .n) mostVertices) r);
+      at-most = leb→le (st .n) mostVertices (and-right (leb 2 (st .n)) (leb (st .n) mostVertices) r);
+      even = even-rule (asks st) (st .n) (and-right (leb 2 (st .n) && leb (st .n) mostVertices) (evenFor (asks st) (st .n)) t);
     }
 
 pub size-test : (st : Setting) → Sized st → T (sizeOk st)
 size-test st h =
-    both (leb 2 (st .n) && leb (st .n) 255) (evenFor (st .question) (st .n))
-    (both (leb 2 (st .n)) (leb (st .n) 255) (le→leb 2 (st .n) (h .at-least)) (le→leb (st .n) 255 (h .at-most)))
-    (even-test (st .question) (st .n) (h .even))
+    both (leb 2 (st .n) && leb (st .n) mostVertices) (evenFor (asks st) (st .n))
+    (both (leb 2 (st .n)) (leb (st .n) mostVertices) (le→leb 2 (st .n) (h .at-least)) (le→leb (st .n) mostVertices (h .at-most)))
+    (even-test (asks st) (st .n) (h .even))
 
 -- ---- 3
 
@@ -90,21 +101,23 @@ ends-rule-for shortestPath st t = two-rule st t
 ends-rule-for maximumFlow st t = two-rule st t
 ends-rule-for assignment st t =
     record { source-zero = eqb→eq (st .s) 0 (and-left (eqb (st .s) 0) (eqb (st .t) 0) t); sink-zero = eqb→eq (st .t) 0 (and-right (eqb (st .s) 0) (eqb (st .t) 0) t) }
+ends-rule-for unasked st t = absurd t
 
 ends-test-for : (q : Question) (st : Setting) → EndsFor q st → T (endsFor q st)
 ends-test-for shortestPath st h = two-test st h
 ends-test-for maximumFlow st h = two-test st h
 ends-test-for assignment st h = both (eqb (st .s) 0) (eqb (st .t) 0) (eq→T (st .s) 0 (h .source-zero)) (eq→T (st .t) 0 (h .sink-zero))
+ends-test-for unasked st h = absurd h
 
-pub ends-rule : (st : Setting) → T (endsOk st) → EndsFor (st .question) st
-ends-rule st t = ends-rule-for (st .question) st t
+pub ends-rule : (st : Setting) → T (endsOk st) → EndsFor (asks st) st
+ends-rule st t = ends-rule-for (asks st) st t
 
-pub ends-test : (st : Setting) → EndsFor (st .question) st → T (endsOk st)
-ends-test st h = ends-test-for (st .question) st h
+pub ends-test : (st : Setting) → EndsFor (asks st) st → T (endsOk st)
+ends-test st h = ends-test-for (asks st) st h
 
 -- ---- 7
 
-sides-rule : (q : Question) (st : Setting) (e : Arc) → T (sidesFor q st (e .tail) (e .head)) → SidesFor q st e
+sides-rule : (q : Question) (st : Setting) (e : Arc) → T (sidesFor q st e) → SidesFor q st e
 sides-rule shortestPath st e t = tt
 sides-rule maximumFlow st e t = tt
 sides-rule assignment st e t =
@@ -112,12 +125,14 @@ sides-rule assignment st e t =
       from-pump = ltb→lt (e .tail) (pumps st) (and-left (ltb (e .tail) (pumps st)) (leb (pumps st) (e .head)) t);
       to-site = leb→le (pumps st) (e .head) (and-right (ltb (e .tail) (pumps st)) (leb (pumps st) (e .head)) t);
     }
+sides-rule unasked st e t = absurd t
 
-sides-test : (q : Question) (st : Setting) (e : Arc) → SidesFor q st e → T (sidesFor q st (e .tail) (e .head))
+sides-test : (q : Question) (st : Setting) (e : Arc) → SidesFor q st e → T (sidesFor q st e)
 sides-test shortestPath st e h = tt
 sides-test maximumFlow st e h = tt
 sides-test assignment st e h =
     both (ltb (e .tail) (pumps st)) (leb (pumps st) (e .head)) (lt→ltb (e .tail) (pumps st) (h .from-pump)) (le→leb (pumps st) (e .head) (h .to-site))
+sides-test unasked st e h = absurd h
 
 module _ (st : Setting) (e : Arc) where
   inside : Bool
@@ -129,28 +144,42 @@ module _ (st : Setting) (e : Arc) where
   pub joins-rule : T (joinsOk st e) → Joins st e
   unfolding inside differ
   joins-rule t =
-      let r = and-left (inside && differ) (sidesFor (st .question) st (e .tail) (e .head)) t in
+      let r = and-left (inside && differ) (sidesFor (asks st) st e) t in
       let i = and-left inside differ r in
       record {
         tail-below = ltb→lt (e .tail) (st .n) (and-left (ltb (e .tail) (st .n)) (ltb (e .head) (st .n)) i);
         head-below = ltb→lt (e .head) (st .n) (and-right (ltb (e .tail) (st .n)) (ltb (e .head) (st .n)) i);
         proper = not-eqb (e .tail) (e .head) (and-right inside differ r);
-        sides = sides-rule (st .question) st e (and-right (inside && differ) (sidesFor (st .question) st (e .tail) (e .head)) t);
+        sides = sides-rule (asks st) st e (and-right (inside && differ) (sidesFor (asks st) st e) t);
       }
 
   pub joins-test : Joins st e → T (joinsOk st e)
   unfolding inside differ
   joins-test h =
-      both (inside && differ) (sidesFor (st .question) st (e .tail) (e .head))
+      both (inside && differ) (sidesFor (asks st) st e)
       (both inside differ
       (both (ltb (e .tail) (st .n)) (ltb (e .head) (st .n)) (lt→ltb (e .tail) (st .n) (h .tail-below)) (lt→ltb (e .head) (st .n) (h .head-below)))
       (eqb-not (e .tail) (e .head) (h .proper)))
-      (sides-test (st .question) st e (h .sides))
+      (sides-test (asks st) st e (h .sides))
 
 -- ---- 8
 
 pub weight-rule : (e : Arc) → T (weightOk e) → WeightWithin e
-weight-rule e t = leb→le (e .weight) 32767 t
+weight-rule e t = leb→le (e .weight) mostWeight t
 
 pub weight-test : (e : Arc) → WeightWithin e → T (weightOk e)
-weight-test e h = le→leb (e .weight) 32767 h
+weight-test e h = le→leb (e .weight) mostWeight h
+
+-- ---- together: opening and reading accept exactly what the rules allow
+
+pub opening-rule : (st : Setting) → Hold (openingChecks st) → Opened st
+opening-rule st h = record { asked = asked-rule (asks st) (h .0); sized = size-rule st (h .1 .0); ends = ends-rule st (h .1 .1 .0) }
+
+pub opening-test : (st : Setting) → Opened st → Hold (openingChecks st)
+opening-test st o = (asked-test (asks st) (o .asked), (size-test st (o .sized), (ends-test st (o .ends), tt)))
+
+pub arc-rule : (st : Setting) (e : Arc) → Hold (arcChecks st e) → Allowed st e
+arc-rule st e h = record { joins = joins-rule st e (h .0); weight-within = weight-rule e (h .1 .0) }
+
+pub arc-test : (st : Setting) (e : Arc) → Allowed st e → Hold (arcChecks st e)
+arc-test st e a = (joins-test st e (a .joins), (weight-test e (a .weight-within), tt))

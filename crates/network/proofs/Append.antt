@@ -10,7 +10,7 @@ use lib.ListN.{length}
 use Rattle.prelude.specs.Choice.{indicator}
 use Rattle.prelude.specs.Lists.{Every}
 use Rattle.prelude.proofs.Integers.{signed, parts-add, parts-sub}
-use Rattle.network.specs.Network.{Arc, Load, arcs, delta, sumOf, leaving, entering, balance, crosses, cut}
+use Rattle.network.specs.Network.{Arc, Load, arcs, delta, sumOf, leaving, entering, balance, crosses, sumAcross}
 use Rattle.network.proofs.Sound.{balance-parts}
 
 pub sumOf-snoc : (g : Arc → ℕ) (f : List Load) (l : Load) → sumOf g (f ++ l ∷ []) ≡ sumOf g f + l .amount * g (l .arc)
@@ -22,10 +22,10 @@ pub arcs-snoc : (f : List Load) (l : Load) → arcs (f ++ l ∷ []) ≡ arcs f +
 arcs-snoc [] l = refl
 arcs-snoc (k ∷ f) l = ap (λ (es : List Arc). k .arc ∷ es) (arcs-snoc f l)
 
-pub cut-snoc : (m : ℕ → Bool) (net : List Arc) (e : Arc) → cut m (net ++ e ∷ []) ≡ cut m net + e .weight * indicator (crosses m e)
-unfolding cut
-cut-snoc m [] e = omega arith
-cut-snoc m (d ∷ net) e = omega (arith, cut-snoc m net e)
+pub across-snoc : (g : Arc → ℕ) (m : ℕ → Bool) (net : List Arc) (e : Arc) → sumAcross g m (net ++ e ∷ []) ≡ sumAcross g m net + g e * indicator (crosses m e)
+unfolding sumAcross
+across-snoc g m [] e = omega arith
+across-snoc g m (d ∷ net) e = omega (arith, across-snoc g m net e)
 
 pub balance-snoc : (v : ℕ) (f : List Load) (l : Load)
     → balance v (f ++ l ∷ []) ≡ (balance v f +ℤ pos (l .amount * delta (l .arc .tail) v)) -ℤ pos (l .amount * delta (l .arc .head) v)
@@ -46,7 +46,7 @@ unfolding sumOf
 sumOf-most g most [] e = omega arith
 sumOf-most g most (l ∷ f) e = omega (arith, e .0, sumOf-most g most f (e .1))
 
-pub cut-most : (m : ℕ → Bool) (most : ℕ) (net : List Arc) → Every (λ e. e .weight * indicator (crosses m e) ≤ most) net → cut m net ≤ length net * most
-unfolding cut
-cut-most m most [] e = omega arith
-cut-most m most (d ∷ net) e = omega (arith, e .0, cut-most m most net (e .1))
+pub across-most : (g : Arc → ℕ) (m : ℕ → Bool) (most : ℕ) (net : List Arc) → Every (λ e. g e * indicator (crosses m e) ≤ most) net → sumAcross g m net ≤ length net * most
+unfolding sumAcross
+across-most g m most [] e = omega arith
+across-most g m most (d ∷ net) e = omega (arith, e .0, across-most g m most net (e .1))

@@ -9,13 +9,13 @@ use native.Mathlib.Nat.{mul-le-mul-left, mul-le-mul-right}
 use native.Mathlib.Omega.{arith}
 use Rattle.prelude.specs.Choice.{indicator}
 use Rattle.prelude.specs.Lists.{Every}
-use Rattle.network.specs.Network.{Arc, Load, arcs, delta, sumOf, leaving, entering, crosses, cut}
+use Rattle.network.specs.Network.{Arc, Load, arcs, delta, sumOf, leaving, entering, crosses, cut, sumAcross}
 use Rattle.network.specs.Question.{Setting, Flow}
 use Rattle.network.proofs.Sums.{Compared, compared, Inside, sumTo-at, across, crossing}
 
 cut-bound : (m : ℕ → Bool) (f : List Load) → Every (λ l. l .amount ≤ l .arc .weight) f
     → sumOf (λ e. indicator (m (e .tail))) f ≤ sumOf (λ e. indicator (m (e .head))) f + cut m (arcs f)
-unfolding sumOf cut
+unfolding sumOf sumAcross
 cut-bound m [] e = omega arith
 cut-bound m (l ∷ f) e =
     omega (

@@ -3,6 +3,7 @@ pub mod Paths
 pub mod Flows
 pub mod Assignments
 pub mod Orders
+pub mod Rules
 pub mod Sound
 pub mod Append
 pub mod Allowed

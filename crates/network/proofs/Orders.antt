@@ -11,7 +11,7 @@ use Rattle.prelude.proofs.Integers.{signed}
 use Rattle.prelude.proofs.Lists.{every-map}
 use Rattle.prelude.proofs.Permutations.{perm-sym, perm-every, perm-some, perm-lift}
 use Rattle.network.specs.Network.{Arc, Load, arcs, delta, sumOf, balance, cost}
-use Rattle.network.specs.Question.{Question, shortestPath, maximumFlow, assignment, Setting, Answer, value, Walk, Flow, Assignment, TrueFor, TrueAnswer}
+use Rattle.network.specs.Question.{Question, shortestPath, maximumFlow, assignment, unasked, Setting, asks, Answer, value, Walk, Flow, Assignment, TrueFor, TrueAnswer}
 use Rattle.network.specs.Question.{none as no-answer}
 
 -- ---- one answer
@@ -31,9 +31,10 @@ unique-for assignment st net (value v) (value w) h k =
 unique-for assignment st net (value v) no-answer h k = absurd (k (h .chosen) (h .is-assignment))
 unique-for assignment st net no-answer (value w) h k = absurd (h (k .chosen) (k .is-assignment))
 unique-for assignment st net no-answer no-answer h k = refl
+unique-for unasked st net a b h k = absurd h
 
 pub unique : (st : Setting) (net : List Arc) (a b : Answer) → TrueAnswer st net a → TrueAnswer st net b → a ≡ b
-unique st net a b h k = unique-for (st .question) st net a b h k
+unique st net a b h k = unique-for (asks st) st net a b h k
 
 -- ---- the arcs in another order
 
@@ -103,6 +104,7 @@ any-order-for assignment st {net} {new} d (value v) h =
         rw (cost-moved f r) at (h .least (r .0) (assignment-moved st f c r))
 any-order-for assignment st {net} d no-answer h =
     λ f c. let r : Moved f net = moved (perm-sym d) f (c .each) in h (r .0) (assignment-moved st f c r)
+any-order-for unasked st d a h = absurd h
 
 pub any-order : (st : Setting) {net new : List Arc} → Perm net new → (a : Answer) → TrueAnswer st net a → TrueAnswer st new a
-any-order st d a h = any-order-for (st .question) st d a h
+any-order st d a h = any-order-for (asks st) st d a h

@@ -17,8 +17,9 @@ use Rattle.prelude.proofs.Integers.{posPart, negPart, parts-add, parts-sub, sig
 use Rattle.prelude.proofs.Lists.{every-map, every-zip, image-every}
 use Rattle.prelude.proofs.Permutations.{perm-sym, perm-every}
 use Rattle.network.specs.Network.{Arc, Load, arcs, delta, sumOf, leaving, entering, balance, degree, cost, total, crosses}
-use Rattle.network.specs.Question.{Question, shortestPath, maximumFlow, assignment, Setting, pumps, sites, EndsFor, TwoVertices, SidesFor, PumpToSite, Allowed, Opened, Answer, value, none, Walk, ShortestPath, NoWalk, Flow, MaximumFlow, Assignment, CheapestAssignment, NoAssignment, TrueFor, TrueAnswer}
-use Rattle.network.specs.Certificate.{Potentials, SourceMarked, SinkUnmarked, marked, WithinCapacity, Feasible, PathCertificate, FlowCertificate, AssignmentCertificate, NoPathCertificate, NoAssignmentCertificate, CertifiedFor, Certified}
+use Rattle.network.specs.Question.{Question, shortestPath, maximumFlow, assignment, unasked, Setting, asks, pumps, sites, EndsFor, TwoVertices, SidesFor, PumpToSite, Allowed, Opened, Answer, value, none, Walk, ShortestPath, NoWalk, Flow, MaximumFlow, Assignment, CheapestAssignment, NoAssignment, TrueFor, TrueAnswer}
+use Rattle.network.specs.Certificate.{marked, Certified}
+use Rattle.network.proofs.Rules.{Potentials, SourceMarked, SinkUnmarked, WithinCapacity, Feasible, PathCertificate, FlowCertificate, AssignmentCertificate, NoPathCertificate, NoAssignmentCertificate, RulesHold, certified-rules}
 use Rattle.network.proofs.Sums.{Compared, compared, Inside}
 use Rattle.network.proofs.Paths.{walk-above, no-walk, Unit-flow, Found, walk-in}
 use Rattle.network.proofs.Flows.{flow-below-cut}
@@ -174,7 +175,7 @@ no-assignment-sound st y f rule c g a =
 -- ---- all five, for the arcs in the order of the loads
 
 certified-for : (q : Question) (st : Setting) (y : ℕ → ℤ) (f : List Load) (a : Answer) → EndsFor q st → Every (Inside (st .n)) (arcs f) → Every (SidesFor q st) (arcs f)
-    → CertifiedFor q st y f a → TrueFor q st (arcs f) a
+    → RulesHold q st y f a → TrueFor q st (arcs f) a
 certified-for shortestPath st y f (value v) ends inside sides c = path-sound st y f v ends inside c
 certified-for shortestPath st y f none ends inside sides c = no-path-sound st y f c
 certified-for maximumFlow st y f (value v) ends inside sides c = flow-sound st y f v ends inside c
@@ -183,13 +184,14 @@ certified-for assignment st y f (value v) ends inside sides c =
     assignment-sound st y f v inside (every-zip (λ e i p. between st e i p) (arcs f) inside sides) c
 certified-for assignment st y f none ends inside sides c =
     no-assignment-sound st y f (every-zip (λ e i p. between st e i p) (arcs f) inside sides) c
+certified-for unasked st y f a ends inside sides c = absurd c
 
 pub certified-true : (st : Setting) (y : ℕ → ℤ) (f : List Load) (a : Answer) → Opened st → Every (Allowed st) (arcs f) → Certified st y f a → TrueAnswer st (arcs f) a
 certified-true st y f a o i c =
-    certified-for (st .question) st y f a (o .ends)
+    certified-for (asks st) st y f a (o .ends)
     (every-map (λ e (h : Allowed st e). (h .joins .tail-below, h .joins .head-below)) (arcs f) i)
     (every-map (λ e (h : Allowed st e). h .joins .sides) (arcs f) i)
-    c
+    (certified-rules st y f a (o .ends) c)
 
 -- ---- and in any order
 

@@ -1,173 +1,215 @@
--- The certificates: rules on node numbers y, one for each vertex, and on the arcs with amounts, f. Each rule has a name of its own.
+-- The certificates: what is asked of node numbers y, one for each vertex, and of the arcs with amounts, f. One row of rules for each question and claim.
 -- Assumes nothing.
 use mathlib.Core.Path.{_≡_}
-use mathlib.Core.Logic.{_≢_}
-use mathlib.Core.Bool.{Bool, false}
+use mathlib.Core.Bool.{Bool, true, false, not, _&&_}
 use mathlib.Core.List.{List}
 use Prim.Native.Nat.{ℕ, _+_, _≤_, _<_}
-use lib.Dec.{eqb, ltb}
+use lib.Dec.{T, eqb, ltb}
 use lib.IntN.{ℤ, pos, negℤ, _+ℤ_, _-ℤ_}
-use lib.Signed.{_≤ℤ_}
-use Rattle.prelude.specs.Choice.{pick}
-use Rattle.prelude.specs.Integers.{eqZ}
+use lib.Signed.{leZ}
+use Rattle.prelude.specs.Choice.{pick, implies}
+use Rattle.prelude.specs.Integers.{eqZ, between, natural}
 use Rattle.prelude.specs.Lists.{Every}
 use Rattle.prelude.specs.Sums.{sumToℤ, count}
-use Rattle.network.specs.Network.{Load, arcs, balance, cost, crosses, cut}
-use Rattle.network.specs.Question.{Question, shortestPath, maximumFlow, assignment, Setting, pumps, sites, Answer, value, none}
+use Rattle.network.specs.Limits.{mostPotential}
+use Rattle.network.specs.Network.{Arc, Load, arcs, balance, sumOf, sumAcross}
+use Rattle.network.specs.Question.{Question, shortestPath, maximumFlow, assignment, unasked, Setting, asks, pumps, sites, unitCost, unitsMost, Answer, value, none}
 
--- ---- rules on node numbers
+-- ---- what the rules speak of
 
-pub record InRange (low high z : ℤ) : Type 0 where
-  pub above : low ≤ℤ z
-  pub below : z ≤ℤ high
+-- What an annotation claims: 1 a value, 2 none.
+pub data Claim : Type 0 where
+  ofValue : Claim
+  ofNone : Claim
 
--- "Node numbers y from -8322818 to 8322818": potentials.
-abbrev pub Potentials : Setting → (ℕ → ℤ) → Type 0
-Potentials st y = (v : ℕ) → v < st .n → InRange (negℤ (pos 8322818)) (pos 8322818) (y v)
-
--- "Node numbers are marks 0 or 1."
-abbrev pub Marks : Setting → (ℕ → ℤ) → Type 0
-Marks st y = (v : ℕ) → v < st .n → InRange (pos 0) (pos 1) (y v)
-
--- "y of s is 0."
-abbrev pub SourceZero : Setting → (ℕ → ℤ) → Type 0
-SourceZero st y = y (st .s) ≡ pos 0
-
--- "s has 1, t has 0."
-abbrev pub SourceMarked : Setting → (ℕ → ℤ) → Type 0
-SourceMarked st y = y (st .s) ≡ pos 1
-
-abbrev pub SinkUnmarked : Setting → (ℕ → ℤ) → Type 0
-SinkUnmarked st y = y (st .t) ≡ pos 0
-
--- The vertices with mark 1: one side of a cut.
+-- The vertices with the node number 1 are marked: one side of a cut.
 abbrev pub marked : (ℕ → ℤ) → ℕ → Bool
 marked y v = eqZ (y v) (pos 1)
 
--- ---- rules on each arc with its amount
+-- What the ends of an arc have: node numbers and marks.
+pub record Ends : Type 0 where
+  pub tail-number : ℤ
+  pub head-number : ℤ
+  pub tail-marked : Bool
+  pub head-marked : Bool
 
--- "x is 0 or 1."
-abbrev pub ZeroOrOne : Load → Type 0
-ZeroOrOne l = l .amount ≤ 1
+abbrev pub endsOf : (ℕ → ℤ) → (ℕ → Bool) → Arc → Ends
+endsOf y m e = record { tail-number = y (e .tail); head-number = y (e .head); tail-marked = m (e .tail); head-marked = m (e .head) }
 
--- "x is 0 to w."
-abbrev pub WithinCapacity : Load → Type 0
-WithinCapacity l = l .amount ≤ l .arc .weight
+-- The sums over the repeated arcs: the balance of each vertex, the total cost, and the capacity of the arcs from mark 1 to mark 0.
+pub record Sums : Type 0 where
+  pub balances : ℕ → ℤ
+  pub cost : ℤ
+  pub cut : ℤ
 
--- "x is 0."
-abbrev pub NoAmount : Load → Type 0
-NoAmount l = l .amount ≡ 0
+abbrev pub sumsOf : Question → (ℕ → Bool) → List Load → Sums
+sumsOf q m f = record { balances = λ v. balance v f; cost = pos (sumOf (unitCost q) f); cut = pos (sumAcross (unitsMost q) m (arcs f)) }
 
--- "y[b] is at most y[a] + w for each record", whatever its amount.
-abbrev pub Feasible : (ℕ → ℤ) → Load → Type 0
-Feasible y l = y (l .arc .head) ≤ℤ (y (l .arc .tail) +ℤ pos (l .arc .weight))
+-- ---- what one certificate asks
 
--- "No record leads from mark 1 to mark 0."
-abbrev pub Closed : (ℕ → ℤ) → Load → Type 0
-Closed y l = crosses (marked y) (l .arc) ≡ false
+-- The rules in the order of the checks: 9, may the claim be made; 10, the range of node numbers, and the number z of the vertex v; 11, the most amount on an arc;
+-- 12, an arc with its amount, by what its ends have; 15, the balance b of the vertex v; 16, the sums; and the answer.
+pub record Rules : Type 0 where
+  pub admitted : Bool
+  pub lowest : ℤ
+  pub highest : ℤ
+  pub onNode : Setting → ℕ → ℤ → Bool
+  pub most : Arc → ℕ
+  pub onArc : Ends → Load → Bool
+  pub onBalance : Setting → ℕ → ℤ → Bool
+  pub onSums : Setting → (ℕ → ℤ) → (ℕ → Bool) → Sums → Bool
+  pub answer : Sums → Answer
 
--- ---- rules on balances
+-- The number of the head is at most that of the tail and the cost of the arc.
+abbrev pub noShortcut : Ends → Load → Bool
+noShortcut e l = leZ (e .head-number) (e .tail-number +ℤ pos (l .arc .weight))
 
--- "Balances are +1 at s, -1 at t, else 0."
+-- The arc does not lead from mark 1 to mark 0.
+abbrev pub staysInside : Ends → Load → Bool
+staysInside e l = not (e .tail-marked && not (e .head-marked))
+
+-- s has the mark 1 and t the mark 0.
+abbrev pub separates : Setting → ℕ → ℤ → Bool
+separates st v z = implies (eqb v (st .s)) (eqZ z (pos 1)) && implies (eqb v (st .t)) (eqZ z (pos 0))
+
+-- The balances of a path, +1 at s, -1 at t, else 0; and of an assignment, +1 at pumps, -1 at sites.
 abbrev pub pathBalance : Setting → ℕ → ℤ
 pathBalance st v = pick (eqb v (st .s)) (pos 1) (pick (eqb v (st .t)) (negℤ (pos 1)) (pos 0))
 
-abbrev pub PathBalances : Setting → List Load → Type 0
-PathBalances st f = (v : ℕ) → v < st .n → balance v f ≡ pathBalance st v
-
--- "Balances are 0 but at s and t."
-abbrev pub Conserved : Setting → List Load → Type 0
-Conserved st f = (v : ℕ) → v < st .n → v ≢ st .s → v ≢ st .t → balance v f ≡ pos 0
-
--- "Balances are +1 at pumps, -1 at sites."
 abbrev pub assignmentBalance : Setting → ℕ → ℤ
 assignmentBalance st v = pick (ltb v (pumps st)) (pos 1) (negℤ (pos 1))
 
-abbrev pub AssignmentBalances : Setting → List Load → Type 0
-AssignmentBalances st f = (v : ℕ) → v < st .n → balance v f ≡ assignmentBalance st v
-
--- ---- rules on sums
-
--- "The sum of w × x equals y of t."
-abbrev pub LengthIsPotential : Setting → (ℕ → ℤ) → List Load → Type 0
-LengthIsPotential st y f = pos (cost f) ≡ y (st .t)
-
--- "The balance of s equals the sum of w over records from mark 1 to mark 0."
-abbrev pub FlowIsCut : Setting → (ℕ → ℤ) → List Load → Type 0
-FlowIsCut st y f = balance (st .s) f ≡ pos (cut (marked y) (arcs f))
-
--- "The sum of y over sites minus that over pumps."
+-- The sum of y over sites minus that over pumps.
 abbrev pub potentialGap : Setting → (ℕ → ℤ) → ℤ
 potentialGap st y = sumToℤ (sites st) (λ i. y (pumps st + i)) -ℤ sumToℤ (pumps st) y
 
--- "The sum of w × x equals" it.
-abbrev pub CostIsGap : Setting → (ℕ → ℤ) → List Load → Type 0
-CostIsGap st y f = pos (cost f) ≡ potentialGap st y
-
--- "More pumps than sites are marked."
+-- How many pumps are marked, and how many sites.
 abbrev pub markedPumps : Setting → (ℕ → Bool) → ℕ
 markedPumps st m = count m (pumps st)
 
 abbrev pub markedSites : Setting → (ℕ → Bool) → ℕ
 markedSites st m = count (λ i. m (pumps st + i)) (sites st)
 
-abbrev pub MorePumps : Setting → (ℕ → ℤ) → Type 0
-MorePumps st y = markedSites st (marked y) < markedPumps st (marked y)
+-- ---- the five certificates, in the order of document 01 (The certificate)
 
--- ---- the five certificates
+-- Route, value.
+abbrev pub pathRules : Rules
+pathRules = record {
+  admitted = true;
+  lowest = negℤ (pos mostPotential);
+  highest = pos mostPotential;
+  onNode = λ st v z. implies (eqb v (st .s)) (eqZ z (pos 0));
+  most = λ e. 1;
+  onArc = noShortcut;
+  onBalance = λ st v b. eqZ b (pathBalance st v);
+  onSums = λ st y m u. eqZ (u .cost) (y (st .t));
+  answer = λ u. value (natural (u .cost));
+}
 
--- "Route, value."
-pub record PathCertificate (st : Setting) (y : ℕ → ℤ) (f : List Load) (v : ℕ) : Type 0 where
-  pub potentials : Potentials st y
-  pub source : SourceZero st y
-  pub amounts : Every ZeroOrOne f
-  pub feasible : Every (Feasible y) f
-  pub balances : PathBalances st f
-  pub sums : LengthIsPotential st y f
-  pub answer : y (st .t) ≡ pos v
+-- Discharge, value.
+abbrev pub flowRules : Rules
+flowRules = record {
+  admitted = true;
+  lowest = pos 0;
+  highest = pos 1;
+  onNode = separates;
+  most = λ e. e .weight;
+  onArc = λ e l. true;
+  onBalance = λ st v b. pick (eqb v (st .s)) true (pick (eqb v (st .t)) true (eqZ b (pos 0)));
+  onSums = λ st y m u. eqZ (u .balances (st .s)) (u .cut);
+  answer = λ u. value (natural (u .cut));
+}
 
--- "Discharge, value."
-pub record FlowCertificate (st : Setting) (y : ℕ → ℤ) (f : List Load) (v : ℕ) : Type 0 where
-  pub marks : Marks st y
-  pub source : SourceMarked st y
-  pub sink : SinkUnmarked st y
-  pub amounts : Every WithinCapacity f
-  pub balances : Conserved st f
-  pub sums : FlowIsCut st y f
-  pub answer : balance (st .s) f ≡ pos v
+-- Pairing, value.
+abbrev pub assignmentRules : Rules
+assignmentRules = record {
+  admitted = true;
+  lowest = negℤ (pos mostPotential);
+  highest = pos mostPotential;
+  onNode = λ st v z. true;
+  most = λ e. 1;
+  onArc = noShortcut;
+  onBalance = λ st v b. eqZ b (assignmentBalance st v);
+  onSums = λ st y m u. eqZ (u .cost) (potentialGap st y);
+  answer = λ u. value (natural (u .cost));
+}
 
--- "Pairing, value."
-pub record AssignmentCertificate (st : Setting) (y : ℕ → ℤ) (f : List Load) (v : ℕ) : Type 0 where
-  pub potentials : Potentials st y
-  pub amounts : Every ZeroOrOne f
-  pub feasible : Every (Feasible y) f
-  pub balances : AssignmentBalances st f
-  pub sums : CostIsGap st y f
-  pub answer : cost f ≡ v
+-- Route, none.
+abbrev pub noPathRules : Rules
+noPathRules = record {
+  admitted = true;
+  lowest = pos 0;
+  highest = pos 1;
+  onNode = separates;
+  most = λ e. 0;
+  onArc = staysInside;
+  onBalance = λ st v b. true;
+  onSums = λ st y m u. true;
+  answer = λ u. none;
+}
 
--- "Route, none."
-pub record NoPathCertificate (st : Setting) (y : ℕ → ℤ) (f : List Load) : Type 0 where
-  pub marks : Marks st y
-  pub source : SourceMarked st y
-  pub sink : SinkUnmarked st y
-  pub amounts : Every NoAmount f
-  pub closed : Every (Closed y) f
+-- Pairing, none.
+abbrev pub noAssignmentRules : Rules
+noAssignmentRules = record {
+  admitted = true;
+  lowest = pos 0;
+  highest = pos 1;
+  onNode = λ st v z. true;
+  most = λ e. 0;
+  onArc = staysInside;
+  onBalance = λ st v b. true;
+  onSums = λ st y m u. ltb (markedSites st m) (markedPumps st m);
+  answer = λ u. none;
+}
 
--- "Pairing, none."
-pub record NoAssignmentCertificate (st : Setting) (y : ℕ → ℤ) (f : List Load) : Type 0 where
-  pub marks : Marks st y
-  pub amounts : Every NoAmount f
-  pub closed : Every (Closed y) f
-  pub more-pumps : MorePumps st y
+-- Where there is no certificate, nothing passes.
+abbrev pub noRules : Rules
+noRules = record {
+  admitted = false;
+  lowest = pos 0;
+  highest = pos 0;
+  onNode = λ st v z. false;
+  most = λ e. 0;
+  onArc = λ e l. false;
+  onBalance = λ st v b. false;
+  onSums = λ st y m u. false;
+  answer = λ u. none;
+}
 
--- The certificate for the answer; none is never certified of a flow.
-abbrev pub CertifiedFor : Question → Setting → (ℕ → ℤ) → List Load → Answer → Type 0
-CertifiedFor shortestPath st y f (value v) = PathCertificate st y f v
-CertifiedFor shortestPath st y f none = NoPathCertificate st y f
-CertifiedFor maximumFlow st y f (value v) = FlowCertificate st y f v
-CertifiedFor maximumFlow st y f none = ⊥
-CertifiedFor assignment st y f (value v) = AssignmentCertificate st y f v
-CertifiedFor assignment st y f none = NoAssignmentCertificate st y f
+-- The rules for a question and a claim.
+abbrev pub rulesFor : Question → Claim → Rules
+rulesFor shortestPath ofValue = pathRules
+rulesFor shortestPath ofNone = noPathRules
+rulesFor maximumFlow ofValue = flowRules
+rulesFor maximumFlow ofNone = noRules
+rulesFor assignment ofValue = assignmentRules
+rulesFor assignment ofNone = noAssignmentRules
+rulesFor unasked c = noRules
 
+abbrev pub rulesOf : Setting → Claim → Rules
+rulesOf st c = rulesFor (asks st) c
+
+-- ---- meeting a certificate
+
+-- Check 10 of a vertex: its node number is in the range, and the rule on it holds.
+abbrev pub nodeMeets : Rules → Setting → ℕ → ℤ → Bool
+nodeMeets rules st v z = between (rules .lowest) (rules .highest) z && rules .onNode st v z
+
+-- The node numbers y and the amounts f meet every rule for the answer a.
+pub record CertifiedBy (rules : Rules) (q : Question) (st : Setting) (y : ℕ → ℤ) (f : List Load) (a : Answer) : Type 0 where
+  pub admitted : T (rules .admitted)
+  pub nodes : (v : ℕ) → v < st .n → T (nodeMeets rules st v (y v))
+  pub amounts : Every (λ l. l .amount ≤ rules .most (l .arc)) f
+  pub on-arcs : Every (λ l. T (rules .onArc (endsOf y (marked y) (l .arc)) l)) f
+  pub balances : (v : ℕ) → v < st .n → T (rules .onBalance st v (balance v f))
+  pub sums : T (rules .onSums st y (marked y) (sumsOf q (marked y) f))
+  pub answer : a ≡ rules .answer (sumsOf q (marked y) f)
+
+-- The claim that an answer makes.
+abbrev pub claimFor : Answer → Claim
+claimFor (value v) = ofValue
+claimFor none = ofNone
+
+-- The annotation is a certificate of the answer.
 abbrev pub Certified : Setting → (ℕ → ℤ) → List Load → Answer → Type 0
-Certified st y f a = CertifiedFor (st .question) st y f a
+Certified st y f a = CertifiedBy (rulesOf st (claimFor a)) (asks st) st y f a

@@ -1,3 +1,4 @@
+pub mod Limits
 pub mod Network
 pub mod Question
 pub mod Certificate

@@ -6,10 +6,9 @@ use Prim.Native.Nat.{ℕ, _+_, _*_}
 use lib.Dec.{eqb}
 use lib.IntN.{ℤ, pos, _-ℤ_}
 use Rattle.prelude.specs.Choice.{indicator}
-use Rattle.field.specs.Field.{keyOf}
 use Rattle.network.specs.declared.Record.{Record}
 
--- "A channel record has a from-junction a, a to-junction b and a number w": an arc from its tail to its head, whose weight is a length, a capacity or a cost.
+-- A channel record (What the panel decides): an arc from its tail to its head, whose weight is a length, a capacity or a cost.
 pub record Arc : Type 0 where
   pub tail : ℕ
   pub head : ℕ
@@ -23,11 +22,11 @@ arcOf a b w = record { tail = a; head = b; weight = w }
 abbrev pub arcHeld : Record → Arc
 arcHeld r = arcOf (r .tail) (r .head) (r .weight)
 
--- The key of an arc.
+-- The key of an arc (The point and the product).
 abbrev pub key : Arc → ℕ
-key e = keyOf (e .tail) (e .head) (e .weight)
+key e = e .tail * 8388608 + e .head * 32768 + e .weight
 
--- "The channels again in any order, each with an amount x": an arc with its amount.
+-- A repeated channel (The certificate): an arc with its amount x.
 pub record Load : Type 0 where
   pub arc : Arc
   pub amount : ℕ
@@ -35,6 +34,10 @@ pub record Load : Type 0 where
 -- The arc from a to b with the number w and the amount x.
 abbrev pub loadOf : ℕ → ℕ → ℕ → ℕ → Load
 loadOf a b w x = record { arc = arcOf a b w; amount = x }
+
+-- The load of a record as the code holds it, with the amount x.
+abbrev pub loadHeld : Record → ℕ → Load
+loadHeld r x = record { arc = arcHeld r; amount = x }
 
 -- The arcs of a list of loads, in order.
 abbrev pub arcs : List Load → List Arc
@@ -49,15 +52,14 @@ unfoldable pub sumOf : (Arc → ℕ) → List Load → ℕ
 sumOf g [] = 0
 sumOf g (l ∷ f) = l .amount * g (l .arc) + sumOf g f
 
--- "The sum of x leaving" the vertex v.
+-- The sum of the amounts that leave the vertex v, and of those that enter it.
 abbrev pub leaving : ℕ → List Load → ℕ
 leaving v f = sumOf (λ e. delta (e .tail) v) f
 
--- "The sum of x entering" the vertex v.
 abbrev pub entering : ℕ → List Load → ℕ
 entering v f = sumOf (λ e. delta (e .head) v) f
 
--- "The balance of a junction is the sum of x leaving it minus the sum of x entering it, a signed number."
+-- The balance of the vertex v (The certificate).
 abbrev pub balance : ℕ → List Load → ℤ
 balance v f = pos (leaving v f) -ℤ pos (entering v f)
 
@@ -65,7 +67,7 @@ balance v f = pos (leaving v f) -ℤ pos (entering v f)
 abbrev pub degree : ℕ → List Load → ℕ
 degree v f = leaving v f + entering v f
 
--- "The sum of w × x."
+-- The sum of weight × amount.
 abbrev pub cost : List Load → ℕ
 cost f = sumOf (λ e. e .weight) f
 
@@ -78,7 +80,11 @@ total (e ∷ es) = e .weight + total es
 abbrev pub crosses : (ℕ → Bool) → Arc → Bool
 crosses inside e = inside (e .tail) && not (inside (e .head))
 
--- The capacity of a cut: "the sum of w over records from mark 1 to mark 0".
-unfoldable pub cut : (ℕ → Bool) → List Arc → ℕ
-cut inside [] = 0
-cut inside (e ∷ net) = e .weight * indicator (crosses inside e) + cut inside net
+-- The sum of g over the arcs that lead out of the set.
+unfoldable pub sumAcross : (Arc → ℕ) → (ℕ → Bool) → List Arc → ℕ
+sumAcross g inside [] = 0
+sumAcross g inside (e ∷ net) = g e * indicator (crosses inside e) + sumAcross g inside net
+
+-- The capacity of a cut, where weights are capacities.
+abbrev pub cut : (ℕ → Bool) → List Arc → ℕ
+cut inside net = sumAcross (λ e. e .weight) inside net

@@ -2,13 +2,15 @@
 -- Assumes nothing.
 use mathlib.Core.Path.{_≡_}
 use mathlib.Core.List.{List, map}
-use Prim.Native.Nat.{ℕ}
+use Prim.Native.Nat.{ℕ, _<_}
 use lib.IntN.{ℤ}
 use Rattle.prelude.specs.Lists.{Every, Perm}
+use Rattle.field.specs.Field.{p}
+use Rattle.network.specs.Limits.{mostVertices}
 use Rattle.network.specs.Network.{Arc, Load, arcs, key}
-use Rattle.network.specs.Question.{Setting, Opened, Allowed, Answer, TrueAnswer}
-use Rattle.network.specs.Certificate.{marked, Certified}
-use Rattle.network.specs.Tests.{Claim, claimFor, sumsOf, answerOf, Passed}
+use Rattle.network.specs.Question.{Setting, asks, Opened, Allowed, WeightWithin, Answer, TrueAnswer}
+use Rattle.network.specs.Certificate.{Claim, claimFor, marked, sumsOf, Certified}
+use Rattle.network.specs.Tests.{answerOf, Passed}
 
 -- There is one true answer at most.
 abbrev pub OneAnswer : Type 0
@@ -28,13 +30,26 @@ Sound =
 abbrev pub TestsSuffice : Type 0
 TestsSuffice =
     (st : Setting) (c : Claim) (y : ℕ → ℤ) (f : List Load)
-    → Opened st → Passed st c y f → Certified st y f (answerOf st c (sumsOf (marked y) f))
+    → Opened st → Passed st c y f → Certified st y f (answerOf st c (sumsOf (asks st) (marked y) f))
 
 -- An annotation that meets every rule for an answer passes every test, and the tests give that answer.
 abbrev pub TestsNeeded : Type 0
 TestsNeeded =
     (st : Setting) (y : ℕ → ℤ) (f : List Load) (a : Answer)
-    → Certified st y f a → Passed st (claimFor a) y f × (a ≡ answerOf st (claimFor a) (sumsOf (marked y) f))
+    → Certified st y f a → Passed st (claimFor a) y f × (a ≡ answerOf st (claimFor a) (sumsOf (asks st) (marked y) f))
+
+-- The arcs that have keys of their own: vertices 0 to 254, weights 0 to 32767.
+pub record Keyed (e : Arc) : Type 0 where
+  pub tail-below : e .tail < mostVertices
+  pub head-below : e .head < mostVertices
+  pub weight-within : WeightWithin e
+
+-- Keys are below p, and different arcs have different keys (The point and the product).
+abbrev pub KeysBelow : Type 0
+KeysBelow = (e : Arc) → Keyed e → key e < p
+
+abbrev pub KeysDiffer : Type 0
+KeysDiffer = (d e : Arc) → Keyed d → Keyed e → key d ≡ key e → d ≡ e
 
 -- Arcs that reading accepts are permutations of one another where their keys are.
 abbrev pub KeysTell : Type 0

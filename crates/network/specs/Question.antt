@@ -1,56 +1,86 @@
--- The three questions, what may be asked, and the true answers by the textbook.
+-- The questions, what may be asked, and the true answers by the textbook.
 -- Assumes nothing.
 use mathlib.Core.Path.{_≡_}
 use mathlib.Core.Logic.{_≢_}
 use mathlib.Core.List.{List, [], _∷_}
 use Prim.Native.Nat.{ℕ, _-_, _/_, _%_, _≤_, _<_}
+use lib.Dec.{eqb}
 use lib.IntN.{pos}
 use lib.Signed.{_≤ℤ_}
+use Rattle.prelude.specs.Choice.{pick}
 use Rattle.prelude.specs.Lists.{Every, Member}
+use Rattle.network.specs.Limits.{mostVertices, mostWeight}
 use Rattle.network.specs.Network.{Arc, Load, arcs, leaving, entering, balance, degree, cost, total}
 
 -- ---- what is asked
 
--- "Three questions exist": 1, route; 2, discharge; 3, pairing.
+-- The three questions (What the panel decides), and no question.
 pub data Question : Type 0 where
   shortestPath : Question
   maximumFlow : Question
   assignment : Question
+  unasked : Question
 
--- The numbers of the questions.
-abbrev pub questionNumber : Question → ℕ
-questionNumber shortestPath = 1
-questionNumber maximumFlow = 2
-questionNumber assignment = 3
+-- The question of a number: 1 route, 2 discharge, 3 pairing; any other number asks nothing.
+abbrev pub questionOf : ℕ → Question
+questionOf k = pick (eqb k 1) shortestPath (pick (eqb k 2) maximumFlow (pick (eqb k 3) assignment unasked))
 
--- What opening fixes: the question, the number n of vertices 0 to n - 1, the source s and the sink t.
+-- What opening is handed but for the point: the question's number, the number n of vertices 0 to n - 1, the source s and the sink t.
 pub record Setting : Type 0 where
-  pub question : Question
+  pub question : ℕ
   pub n : ℕ
   pub s : ℕ
   pub t : ℕ
 
--- "h is n / 2. Junctions below h are pumps, the rest sites": how many pumps there are, and how many sites.
+-- The question that is asked.
+abbrev pub asks : Setting → Question
+asks st = questionOf (st .question)
+
+-- Pairing: the vertices below n / 2 are pumps, the rest sites. How many there are of each.
 abbrev pub pumps : Setting → ℕ
 pumps st = st .n / 2
 
 abbrev pub sites : Setting → ℕ
 sites st = st .n - pumps st
 
+-- ---- what the weight of an arc means, by the question
+
+-- What a unit on the arc costs: the length for a path, nothing for a flow, the cost for an assignment.
+abbrev pub unitCost : Question → Arc → ℕ
+unitCost shortestPath e = e .weight
+unitCost maximumFlow e = 0
+unitCost assignment e = e .weight
+unitCost unasked e = 0
+
+-- How many units the arc may carry: the capacity for a flow; elsewhere an arc is used or not.
+abbrev pub unitsMost : Question → Arc → ℕ
+unitsMost shortestPath e = 1
+unitsMost maximumFlow e = e .weight
+unitsMost assignment e = 1
+unitsMost unasked e = 0
+
 -- ---- what opening and reading allow
 
--- 2: "n from 2 to 255", and even for an assignment.
+-- Check 1: the number is that of a question.
+abbrev pub Asked : Question → Type 0
+Asked shortestPath = Unit {0}
+Asked maximumFlow = Unit {0}
+Asked assignment = Unit {0}
+Asked unasked = ⊥
+
+-- Check 2: n is from 2 to 255, and even for an assignment.
 abbrev pub EvenFor : Question → ℕ → Type 0
 EvenFor shortestPath n = Unit {0}
 EvenFor maximumFlow n = Unit {0}
 EvenFor assignment n = n % 2 ≡ 0
+EvenFor unasked n = Unit {0}
 
 pub record Sized (st : Setting) : Type 0 where
   pub at-least : 2 ≤ st .n
-  pub at-most : st .n ≤ 255
-  pub even : EvenFor (st .question) (st .n)
+  pub at-most : st .n ≤ mostVertices
+  pub even : EvenFor (asks st) (st .n)
 
--- 3: s and t are two different vertices; for an assignment both are 0.
+-- Check 3: s and t are two different vertices; for an assignment both are 0.
 pub record TwoVertices (st : Setting) : Type 0 where
   pub source-below : st .s < st .n
   pub sink-below : st .t < st .n
@@ -64,13 +94,15 @@ abbrev pub EndsFor : Question → Setting → Type 0
 EndsFor shortestPath st = TwoVertices st
 EndsFor maximumFlow st = TwoVertices st
 EndsFor assignment st = BothZero st
+EndsFor unasked st = ⊥
 
 -- A setting that opening accepts.
 pub record Opened (st : Setting) : Type 0 where
+  pub asked : Asked (asks st)
   pub sized : Sized st
-  pub ends : EndsFor (st .question) st
+  pub ends : EndsFor (asks st) st
 
--- 7: the ends of an arc are two different vertices; for an assignment it leads from a pump to a site.
+-- Check 7: the ends of an arc are two different vertices; for an assignment it leads from a pump to a site.
 pub record PumpToSite (st : Setting) (e : Arc) : Type 0 where
   pub from-pump : e .tail < pumps st
   pub to-site : pumps st ≤ e .head
@@ -79,16 +111,17 @@ abbrev pub SidesFor : Question → Setting → Arc → Type 0
 SidesFor shortestPath st e = Unit {0}
 SidesFor maximumFlow st e = Unit {0}
 SidesFor assignment st e = PumpToSite st e
+SidesFor unasked st e = ⊥
 
 pub record Joins (st : Setting) (e : Arc) : Type 0 where
   pub tail-below : e .tail < st .n
   pub head-below : e .head < st .n
   pub proper : e .tail ≢ e .head
-  pub sides : SidesFor (st .question) st e
+  pub sides : SidesFor (asks st) st e
 
--- 8: "a number w from 0 to 32767".
+-- Check 8: the weight is at most 32767.
 abbrev pub WeightWithin : Arc → Type 0
-WeightWithin e = e .weight ≤ 32767
+WeightWithin e = e .weight ≤ mostWeight
 
 -- An arc that reading accepts.
 pub record Allowed (st : Setting) (e : Arc) : Type 0 where
@@ -108,31 +141,31 @@ abbrev pub Leads : ℕ → List Arc → ℕ → Type 0
 Leads u [] t = u ≡ t
 Leads u (e ∷ es) t = (e .tail ≡ u) × Leads (e .head) es t
 
--- "A chain of records leading from s to t": a walk over arcs of the network.
+-- A chain of records from s to t: a walk over arcs of the network.
 pub record Walk (st : Setting) (net es : List Arc) : Type 0 where
   pub over : Every (λ e. Member e net) es
   pub leads : Leads (st .s) es (st .t)
 
--- "The least total length of a chain": one walk has the length v, and no walk is shorter.
+-- The least total length: one walk has the length v, and no walk is shorter.
 pub record ShortestPath (st : Setting) (net : List Arc) (v : ℕ) : Type 0 where
   pub path : List Arc
   pub is-walk : Walk st net path
   pub attained : total path ≡ v
   pub least : (es : List Arc) → Walk st net es → v ≤ total es
 
--- "Or none": there is no walk.
+-- None: there is no walk.
 abbrev pub NoWalk : Setting → List Arc → Type 0
 NoWalk st net = (es : List Arc) → ¬ (Walk st net es)
 
 -- ---- 2, discharge: maximum flow
 
--- "A flow gives each record a whole amount from 0 to w, and at every junction but s and t as much leaves as enters."
+-- A flow: an amount within its capacity for each arc, and as much leaves as enters at every vertex but s and t.
 pub record Flow (st : Setting) (net : List Arc) (f : List Load) : Type 0 where
   pub each : arcs f ≡ net
   pub within : Every (λ l. l .amount ≤ l .arc .weight) f
   pub conserved : (v : ℕ) → v < st .n → v ≢ st .s → v ≢ st .t → leaving v f ≡ entering v f
 
--- "The greatest net amount leaving s": one flow has it, and no flow has more.
+-- The greatest net amount that leaves s: one flow has it, and no flow has more.
 pub record MaximumFlow (st : Setting) (net : List Arc) (v : ℕ) : Type 0 where
   pub flow : List Load
   pub is-flow : Flow st net flow
@@ -141,26 +174,26 @@ pub record MaximumFlow (st : Setting) (net : List Arc) (v : ℕ) : Type 0 where
 
 -- ---- 3, pairing: assignment
 
--- "A set of records that touches every junction exactly once": amount 1 at the arcs in it, 0 at the others.
+-- A set of arcs that touches every vertex exactly once: amount 1 at the arcs in it, 0 at the others.
 pub record Assignment (st : Setting) (net : List Arc) (f : List Load) : Type 0 where
   pub each : arcs f ≡ net
   pub chosen : Every (λ l. l .amount ≤ 1) f
   pub once : (v : ℕ) → v < st .n → degree v f ≡ 1
 
--- "The least total": one assignment has the cost v, and none costs less.
+-- The least total: one assignment has the cost v, and none costs less.
 pub record CheapestAssignment (st : Setting) (net : List Arc) (v : ℕ) : Type 0 where
   pub chosen : List Load
   pub is-assignment : Assignment st net chosen
   pub attained : cost chosen ≡ v
   pub least : (f : List Load) → Assignment st net f → v ≤ cost f
 
--- "Or none": there is no assignment.
+-- None: there is no assignment.
 abbrev pub NoAssignment : Setting → List Arc → Type 0
 NoAssignment st net = (f : List Load) → ¬ (Assignment st net f)
 
 -- ---- the true answer
 
--- "The true answer is what the definitions of the questions give": a greatest flow always has a value.
+-- The true answer of a question (What demand 3 counts): a greatest flow always has a value.
 abbrev pub TrueFor : Question → Setting → List Arc → Answer → Type 0
 TrueFor shortestPath st net (value v) = ShortestPath st net v
 TrueFor shortestPath st net none = NoWalk st net
@@ -168,6 +201,7 @@ TrueFor maximumFlow st net (value v) = MaximumFlow st net v
 TrueFor maximumFlow st net none = ⊥
 TrueFor assignment st net (value v) = CheapestAssignment st net v
 TrueFor assignment st net none = NoAssignment st net
+TrueFor unasked st net a = ⊥
 
 abbrev pub TrueAnswer : Setting → List Arc → Answer → Type 0
-TrueAnswer st net a = TrueFor (st .question) st net a
+TrueAnswer st net a = TrueFor (asks st) st net a

@@ -6,3 +6,9 @@ pub struct Record {
     pub head: u32,
     pub weight: u32,
 }
+
+// The limits: the most vertices, the most arcs that are read, the greatest weight, and the largest size of a potential.
+pub const MOST_VERTICES: u32 = 255;
+pub const MOST_ARCS: u32 = 4096;
+pub const MOST_WEIGHT: u32 = 32767;
+pub const MOST_POTENTIAL: i32 = 8322818;

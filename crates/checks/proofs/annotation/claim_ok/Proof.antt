@@ -1,6 +1,7 @@
 -- `checks::annotation::claim_ok` meets its contract.
 -- Assumes nothing.
-use Rattle.checks.proofs.Laws.{is-value, is-none, may-value, may-none, tested}
+use borrow.Author.Needs.{needs}
+use Rattle.checks.proofs.Laws.{tested}
 use Rattle.checks.proofs.annotation.claim_ok.Statement.{statement}
 use Rattle.checks.proofs.annotation.claim_ok.Tie as tie
 
@@ -10,5 +11,7 @@ claim-ok-spec =
     (tie.spec
     (λ c. search tested depth 12)
     (λ c. search tested depth 12)
-    (λ c. rw (is-value _ (c .if3 .taken)) (search (tested, may-value) depth 12))
-    (λ c. rw (is-none _ (c .if3 .left)) (search (tested, may-none) depth 12)))
+    (λ c. search needs)
+    (λ c κs. search needs)
+    (λ c κs. search needs)
+    (λ c. let e = rw (c .before .row-of .ensures) at (c .is-admitted .ensures) in search tested depth 12))

@@ -1,8 +1,6 @@
 -- `checks::annotation::highest_node` meets its contract.
 -- Assumes nothing.
-use mathlib.Core.Path.{refl}
-use Rattle.network.specs.Tests.{highest, ofValue, ofNone}
-use Rattle.checks.proofs.Laws.{is-flow, is-value, is-none, but-flow}
+use borrow.Author.Needs.{needs}
 use Rattle.checks.proofs.annotation.highest_node.Statement.{statement}
 use Rattle.checks.proofs.annotation.highest_node.Tie as tie
 
@@ -10,6 +8,15 @@ pub highest-node-spec : {M : Type 1} → statement M
 highest-node-spec =
     tie.close
     (tie.spec
-    (λ c. rw (is-flow _ (c .if1 .taken)))
-    (λ c. rw (is-value _ (c .if2 .taken), but-flow _ (λ q. highest q ofValue) (c .before .if1 .left) refl))
-    (λ c. rw (is-none _ (c .if2 .left), but-flow _ (λ q. highest q ofNone) (c .before .if1 .left) refl)))
+    (λ c. search needs)
+    (λ c. search needs)
+    (λ c. search needs)
+    (λ c. search needs)
+    (λ c. search needs)
+    (λ c. search needs)
+    (λ c. rw (c .enum-told .given .1))
+    (λ c. rw (c .enum-told2 .given .1))
+    (λ c. rw (c .enum-told3 .given .1))
+    (λ c. rw (c .enum-told4 .given .1))
+    (λ c. rw (c .enum-told5 .given .1))
+    (λ c. rw (c .enum-told6 .given .1)))

@@ -5,7 +5,7 @@ use mir.Syntax.{w32}
 use mir.Facts.{toZ-ofZ}
 use borrow.Author.Needs.{needs}
 use Rattle.prelude.specs.Integers.{between}
-use Rattle.network.specs.Tests.{questionOf, claimOf, lowest, highest}
+use Rattle.checks.specs.Held.{rulesHeld}
 use Rattle.checks.proofs.Laws.{returned, tested}
 use Rattle.checks.proofs.annotation.node_ok.Statement.{statement}
 use Rattle.checks.proofs.annotation.node_ok.Tie as tie
@@ -13,9 +13,7 @@ use Rattle.checks.proofs.annotation.node_ok.Tie as tie
 -- what the call of `within` tells, at the numbers themselves
 in-range : (c : tie.After-within) →
     let a = c .before .before .before .args in
-    let q = questionOf (a .st .question) in
-    let k = claimOf (a .claim) in
-    c .within .result ≡ between (lowest q k) (highest q k) (a .z)
+    c .within .result ≡ between (rulesHeld (a .row) .lowest) (rulesHeld (a .row) .highest) (a .z)
 in-range c =
     let low = c .before .before .lowest-node in
     let high = c .before .highest-node in
@@ -31,4 +29,4 @@ node-ok-spec =
     (λ c κs. search needs)
     (λ c. let e = in-range (c .before) in search tested depth 12)
     (λ c κs. search needs)
-    (λ c. let e = in-range (c .before .before) in let f = simp (toZ-ofZ (c .before .before .before .before .before .fits .z)) at (c .node-ends .ensures) in search tested depth 12))
+    (λ c. let e = in-range (c .before .before) in let f = simp (toZ-ofZ (c .before .before .before .before .before .fits .z)) at (c .on-node .ensures) in search tested depth 12))

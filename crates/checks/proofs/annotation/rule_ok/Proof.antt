@@ -1,11 +1,9 @@
 -- `checks::annotation::rule_ok` meets its contract.
 -- Assumes nothing.
-use mathlib.Core.Path.{refl}
-use mathlib.Core.Bool.{Bool·not-not}
-use mir.Facts.{toZ-ofZ}
+use Rattle.words.proofs.Signs.{back}
+use mir.Syntax.{w32}
+use native.Mathlib.Omega.{arith}
 use borrow.Author.Needs.{needs}
-use Rattle.network.specs.Tests.{ruleOn, ofValue, ofNone}
-use Rattle.checks.proofs.Laws.{is-flow, is-value, is-none, but-flow}
 use Rattle.checks.proofs.annotation.rule_ok.Statement.{statement}
 use Rattle.checks.proofs.annotation.rule_ok.Tie as tie
 
@@ -13,16 +11,19 @@ pub rule-ok-spec : {M : Type 1} → statement M
 rule-ok-spec =
     tie.close
     (tie.spec
-    (λ c. rw (is-flow _ (c .if1 .taken)))
+    (λ c. search needs)
     (λ c κs. search needs)
-    (λ c.
-    let s = c .before .before .before in
-    let a = s .args in
-    rw (is-value _ (c .before .if2 .taken), but-flow _ (λ q. ruleOn q ofValue (a .ya) (a .yb) (a .ma) (a .mb) (a .w)) (c .before .before .if1 .left) refl)
-    (simp (toZ-ofZ (s .fits .ya), toZ-ofZ (s .fits .yb)) at (c .at-most-sum .ensures)))
-    (λ c.
-    let a = c .before .before .before .args in
-    rw (is-none _ (c .before .if2 .left), but-flow _ (λ q. ruleOn q ofNone (a .ya) (a .yb) (a .ma) (a .mb) (a .w)) (c .before .before .if1 .left) refl, c .if3 .taken, Bool·not-not))
-    (λ c.
-    let a = c .before .before .before .args in
-    rw (is-none _ (c .before .if2 .left), but-flow _ (λ q. ruleOn q ofNone (a .ya) (a .yb) (a .ma) (a .mb) (a .w)) (c .before .before .if1 .left) refl, c .if3 .left)))
+    (λ c. search needs)
+    (λ c. search needs)
+    (λ c κs. search needs)
+    (λ c. search needs)
+    (λ c κs. search needs)
+    (λ c. search needs)
+    (λ c κs. search needs)
+    (λ c. search needs)
+    (λ c. let e = c .before .before .before .before .before .args .ends in rw (c .before .before .before .enum-told .given .1) (simp (back w32 (e .«head_number») (omega (arith, c .before .before .struct-told .given)), back w32 (e .«tail_number») (omega (arith, c .before .struct-told2 .given))) at (c .at-most-sum .ensures)))
+    (λ c. search needs)
+    (λ c. let e = c .before .before .before .before .before .args .ends in rw (c .before .before .before .enum-told3 .given .1) (simp (back w32 (e .«head_number») (omega (arith, c .before .before .struct-told3 .given)), back w32 (e .«tail_number») (omega (arith, c .before .struct-told4 .given))) at (c .at-most-sum2 .ensures)))
+    (λ c. rw (c .before .enum-told4 .given .1) (c .stays-inside .ensures))
+    (λ c. rw (c .before .enum-told5 .given .1) (c .stays-inside2 .ensures))
+    (λ c. search needs))

@@ -1,6 +1,7 @@
 -- `checks::finishing::balance_ok` meets its contract.
 -- Assumes nothing.
-use Rattle.checks.proofs.Laws.{is-path, is-flow, is-assignment, signed}
+use mir.Facts.{toZ-ofZ}
+use borrow.Author.Needs.{needs}
 use Rattle.checks.proofs.finishing.balance_ok.Statement.{statement}
 use Rattle.checks.proofs.finishing.balance_ok.Tie as tie
 
@@ -8,11 +9,18 @@ pub balance-ok-spec : {M : Type 1} → statement M
 balance-ok-spec =
     tie.close
     (tie.spec
-    (λ c. rw (is-path _ (c .before .if1 .taken)) (search signed depth 12))
-    (λ c. rw (is-path _ (c .before .before .if1 .taken)) (search signed depth 12))
-    (λ c. rw (is-path _ (c .before .before .if1 .taken)) (search signed depth 12))
-    (λ c. rw (is-flow _ (c .before .if4 .taken)) (search signed depth 12))
-    (λ c. rw (is-flow _ (c .before .before .if4 .taken)) (search signed depth 12))
-    (λ c. rw (is-flow _ (c .before .before .if4 .taken)) (search signed depth 12))
-    (λ c. rw (is-assignment _ (c .before .before .if1 .left) (c .before .if4 .left)) (search signed depth 12))
-    (λ c. rw (is-assignment _ (c .before .before .if1 .left) (c .before .if4 .left)) (search signed depth 12)))
+    (λ c. search needs)
+    (λ c κs. search needs)
+    (λ c. search needs)
+    (λ c κs. search needs)
+    (λ c. search needs)
+    (λ c κs. search needs)
+    (λ c. search needs)
+    (λ c. search needs)
+    (λ c. search needs)
+    (λ c. rw (c .before .enum-told .given .1) (simp (toZ-ofZ (c .before .before .before .fits .b)) at (c .path-balance .ensures)))
+    (λ c. rw (c .before .enum-told2 .given .1) (simp (toZ-ofZ (c .before .before .before .fits .b)) at (c .flow-balance .ensures)))
+    (λ c. rw (c .before .enum-told3 .given .1) (simp (toZ-ofZ (c .before .before .before .fits .b)) at (c .assignment-balance .ensures)))
+    (λ c. search needs)
+    (λ c. search needs)
+    (λ c. search needs))

@@ -1,4 +1,4 @@
--- `checks::finishing::balances_ok` meets its contract. The loop's invariant: the vertices passed have the balances that they must have.
+-- `checks::finishing::balances_ok` meets its contract. The loop's invariant: the vertices passed have balances that they may have.
 -- Assumes nothing.
 use mathlib.Core.Path.{sym, _∙_}
 use Prim.Native.Nat.{_≤_, _-_}
@@ -11,18 +11,16 @@ use Rattle.prelude.specs.Lists.{at}
 use Rattle.prelude.specs.Sums.{allTo}
 use Rattle.prelude.proofs.Booleans.{true→T}
 use Rattle.words.proofs.Signs.{back}
-use Rattle.network.specs.Tests.{questionOf, balanceFor}
-use Rattle.checks.specs.Setting.{asked}
-use Rattle.checks.proofs.Laws.{is-value, is-none}
+use Rattle.checks.specs.Held.{asked, rulesHeld}
 use Rattle.checks.proofs.Totals.{all-more, all-fails, all-end}
 use Rattle.checks.proofs.finishing.balances_ok.Statement.{statement}
 use Rattle.checks.proofs.finishing.balances_ok.Tie as tie
 
 abbrev Inv-loop : tie.InvT-loop
-Inv-loop st claim balances n v₀ v = (v ≤ st .n) × T (allTo v (λ u. balanceFor (questionOf (st .question)) (asked st) u (at balances u)))
+Inv-loop row st balances n v₀ v = (v ≤ st .n) × T (allTo v (λ u. rulesHeld row .onBalance (asked st) u (at balances u)))
 
 abbrev μ-loop : tie.MeasureT-loop
-μ-loop st claim balances n v₀ v = n - v
+μ-loop row st balances n v₀ v = n - v
 
 loop-holds : tie.Need-loop-holds Inv-loop μ-loop
 unfolding allTo
@@ -34,7 +32,6 @@ balances-ok-spec =
     (tie.spec
     Inv-loop
     μ-loop
-    (λ c. rw (is-none _ (c .if1 .taken)))
     loop-holds
     (λ c. search needs)
     (λ c. search needs)
@@ -42,19 +39,18 @@ balances-ok-spec =
     (λ c κs. search needs)
     (λ c.
     let v = c .before .before .before .before .loop .v in
-    let a = c .before .before .before .before .before .before .args in
+    let a = c .before .before .before .before .before .args in
     let e = simp (back w64 (at (a .t3) v) (c .before .before .b .given)) at (c .before .balance-ok .ensures) in
-    rw (is-value _ (c .before .before .before .before .before .if1 .left))
-    (sym (all-fails _ v _ (c .before .before .before .loop-test .taken) (sym e ∙ not-true _ (c .if2 .taken)))))
+    sym (all-fails _ v _ (c .before .before .before .loop-test .taken) (sym e ∙ not-true _ (c .if1 .taken))))
     (λ c. search needs)
     (λ c. search needs)
     (λ c.
     let v = c .before .before .before .before .loop .v in
-    let a = c .before .before .before .before .before .before .args in
+    let a = c .before .before .before .before .before .args in
     let e = simp (back w64 (at (a .t3) v) (c .before .before .b .given)) at (c .before .balance-ok .ensures) in (
       omega arith,
-      all-more _ v (c .before .before .before .before .loop .inv .1) (true→T _ (sym e ∙ not-false _ (c .if2 .left))),
+      all-more _ v (c .before .before .before .before .loop .inv .1) (true→T _ (sym e ∙ not-false _ (c .if1 .left))),
     ))
     (λ c.
     let i = c .before .loop .inv in
-    rw (is-value _ (c .before .before .if1 .left)) (all-end _ _ _ (i .0) (c .loop-test .left) (i .1))))
+    all-end _ _ _ (i .0) (c .loop-test .left) (i .1)))

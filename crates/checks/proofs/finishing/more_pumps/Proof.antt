@@ -11,8 +11,10 @@ more-pumps-spec =
     (tie.spec
     (λ c. search needs)
     (λ c κs. search needs)
+    (λ c. search needs)
+    (λ c κs. search needs)
     (λ c κs. search needs)
     (λ c.
-    let pumps = simp (zero-add, sub-zero) at (c .before .count-marked .ensures) in
-    let sites = c .count-marked2 .ensures in
+    let pumps = simp (zero-add, sub-zero, c .before .before .pumps .ensures) at (c .before .count-marked .ensures) in
+    let sites = simp (c .before .before .pumps .ensures) at (c .count-marked2 .ensures) in
     rw (pumps, sites)))

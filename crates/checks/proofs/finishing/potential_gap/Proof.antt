@@ -16,9 +16,11 @@ potential-gap-spec =
     (λ c κs. search needs)
     (λ c κs. search needs)
     (λ c κs. search needs)
+    (λ c κs. search needs)
     (λ c.
     let q = c .before .sum-between2 in
     let p = c .before .before .sum-between in
-    let a = c .before .before .before .args in
-    let e = simp (returned w64 (q .result) (q .ok) (q .ensures), returned w64 (p .result) (p .ok) (simp sub-zero at (p .ensures))) at (c .subtract .ensures) in
+    let h = c .before .before .before .pumps .ensures in
+    let a = c .before .before .before .before .args in
+    let e = simp (returned w64 (q .result) (q .ok) (simp h at (q .ensures)), returned w64 (p .result) (p .ok) (simp (sub-zero, h) at (p .ensures))) at (c .subtract .ensures) in
     returned w64 (c .subtract .result) (c .subtract .ok) (difference (a .potentials) (λ i. search each-sized) (a .st .n / 2) (a .st .n - a .st .n / 2) (search needs) (search needs) (c .subtract .result) e)))

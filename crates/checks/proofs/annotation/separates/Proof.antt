@@ -1,0 +1,15 @@
+-- `checks::annotation::separates` meets its contract.
+-- Assumes nothing.
+use Rattle.checks.proofs.Laws.{signed}
+use Rattle.checks.proofs.annotation.separates.Statement.{statement}
+use Rattle.checks.proofs.annotation.separates.Tie as tie
+
+pub separates-spec : {M : Type 1} → statement M
+separates-spec =
+    tie.close
+    (tie.spec
+    (λ c. search signed depth 12)
+    (λ c. search signed depth 12)
+    (λ c. search signed depth 12)
+    (λ c. search signed depth 12)
+    (λ c. search signed depth 12))

@@ -1,0 +1,15 @@
+-- `checks::reading::arc_check` meets its contract.
+-- Assumes nothing.
+use borrow.Author.Needs.{needs}
+use Rattle.checks.proofs.Laws.{tested}
+use Rattle.checks.proofs.reading.arc_check.Statement.{statement}
+use Rattle.checks.proofs.reading.arc_check.Tie as tie
+
+pub arc-check-spec : {M : Type 1} → statement M
+arc-check-spec =
+    tie.close
+    (tie.spec
+    (λ c κs. search needs)
+    (λ c. search tested depth 12)
+    (λ c. search tested depth 12)
+    (λ c. search tested depth 12))

@@ -1,0 +1,19 @@
+-- `checks::reading::joins_ok` meets its contract.
+-- Assumes nothing.
+use borrow.Author.Needs.{needs}
+use Rattle.checks.proofs.Laws.{tested}
+use Rattle.checks.proofs.reading.joins_ok.Statement.{statement}
+use Rattle.checks.proofs.reading.joins_ok.Tie as tie
+
+pub joins-ok-spec : {M : Type 1} → statement M
+joins-ok-spec =
+    tie.close
+    (tie.spec
+    (λ c. search needs)
+    (λ c. search tested depth 12)
+    (λ c. search tested depth 12)
+    (λ c. search tested depth 12)
+    (λ c. search needs)
+    (λ c κs. search needs)
+    (λ c κs. search needs)
+    (λ c. rw (← c .before .question-of .ensures) (search tested depth 12)))

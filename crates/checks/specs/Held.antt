@@ -1,0 +1,46 @@
+-- What the code holds of a setting, of a row of rules, and of the sums that finishing looks at, as the definitions of the network have them.
+-- Assumes nothing.
+use mathlib.Core.List.{List}
+use lib.IntN.{ℤ}
+use Rattle.prelude.specs.Lists.{at}
+use Rattle.network.specs.Question.{Setting, shortestPath, maximumFlow, assignment, unasked}
+use Rattle.network.specs.Question.{Question as Asked}
+use Rattle.network.specs.Certificate.{Sums, Rules, pathRules, flowRules, assignmentRules, noPathRules, noAssignmentRules, noRules}
+use Rattle.network.specs.Certificate.{Ends as EndsOfArc}
+use Rattle.checks.specs.declared.annotation.Ends.{Ends}
+use Rattle.checks.specs.declared.Opening.{Opening}
+use Rattle.checks.specs.declared.HeldSetting.{HeldSetting}
+use Rattle.checks.specs.declared.rows.Question.{Question}
+use Rattle.checks.specs.declared.rows.Question.the-variants.{Path, Flow, Assignment, Unasked}
+use Rattle.checks.specs.declared.rows.Row.{Row}
+use Rattle.checks.specs.declared.rows.Row.the-variants.{PathValue, PathNone, FlowValue, AssignmentValue, AssignmentNone, Nothing}
+
+-- The setting that an opening is handed, and the setting that a session holds.
+abbrev pub handed : Opening → Setting
+handed o = record { question = o .question; n = o .n; s = o .s; t = o .t }
+
+abbrev pub asked : HeldSetting → Setting
+asked st = record { question = st .question; n = st .n; s = st .s; t = st .t }
+
+-- The question, and the row of rules, that a value of the code names.
+abbrev pub questionHeld : Question → Asked
+questionHeld Path = shortestPath
+questionHeld Flow = maximumFlow
+questionHeld Assignment = assignment
+questionHeld Unasked = unasked
+
+abbrev pub rulesHeld : Row → Rules
+rulesHeld PathValue = pathRules
+rulesHeld FlowValue = flowRules
+rulesHeld AssignmentValue = assignmentRules
+rulesHeld PathNone = noPathRules
+rulesHeld AssignmentNone = noAssignmentRules
+rulesHeld Nothing = noRules
+
+-- What the ends of an arc have.
+abbrev pub endsHeld : Ends → EndsOfArc
+endsHeld e = record { tail-number = e .«tail_number»; head-number = e .«head_number»; tail-marked = e .«tail_marked»; head-marked = e .«head_marked» }
+
+-- The sums that the code holds: one balance for each vertex, the total cost, the capacity of the cut.
+abbrev pub sumsHeld : List ℤ → ℤ → ℤ → Sums
+sumsHeld balances cost cut = record { balances = at balances; cost = cost; cut = cut }
