@@ -98,7 +98,7 @@ claimingChecks st k = 9 unless claimOk st k ∷ []
 -- ---- the annotation: what has been given of it
 
 -- The claim, how many node numbers are given, what they are, and which vertices are marked.
-pub record Numbering : Type 0 where
+pub record Numbers : Type 0 where
   pub claim : Claim
   pub given : ℕ
   pub number : ℕ → ℤ
@@ -117,11 +117,11 @@ abbrev pub amountOk : Setting → Claim → Load → Bool
 amountOk st c l = leb (l .amount) (rulesOf st c .most (l .arc))
 
 -- 12: does the arc meet the rule on node numbers or on marks?
-abbrev pub ruleOk : Setting → Numbering → Load → Bool
+abbrev pub ruleOk : Setting → Numbers → Load → Bool
 ruleOk st a l = rulesOf st (a .claim) .onArc (endsOf (a .number) (a .mark) (l .arc)) l
 
 -- A repeated arc, where m are read and i are repeated already.
-abbrev pub repeatingChecks : Setting → Numbering → ℕ → ℕ → Load → List Check
+abbrev pub repeatingChecks : Setting → Numbers → ℕ → ℕ → Load → List Check
 repeatingChecks st a m i l =
     5 unless eqb (a .given) (st .n)
     ∷ 6 unless ltb i m
@@ -135,11 +135,11 @@ abbrev pub balancesOk : Setting → Claim → Sums → Bool
 balancesOk st c u = allTo (st .n) (λ v. rulesOf st c .onBalance st v (u .balances v))
 
 -- 16: do the sums agree?
-abbrev pub sumsOk : Setting → Numbering → Sums → Bool
+abbrev pub sumsOk : Setting → Numbers → Sums → Bool
 sumsOk st a u = rulesOf st (a .claim) .onSums st (a .number) (a .mark) u
 
 -- Finishing, where m arcs are read and i repeated, `same` says whether their fingerprints agree, and u are the sums.
-abbrev pub finishingChecks : Setting → Numbering → ℕ → ℕ → Bool → Sums → List Check
+abbrev pub finishingChecks : Setting → Numbers → ℕ → ℕ → Bool → Sums → List Check
 finishingChecks st a m i same u =
     5 unless eqb (a .given) (st .n)
     ∷ 13 unless leb m i

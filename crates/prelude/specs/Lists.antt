@@ -3,8 +3,8 @@
 use mathlib.Core.Path.{_≡_}
 use mathlib.Core.Logic.{_⊎_}
 use mathlib.Core.Bool.{Bool, true, _&&_}
-use mathlib.Core.List.{List, [], _∷_}
-use Prim.Native.Nat.{ℕ, _≤_}
+use mathlib.Core.List.{List, [], _∷_, _++_}
+use Prim.Native.Nat.{ℕ, zero, suc, _≤_}
 use lib.IntN.{ℤ, pos}
 use lib.ListN.{length, getD}
 
@@ -42,6 +42,11 @@ AtMost {A} k P = (l : List A) → Distinct l → Every P l → length l ≤ k
 abbrev pub all : {A : Type 0} → (A → Bool) → List A → Bool
 all p [] = true
 all p (a ∷ l) = p a && all p l
+
+-- g 0, …, g (n - 1).
+unfoldable pub listTo : {A : Type 0} → ℕ → (ℕ → A) → List A
+listTo zero g = []
+listTo (suc n) g = listTo n g ++ (g n ∷ [])
 
 -- The entry at the index i, 0 past the end.
 abbrev pub at : List ℤ → ℕ → ℤ

@@ -1,23 +1,22 @@
--- Lists of session steps, and what demand 3 counts: the scope's section "What demand 3 counts".
+-- Lists of session steps, and what demand 3 counts (document 01, What demand 3 counts).
 -- Assumes nothing.
 use mathlib.Core.List.{List, [], _∷_, _++_}
-use Prim.Native.Nat.{ℕ, _<_}
-use lib.Dec.{ltb}
+use Prim.Native.Nat.{ℕ}
 use lib.IntN.{ℤ}
 use lib.ListN.{length}
-use Rattle.prelude.specs.Checks.{_unless_, settle}
+use Rattle.prelude.specs.Checks.{settle}
 use Rattle.prelude.specs.Lists.{Some}
-use Rattle.field.specs.Field.{p}
 use Rattle.network.specs.Network.{Arc, Load}
 use Rattle.network.specs.Question.{Setting, TrueAnswer}
-use Rattle.network.specs.Tests.{settingOf, arcChecks}
-use Rattle.session.specs.Print.{Point}
-use Rattle.session.specs.Session.{Said, accepted, gives, refused, said}
+use Rattle.network.specs.Tests.{readingChecks}
+use Rattle.points.specs.Points.{IsPoint}
+use Rattle.points.specs.declared.Point.{Point}
+use Rattle.state.specs.Answers.{Said, accepted, gives, refused, said}
 use Rattle.session.specs.Steps.{opening, readStep, endStep, claimStep, numberStep, repeatStep, finishStep}
 use Rattle.session.specs.declared.Reply.{Reply}
 use Rattle.session.specs.declared.Session.{Session}
 
--- "Its steps are reading a channel, ending the reading, the claim, a node number, a repeated channel and finishing, each with any arguments."
+-- The six steps, each with any arguments.
 pub data Step : Type 0 where
   read : Arc → Step
   end : Step
@@ -34,23 +33,23 @@ step x (number z) = numberStep x z
 step x (repeat l) = repeatStep x l
 step x finish = finishStep x
 
--- "Each step gets the session that the step before it handed back, accepted or refused": what the steps answer.
+-- What a list of steps answers: each gets the session that the one before it handed back, accepted or refused.
 unfoldable pub run : Session → List Step → List Said
 run x [] = []
 run x (a ∷ steps) = said ((step x a) .answer) ∷ run ((step x a) .session) steps
 
--- "It starts from the session that opening handed back for a question, n, s, t and point r."
-abbrev pub runFrom : ℕ → ℕ → ℕ → ℕ → Point → List Step → List Said
-runFrom k n s t r steps = run (opening k n s t r .session) steps
+-- The list starts from the session that opening handed back for a setting and a point.
+abbrev pub runFrom : Setting → Point → List Step → List Said
+runFrom st r steps = run (opening st r .session) steps
 
--- "Adds its record at the end, unless 4096 stand there or check 7 or 8 refuses the record."
-abbrev pub longer : Setting → List Arc → Arc → List Arc
-longer st l e = settle (λ why. l) (6 unless ltb (length l) 4096 ∷ arcChecks st e) (l ++ e ∷ [])
+-- A reading step adds its arc at the end of the list l, unless check 6, 7 or 8 refuses it.
+abbrev pub withArc : Setting → List Arc → Arc → List Arc
+withArc st l e = settle (λ why. l) (readingChecks st (length l) e) (l ++ e ∷ [])
 
--- "The list read is found from the steps alone": l stands there already; the first ending of the reading closes it.
+-- The list read, found from the steps alone, where l stands there already: the first ending of the reading closes it.
 unfoldable pub listFrom : Setting → List Arc → List Step → List Arc
 listFrom st l [] = l
-listFrom st l (read e ∷ steps) = listFrom st (longer st l e) steps
+listFrom st l (read e ∷ steps) = listFrom st (withArc st l e) steps
 listFrom st l (end ∷ steps) = l
 listFrom st l (claim k ∷ steps) = listFrom st l steps
 listFrom st l (number z ∷ steps) = listFrom st l steps
@@ -60,12 +59,12 @@ listFrom st l (finish ∷ steps) = listFrom st l steps
 abbrev pub listRead : Setting → List Step → List Arc
 listRead st steps = listFrom st [] steps
 
--- "A wrong answer is a value or none, given by any step of the list, that is not the true answer; a refusal is never one."
+-- A wrong answer is a value or none that is not the true answer; a refusal is never one.
 abbrev pub Wrong : Setting → List Arc → Said → Type 0
 Wrong st net accepted = ⊥
 Wrong st net (gives a) = ¬ (TrueAnswer st net a)
 Wrong st net (refused k) = ⊥
 
--- "A point counts where at least one step gives a wrong answer."
-abbrev pub WrongAt : ℕ → ℕ → ℕ → ℕ → List Step → Point → Type 0
-WrongAt k n s t steps r = (r < p) × Some (Wrong (settingOf k n s t) (listRead (settingOf k n s t) steps)) (runFrom k n s t r steps)
+-- A point counts where at least one step gives a wrong answer.
+abbrev pub WrongAt : Setting → List Step → Point → Type 0
+WrongAt st steps r = IsPoint r × Some (Wrong st (listRead st steps)) (runFrom st r steps)

@@ -1,4 +1,2 @@
-pub mod Print
 pub mod Session
 pub mod Steps
-pub mod Turns

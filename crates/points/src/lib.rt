@@ -1,0 +1,51 @@
+// The secret point of a session and the fingerprint taken at it. Nothing else knows how many points there are.
+ghost use mathlib.Core.Path.{_≡_};
+ghost use Rattle.network.specs.Network.{arcHeld, key};
+ghost use Rattle.points.specs.Points.{pointOk, emptyPrint, extendPrint, samePrint};
+use network::Record;
+
+// The point: a number below p.
+pub struct Point {
+    pub r: u32,
+}
+
+// The fingerprint of a list of arcs at a point: the residue of the product.
+pub struct Print {
+    pub residue: u32,
+}
+
+// 4: is it a point?
+pub fn is_point(point: Point) -> bool
+    ensures { λ r. ⌜ r ≡ pointOk point ⌝ }
+{
+    field::is_residue(point.r)
+}
+
+// The fingerprint of no arc.
+pub fn no_arcs() -> Print
+    ensures { λ r. ⌜ r ≡ emptyPrint ⌝ }
+{
+    Print { residue: 1 }
+}
+
+// The key of an arc. In 64 bits no sum is too large.
+fn key_of(arc: Record) -> u64
+    ensures { λ r. ⌜ r ≡ key (arcHeld arc) ⌝ }
+{
+    arc.tail as u64 * 8388608 + arc.head as u64 * 32768 + (arc.weight as u64)
+}
+
+// The fingerprint with one arc more.
+pub fn with_arc(point: Point, print: Print, arc: Record) -> Print
+    ensures { λ r. ⌜ r ≡ extendPrint point print (arcHeld arc) ⌝ }
+{
+    let key = key_of(arc);
+    Print { residue: field::extend(point.r, print.residue, key) }
+}
+
+// 14: do the two fingerprints agree?
+pub fn is_same(first: Print, second: Print) -> bool
+    ensures { λ r. ⌜ r ≡ samePrint first second ⌝ }
+{
+    first.residue == second.residue
+}

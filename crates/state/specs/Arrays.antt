@@ -1,0 +1,19 @@
+-- The balances of the vertices, as a list: an amount that moves along an arc.
+-- Assumes nothing.
+use mathlib.Core.List.{List}
+use Prim.Native.Nat.{ℕ}
+use lib.IntN.{ℤ, pos}
+use lib.ListN.{set}
+use Rattle.prelude.specs.Lists.{at}
+use Rattle.words.specs.Bounded.{boundedSum, boundedDifference}
+
+-- The balance of the vertex v with x added, and with x taken off.
+abbrev pub addedAt : List ℤ → ℕ → ℕ → List ℤ
+addedAt l v x = set l v (boundedSum (at l v) (pos x))
+
+abbrev pub takenAt : List ℤ → ℕ → ℕ → List ℤ
+takenAt l v x = set l v (boundedDifference (at l v) (pos x))
+
+-- The amount x added at the tail a, and then taken off at the head b.
+unfoldable pub moved : List ℤ → ℕ → ℕ → ℕ → List ℤ
+moved l a b x = takenAt (addedAt l a x) b x

@@ -1,0 +1,4 @@
+pub mod Answers
+pub mod State
+pub mod Turns
+pub mod Arrays

@@ -1,0 +1,155 @@
+-- What a session knows but for the node numbers and the balances of the vertices: its groups, what they say, and what each step makes of them.
+-- Assumes nothing.
+use mathlib.Core.Bool.{Bool}
+use mathlib.Core.List.{List, [], _∷_, _++_}
+use Prim.Native.Nat.{ℕ, _+_, _*_}
+use lib.Dec.{eqb}
+use lib.IntN.{ℤ, pos}
+use lib.ListN.{replicate}
+use Rattle.prelude.specs.Checks.{Check, _unless_}
+use Rattle.prelude.specs.Choice.{pick, indicator}
+use Rattle.prelude.specs.Integers.{eqZ}
+use Rattle.words.specs.Bounded.{boundedSum}
+use Rattle.words.specs.Marks.{isMarked, withMark}
+use Rattle.network.specs.Network.{Arc, Load, crosses}
+use Rattle.network.specs.Question.{Setting, asks, unitCost, unitsMost}
+use Rattle.network.specs.Certificate.{Claim, Sums}
+use Rattle.network.specs.Tests.{openingChecks, readingChecks, claimOf, claimingChecks, Numbers, numberingChecks, repeatingChecks, finishingChecks}
+use Rattle.points.specs.Points.{pointOk, emptyPrint, extendPrint, samePrint}
+use Rattle.points.specs.declared.Point.{Point}
+use Rattle.checks.specs.Held.{asked}
+use Rattle.checks.specs.declared.HeldSetting.{HeldSetting}
+use Rattle.state.specs.declared.Numbering.{Numbering}
+use Rattle.state.specs.declared.Reading.{Reading}
+use Rattle.state.specs.declared.Repeating.{Repeating}
+use Rattle.state.specs.declared.State.{State}
+use Rattle.state.specs.declared.Stream.{Stream}
+
+-- ---- what a state says
+
+-- Phase 1: reading is under way; 2: reading has just ended; 3: a claim stands; any other: void or ended.
+abbrev pub isReading : State → Bool
+isReading x = eqb (x .phase) 1
+
+abbrev pub hasRead : State → Bool
+hasRead x = eqb (x .phase) 2
+
+abbrev pub isClaimed : State → Bool
+isClaimed x = eqb (x .phase) 3
+
+-- The setting, and what was given of the annotation; y gives the node numbers.
+abbrev pub settingHeld : State → Setting
+settingHeld x = asked (x .reading .setting)
+
+abbrev pub claimHeld : State → Claim
+claimHeld x = claimOf (x .numbering .claim)
+
+abbrev pub marksHeld : State → ℕ → Bool
+marksHeld x = isMarked (x .numbering .marks)
+
+abbrev pub numbersHeld : State → (ℕ → ℤ) → Numbers
+numbersHeld x y = record { claim = claimHeld x; given = x .numbering .given; number = y; mark = marksHeld x }
+
+-- ---- lists of arcs, as the panel keeps them: how many they are, and their fingerprint
+
+abbrev pub emptyStream : Stream
+emptyStream = record { count = 0; print = emptyPrint }
+
+abbrev pub extendStream : Point → Stream → Arc → Stream
+extendStream r m e = record { count = m .count + 1; print = extendPrint r (m .print) e }
+
+-- ---- what a step makes of each group
+
+-- One arc more is read.
+abbrev pub readMore : Reading → Arc → Reading
+readMore g e = record { setting = g .setting; point = g .point; list = extendStream (g .point) (g .list) e }
+
+-- The claim k stands, with no node number yet.
+abbrev pub claimed : ℕ → Numbering
+claimed k = record { claim = k; given = 0; marks = replicate 4 0 }
+
+-- One node number more is given. The number 1 sets the mark of its vertex, also where the numbers are potentials: no rule then looks at marks.
+abbrev pub marksAfter : List ℕ → ℕ → ℤ → List ℕ
+marksAfter words v z = pick (eqZ z (pos 1)) (withMark words v) words
+
+abbrev pub numberMore : Numbering → ℤ → Numbering
+numberMore g z = record { claim = g .claim; given = g .given + 1; marks = marksAfter (g .marks) (g .given) z }
+
+-- One arc more is repeated: the list, the total cost, and the capacity from mark 1 to mark 0.
+abbrev pub repeatMore : State → Load → Repeating
+repeatMore x l = record {
+  list = extendStream (x .reading .point) (x .repeating .list) (l .arc);
+  cost = boundedSum (x .repeating .cost) (pos (l .amount * unitCost (asks (settingHeld x)) (l .arc)));
+  cut = boundedSum (x .repeating .cut) (pos (unitsMost (asks (settingHeld x)) (l .arc) * indicator (crosses (marksHeld x) (l .arc))));
+}
+
+-- Nothing is repeated yet.
+abbrev pub unrepeated : Repeating
+unrepeated = record { list = emptyStream; cost = pos 0; cut = pos 0 }
+
+-- ---- states
+
+abbrev pub stateOf : ℕ → Reading → Numbering → Repeating → State
+stateOf ph a b c = record { phase = ph; reading = a; numbering = b; repeating = c }
+
+-- A state before the claim.
+abbrev pub begun : ℕ → HeldSetting → Point → Stream → State
+begun ph st r m = stateOf ph (record { setting = st; point = r; list = m }) (claimed 0) unrepeated
+
+-- The state of a void session, which that of an ended one is too.
+abbrev pub idle : State
+idle = begun 0 (record { question = 0; n = 0; s = 0; t = 0 }) (record { r = 0 }) emptyStream
+
+-- ---- opening and the six steps: the checks in their order, and the next state
+
+-- The setting in the numbers that a state holds.
+abbrev pub held : Setting → HeldSetting
+held st = record { question = st .question; n = st .n; s = st .s; t = st .t }
+
+abbrev pub openChecks : Setting → Point → List Check
+openChecks st r = openingChecks st ++ 4 unless pointOk r ∷ []
+
+abbrev pub opened : Setting → Point → State
+opened st r = begun 1 (held st) r emptyStream
+
+-- Reading a channel.
+abbrev pub readChecks : State → Arc → List Check
+readChecks x e = 5 unless isReading x ∷ readingChecks (settingHeld x) (x .reading .list .count) e
+
+abbrev pub withRead : State → Arc → State
+withRead x e = stateOf (x .phase) (readMore (x .reading) e) (x .numbering) (x .repeating)
+
+-- Ending the reading.
+abbrev pub endChecks : State → List Check
+endChecks x = 5 unless isReading x ∷ []
+
+abbrev pub withEnd : State → State
+withEnd x = stateOf 2 (x .reading) (x .numbering) (x .repeating)
+
+-- The claim.
+abbrev pub claimChecks : State → ℕ → List Check
+claimChecks x k = 5 unless hasRead x ∷ claimingChecks (settingHeld x) k
+
+abbrev pub withClaim : State → ℕ → State
+withClaim x k = stateOf 3 (x .reading) (claimed k) (x .repeating)
+
+-- A node number.
+abbrev pub numberChecks : State → ℤ → List Check
+numberChecks x z = 5 unless isClaimed x ∷ numberingChecks (settingHeld x) (claimHeld x) (x .numbering .given) z
+
+abbrev pub withNumber : State → ℤ → State
+withNumber x z = stateOf (x .phase) (x .reading) (numberMore (x .numbering) z) (x .repeating)
+
+-- A repeated channel; y gives the node numbers.
+abbrev pub repeatChecks : State → (ℕ → ℤ) → Load → List Check
+repeatChecks x y l = 5 unless isClaimed x ∷ repeatingChecks (settingHeld x) (numbersHeld x y) (x .reading .list .count) (x .repeating .list .count) l
+
+abbrev pub withRepeat : State → Load → State
+withRepeat x l = stateOf (x .phase) (x .reading) (x .numbering) (repeatMore x l)
+
+-- Finishing; u are the sums over the repeated arcs.
+abbrev pub finishChecks : State → (ℕ → ℤ) → Sums → List Check
+finishChecks x y u =
+    5 unless isClaimed x
+    ∷ finishingChecks (settingHeld x) (numbersHeld x y) (x .reading .list .count) (x .repeating .list .count)
+    (samePrint (x .reading .list .print) (x .repeating .list .print)) u
