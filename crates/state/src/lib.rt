@@ -1,7 +1,49 @@
 // What a session knows but for the node numbers and the balances of the vertices, and its steps on that alone: a caller who keeps the two arrays in place copies only this.
+ghost use mathlib.Core.Path.{_≡_};
+ghost use Prim.Native.Nat.{_≤_, _<_};
+ghost use lib.ListN.{set};
+ghost use Rattle.prelude.specs.Checks.{firstBroken};
+ghost use Rattle.prelude.specs.Lists.{at};
+ghost use Rattle.network.specs.Network.{arcHeld, loadHeld};
+ghost use Rattle.network.specs.Tests.{answerOf};
+ghost use Rattle.checks.specs.Held.{handed, rulesHeld, sumsHeld};
+ghost use Rattle.state.specs.Answers.{answered};
+ghost use Rattle.state.specs.State.{settingHeld, claimHeld, withRepeat, repeatChecks, finishChecks};
+ghost use Rattle.state.specs.Turns.{openTurn, readTurn, endTurn, claimTurn, numberTurn, repeatTurn};
+use arrays::ends_of;
+use arrays::store_at;
 use checks::HeldSetting;
+use checks::Opening;
+use checks::annotation::claim_ok;
+use checks::reading::arc_check;
+use checks::rows::Row;
+use checks::rows::question_of;
+use checks::rows::row_of;
+use checks::rows::unit_cost;
+use checks::rows::units_most;
+use groups::begun;
+use groups::claimed;
+use groups::cost_after;
+use groups::cut_after;
+use groups::idle;
+use groups::leads_out;
+use groups::with_arc;
+use groups::with_number;
+use network::Record;
 use points::Point;
 use points::Print;
+use refusals::lists_check;
+use refusals::load_check;
+use refusals::number_check;
+use refusals::open_check;
+use refusals::read_check;
+use refusals::totals_check;
+use words::marks::is_marked;
+use words::signed::to_unsigned;
+
+pub mod arrays;
+pub mod groups;
+mod refusals;
 
 // What a step answers.
 pub enum Answer {
@@ -50,4 +92,236 @@ pub struct State {
 pub struct Turn {
     pub state: State,
     pub why: u8,
+}
+
+// The answer of an annotation that passes.
+fn answer_of(row: Row, balances: [i64; 255], cost: i64, cut: i64) -> Answer
+    ensures { λ r. ⌜ r ≡ answered (rulesHeld row .answer (sumsHeld balances cost cut)) ⌝ }
+{
+    match row {
+        Row::PathValue => Answer::Value(to_unsigned(cost)),
+        Row::FlowValue => Answer::Value(to_unsigned(cut)),
+        Row::AssignmentValue => Answer::Value(to_unsigned(cost)),
+        Row::PathNone => Answer::None,
+        Row::AssignmentNone => Answer::None,
+        Row::Nothing => Answer::None,
+    }
+}
+
+impl State {
+    // Opening.
+    pub fn open(o: Opening, point: Point) -> Turn
+        ensures { λ r. ⌜ r ≡ openTurn (handed o) point ⌝ }
+    {
+        let why = open_check(o, point);
+        if why != 0 {
+            return Turn {
+                state: idle(),
+                why: why,
+            };
+        }
+        let setting = HeldSetting {
+            question: o.question as u8,
+            n: o.n as u8,
+            s: o.s as u8,
+            t: o.t as u8,
+        };
+        Turn {
+            state: begun(1, setting, point),
+            why: 0,
+        }
+    }
+
+    // Reading a channel.
+    pub fn read_channel(mut self, arc: Record) -> Turn
+        ensures { λ r. ⌜ r ≡ readTurn self (arcHeld arc) ⌝ }
+    {
+        let mut reading = self.reading;
+        let list = reading.list;
+        let why = read_check(self.phase, reading.setting, list.count, arc);
+        if why != 0 {
+            return Turn {
+                state: self,
+                why: why,
+            };
+        }
+        let next = with_arc(reading.point, list, arc);
+        reading.list = next;
+        self.reading = reading;
+        Turn {
+            state: self,
+            why: 0,
+        }
+    }
+
+    // Ending the reading.
+    pub fn end_reading(mut self) -> Turn
+        ensures { λ r. ⌜ r ≡ endTurn self ⌝ }
+    {
+        let phase = self.phase;
+        if phase != 1 {
+            return Turn {
+                state: self,
+                why: 5,
+            };
+        }
+        self.phase = 2;
+        Turn {
+            state: self,
+            why: 0,
+        }
+    }
+
+    // The claim.
+    pub fn claim(mut self, claim: u32) -> Turn
+        ensures { λ r. ⌜ r ≡ claimTurn self claim ⌝ }
+    {
+        let phase = self.phase;
+        let reading = self.reading;
+        if phase != 2 {
+            return Turn {
+                state: self,
+                why: 5,
+            };
+        }
+        if !claim_ok(reading.setting, claim) {
+            return Turn {
+                state: self,
+                why: 9,
+            };
+        }
+        self.phase = 3;
+        self.numbering = claimed(claim as u8);
+        Turn {
+            state: self,
+            why: 0,
+        }
+    }
+
+    // A node number, which is then to be stored.
+    pub fn node_number(mut self, y: i32) -> Turn
+        ensures { λ r. ⌜ r ≡ numberTurn self y ⌝ }
+    {
+        let reading = self.reading;
+        let numbering = self.numbering;
+        let why = number_check(self.phase, reading.setting, numbering.claim, numbering.given, y);
+        if why != 0 {
+            return Turn {
+                state: self,
+                why: why,
+            };
+        }
+        self.numbering = with_number(numbering, y);
+        Turn {
+            state: self,
+            why: 0,
+        }
+    }
+
+    // Stores the node number y as that of the next vertex.
+    pub fn store_number(self, potentials: &mut [i32; 255], y: i32)
+        ensures { λ _. ⌜ now (potentials .exit) ≡ set (now (potentials .entry)) (self .numbering .given) y ⌝ }
+    {
+        let numbering = self.numbering;
+        store_at(potentials, numbering.given, y);
+    }
+
+    // 0, or the number of the first check that refuses an arc to be repeated: 5 to 8, 11 or 12.
+    fn repeat_check(self, potentials: &[i32; 255], arc: Record, x: u32) -> u8
+        ensures { λ r. ⌜ r ≡ firstBroken (repeatChecks self (at (now (potentials .entry))) (loadHeld arc x)) ⌝ }
+    {
+        let reading = self.reading;
+        let numbering = self.numbering;
+        let repeating = self.repeating;
+        let st = reading.setting;
+        if self.phase != 3 {
+            return 5;
+        }
+        if numbering.given != st.n {
+            return 5;
+        }
+        if reading.list.count <= repeating.list.count {
+            return 6;
+        }
+        let why = arc_check(st, arc);
+        if why != 0 {
+            return why;
+        }
+        let marks = numbering.marks;
+        let ends = ends_of(potentials, marks, arc);
+        load_check(row_of(st.question, numbering.claim), ends, arc, x)
+    }
+
+    // The state with one arc more repeated.
+    fn with_repeat(mut self, arc: Record, x: u32) -> State
+        requires { ⌜ self .repeating .list .count < 4294967295 ⌝ }
+        requires { ⌜ arc .weight ≤ 32767 ⌝ }
+        requires { ⌜ x ≤ 32767 ⌝ }
+        ensures { λ r. ⌜ r ≡ withRepeat self (loadHeld arc x) ⌝ }
+    {
+        let reading = self.reading;
+        let numbering = self.numbering;
+        let repeating = self.repeating;
+        let question = question_of(reading.setting.question as u32);
+        let marks = numbering.marks;
+        let crossing = leads_out(is_marked(marks, arc.tail), is_marked(marks, arc.head));
+        let next = Repeating {
+            list: with_arc(reading.point, repeating.list, arc),
+            cost: cost_after(repeating.cost, unit_cost(question, arc), x),
+            cut: cut_after(repeating.cut, units_most(question, arc), crossing),
+        };
+        self.repeating = next;
+        self
+    }
+
+    // A repeated channel, whose amount is then to be moved between the balances.
+    pub fn repeat_channel(self, potentials: &[i32; 255], arc: Record, x: u32) -> Turn
+        ensures { λ r. ⌜ r ≡ repeatTurn self (at (now (potentials .entry))) (loadHeld arc x) ⌝ }
+    {
+        let why = self.repeat_check(potentials, arc, x);
+        if why != 0 {
+            return Turn {
+                state: self,
+                why: why,
+            };
+        }
+        Turn {
+            state: self.with_repeat(arc, x),
+            why: 0,
+        }
+    }
+
+    // 0, or the number of the first check that refuses finishing: 5, 13, 14, 15 or 16.
+    pub fn finish_check(self, potentials: [i32; 255], balances: [i64; 255]) -> u8
+        ensures { λ r. ⌜ r ≡ firstBroken (finishChecks self (at potentials) (sumsHeld balances (self .repeating .cost) (self .repeating .cut))) ⌝ }
+    {
+        let reading = self.reading;
+        let numbering = self.numbering;
+        let repeating = self.repeating;
+        let st = reading.setting;
+        if self.phase != 3 {
+            return 5;
+        }
+        if numbering.given != st.n {
+            return 5;
+        }
+        let why = lists_check(reading.list, repeating.list);
+        if why != 0 {
+            return why;
+        }
+        let row = row_of(st.question, numbering.claim);
+        let marks = numbering.marks;
+        totals_check(row, st, potentials, marks, balances, repeating.cost, repeating.cut)
+    }
+
+    // The answer where finishing is not refused.
+    pub fn answer(self, balances: [i64; 255]) -> Answer
+        ensures { λ r. ⌜ r ≡ answered (answerOf (settingHeld self) (claimHeld self) (sumsHeld balances (self .repeating .cost) (self .repeating .cut))) ⌝ }
+    {
+        let reading = self.reading;
+        let numbering = self.numbering;
+        let repeating = self.repeating;
+        let row = row_of(reading.setting.question, numbering.claim);
+        answer_of(row, balances, repeating.cost, repeating.cut)
+    }
 }

@@ -1,0 +1,13 @@
+-- `state::groups::with_arc` meets its contract.
+-- Assumes nothing.
+use borrow.Author.Needs.{needs}
+use Rattle.state.proofs.groups.with_arc.Statement.{statement}
+use Rattle.state.proofs.groups.with_arc.Tie as tie
+
+pub with-arc-spec : {M : Type 1} → statement M
+with-arc-spec =
+    tie.close
+    (tie.spec
+    (λ c. search needs)
+    (λ c κs. search needs)
+    (λ c. rw (c .with-arc .ensures)))

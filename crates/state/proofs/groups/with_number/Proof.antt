@@ -1,0 +1,18 @@
+-- `state::groups::with_number` meets its contract.
+-- Assumes nothing.
+use Rattle.prelude.proofs.Choice.{checks}
+use Rattle.words.proofs.Signs.{signs}
+use Rattle.state.proofs.Laws.{number-done}
+use borrow.Author.Needs.{needs}
+use Rattle.state.proofs.groups.with_number.Statement.{statement}
+use Rattle.state.proofs.groups.with_number.Tie as tie
+
+pub with-number-spec : {M : Type 1} → statement M
+with-number-spec =
+    tie.close
+    (tie.spec
+    (λ c. search needs)
+    (λ c. search needs)
+    (λ c κs. search needs)
+    (λ c. let g = c .before .before .before .args in number-done (g .g) (g .y) (c .with-mark .result) (search (checks, signs) depth 12))
+    (λ c. let g = c .before .args in number-done (g .g) (g .y) (g .g .marks) (search (checks, signs) depth 12)))

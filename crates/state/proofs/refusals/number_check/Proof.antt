@@ -1,0 +1,18 @@
+-- `state::refusals::number_check` meets its contract.
+-- Assumes nothing.
+use mir.Facts.{toZ-ofZ}
+use Rattle.checks.proofs.Laws.{tested}
+use borrow.Author.Needs.{needs}
+use Rattle.state.proofs.refusals.number_check.Statement.{statement}
+use Rattle.state.proofs.refusals.number_check.Tie as tie
+
+pub number-check-spec : {M : Type 1} → statement M
+number-check-spec =
+    tie.close
+    (tie.spec
+    (λ c. search tested depth 12)
+    (λ c. search tested depth 12)
+    (λ c κs. search needs)
+    (λ c κs. search needs)
+    (λ c. let test = rw (c .before .before .row-of .ensures) at (simp (toZ-ofZ (c .before .before .before .before .before .fits .y)) at (c .before .node-ok .ensures)) in search tested depth 12)
+    (λ c. let test = rw (c .before .before .row-of .ensures) at (simp (toZ-ofZ (c .before .before .before .before .before .fits .y)) at (c .before .node-ok .ensures)) in search tested depth 12))
