@@ -1,6 +1,6 @@
 -- What reading gives past the end, and the bits of a signed number as the machine has them.
 -- Assumes nothing.
-use mathlib.Core.Path.{_≡_, refl, sym, ap, ap₂, _∙_}
+use mathlib.Core.Path.{_≡_, refl, sym, ap, ap₂, _∙_, subst}
 use mathlib.Core.Bool.{Bool, true, false, false≢true}
 use mathlib.Core.List.{List}
 use Prim.Native.Nat.{ℕ, suc, _+_, _-_, _*_, _^_, _≤_, _<_}
@@ -14,7 +14,7 @@ use mir.Val.{Fits, SFits, toZ, ofZ, sel}
 use mir.Facts.{toZ-pos, toZ-ofZ, ofZ-toZ}
 use borrow.Author.Tests.{ltb-true}
 use Rattle.prelude.specs.Choice.{pick}
-use Rattle.network.specs.Network.{arcOf, loadOf}
+use Rattle.network.specs.Network.{Arc, Load, arcOf, loadOf}
 use Rattle.format.specs.Bytes.{byteAt, joined32, read16, read32, patternOf, signedOf, readSigned}
 use Rattle.format.specs.Files.{arcAt, loadAt}
 use Rattle.format.specs.Promises.{Byte, ArcFits, LoadFits}
@@ -46,11 +46,11 @@ module _ (file : List ℕ) (bytes : (i : ℕ) → Byte (byteAt file i)) where
   pub read16-fits : (i : ℕ) → read16 file i < 65536
   read16-fits i = omega (arith, bytes i, bytes (i + 1))
 
-  pub arc-fits : (i : ℕ) → ArcFits (arcAt file i)
-  arc-fits i = record { tail = bytes i; head = bytes (i + 1); weight = read16-fits (i + 2) }
+  pub arc-fits : (i : ℕ) {a : Arc} → a ≡ arcAt file i → ArcFits a
+  arc-fits i h = subst (λ (a : Arc). ArcFits a) (sym h) (record { tail = bytes i; head = bytes (i + 1); weight = read16-fits (i + 2) })
 
-  pub load-fits : (i : ℕ) → LoadFits (loadAt file i)
-  load-fits i = record { arc = arc-fits i; amount = read16-fits (i + 4) }
+  pub load-fits : (i : ℕ) {l : Load} → l ≡ loadAt file i → LoadFits l
+  load-fits i h = subst (λ (l : Load). LoadFits l) (sym h) (record { arc = arc-fits i refl; amount = read16-fits (i + 4) })
 
 -- ---- signed numbers
 

@@ -15,7 +15,7 @@ arc-spec =
     (λ c κs. search needs)
     (λ c. search needs)
     (λ c. search needs)
-    (λ c κs. search needs)
+    (λ c κs. omega arith)
     (λ c. search needs)
     (λ c κs. search needs)
     (λ c. let a = c .before .before .before .before .before .args in c .record-of .ensures ∙ sym (arc-past (a .file .now) (11 + 4 * a .e) (omega arith)))

@@ -1,15 +1,11 @@
 -- `helper::writing::word` meets its contract.
 -- Assumes nothing.
-use mathlib.Core.Path.{_≡_, sym, _∙_, subst}
-use mathlib.Core.List.{List}
+use mathlib.Core.Path.{_≡_, _∙_}
 use Prim.Native.Nat.{ℕ, _+_, _*_, _/_, _%_, _<_}
 use native.Mathlib.Omega.{arith}
 use borrow.Author.Needs.{needs}
-use Rattle.network.specs.Network.{Arc, arcOf}
+use Rattle.network.specs.Network.{arcOf}
 use Rattle.solver.specs.Certify.{recordArc}
-use Rattle.format.specs.Bytes.{byteAt}
-use Rattle.format.specs.Files.{arcIn}
-use Rattle.format.specs.Promises.{ArcFits}
 use Rattle.format.proofs.Reading.{arc-fits}
 use Rattle.helper.proofs.writing.word.Statement.{statement}
 use Rattle.helper.proofs.writing.word.Tie as tie
@@ -27,20 +23,16 @@ unpacked a b w ha hb hw = λ i. arcOf (first i) (second i) (third i)
     third : (a * 16777216 + b * 65536 + w) % 65536 ≡ w
     third = omega arith
 
--- a record as it is read fits its fields
-held : (net : List ℕ) → ((i : ℕ) → byteAt net i < 256) → (e : ℕ) {a : Arc} → a ≡ arcIn net e → ArcFits a
-held net b e h = subst (λ (a : Arc). ArcFits a) (sym h) (arc-fits net b (11 + 4 * e))
-
 pub word-spec : {M : Type 1} → statement M
 word-spec =
     tie.close
     (tie.spec
     (λ c κs. search needs)
-    (λ c. let w = held (c .before .before .before .args .net .now) (λ i. c .before .before .shared-slice-known .given i .fits) _ (c .before .arc .ensures) in omega arith)
-    (λ c. let w = held (c .before .before .before .before .args .net .now) (λ i. c .before .before .before .shared-slice-known .given i .fits) _ (c .before .before .arc .ensures) in omega arith)
-    (λ c. let w = held (c .before .before .before .before .args .net .now) (λ i. c .before .before .before .shared-slice-known .given i .fits) _ (c .before .before .arc .ensures) in omega arith)
-    (λ c. let w = held (c .before .before .before .before .before .args .net .now) (λ i. c .before .before .before .before .shared-slice-known .given i .fits) _ (c .before .before .before .arc .ensures) in omega arith)
+    (λ c. let w = arc-fits (c .before .before .before .args .net .now) (λ i. c .before .before .shared-slice-known .given i .fits) _ (c .before .arc .ensures) in omega arith)
+    (λ c. let w = arc-fits (c .before .before .before .before .args .net .now) (λ i. c .before .before .before .shared-slice-known .given i .fits) _ (c .before .before .arc .ensures) in omega arith)
+    (λ c. let w = arc-fits (c .before .before .before .before .args .net .now) (λ i. c .before .before .before .shared-slice-known .given i .fits) _ (c .before .before .arc .ensures) in omega arith)
+    (λ c. let w = arc-fits (c .before .before .before .before .before .args .net .now) (λ i. c .before .before .before .before .shared-slice-known .given i .fits) _ (c .before .before .before .arc .ensures) in omega arith)
     (λ c.
     let found = c .before .before .before .arc in
-    let w = held (c .before .before .before .before .before .args .net .now) (λ i. c .before .before .before .before .shared-slice-known .given i .fits) _ (found .ensures) in
+    let w = arc-fits (c .before .before .before .before .before .args .net .now) (λ i. c .before .before .before .before .shared-slice-known .given i .fits) _ (found .ensures) in
     unpacked _ _ _ (w .tail) (w .head) (w .weight) ∙ found .ensures))

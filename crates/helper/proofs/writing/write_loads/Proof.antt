@@ -1,6 +1,6 @@
 -- `helper::writing::write_loads` meets its contract. The loop's invariant: the records below e are written.
 -- Assumes nothing.
-use mathlib.Core.Path.{_∙_, ap}
+use mathlib.Core.Path.{refl, _∙_, ap}
 use Prim.Native.Nat.{_+_, _-_, _*_}
 use native.Mathlib.Omega.{arith}
 use lib.ListN.{length, getD}
@@ -31,7 +31,7 @@ loop-again c =
     write-turn loadBytes loadAt 6 LoadFits loads-coded (s .part .now) (loadAmong (arcIn (s .net .now)) (s .amounts .now)) (length (s .amounts .now)) (l .part) (c .before .before .write-load .last .0) (l .e) (c .before .before .before .before .before .before .loop-test .taken)
     (c .before .before .write-load .ensures
     ∙ ap (λ (a : Arc). sets (l .part) (6 * l .e) (loadBytes (lowLoad (record { arc = a; amount = getD (s .amounts .now) (l .e) 0 })))) (c .before .before .before .before .before .arc .ensures)
-    ∙ ap (λ (f : Load). sets (l .part) (6 * l .e) (loadBytes f)) (low-load (loadAmong (arcIn (s .net .now)) (s .amounts .now) (l .e)) (record { arc = arc-fits (s .net .now) (λ i. known .shared-slice-known .given i .fits) (11 + 4 * l .e); amount = c .before .before .before .shared-slice-known3 .given (l .e) .fits })))
+    ∙ ap (λ (f : Load). sets (l .part) (6 * l .e) (loadBytes f)) (low-load (loadAmong (arcIn (s .net .now)) (s .amounts .now) (l .e)) (record { arc = arc-fits (s .net .now) (λ i. known .shared-slice-known .given i .fits) (11 + 4 * l .e) refl; amount = c .before .before .before .shared-slice-known3 .given (l .e) .fits })))
     (l .inv)
 
 returns : tie.Need-returns Inv-loop μ-loop
