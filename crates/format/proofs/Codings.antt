@@ -2,17 +2,18 @@
 -- Assumes nothing.
 use mathlib.Core.Path.{_≡_, refl, _∙_, ap, ap₂}
 use mathlib.Core.List.{List, _++_}
-use Prim.Native.Nat.{ℕ, _+_, _*_, _/_, _%_, _<_}
-use native.Mathlib.Nat.{add-assoc}
+use Prim.Native.Nat.{ℕ, _+_, _/_, _%_, _<_}
+use native.Mathlib.Nat.{add-assoc, mod-eq-of-lt}
 use native.Mathlib.Omega.{arith}
 use lib.IntN.{ℤ, pos, negsuc}
 use lib.ListN.{length}
 use lib.Seq.{getD-append-add}
 use Rattle.prelude.specs.Lists.{Every}
-use Rattle.network.specs.Network.{arcOf, loadOf}
-use Rattle.format.specs.Bytes.{byteAt, byte16, read16, patternOf, signedOf, byte32, readSigned}
-use Rattle.format.specs.Files.{arcBytes, loadBytes, arcAt, loadAt}
+use Rattle.network.specs.Network.{Arc, Load, arcOf, loadOf}
+use Rattle.format.specs.Bytes.{byteAt, joined16, joined32, byte16, read16, patternOf, signedOf, byte32, readSigned}
+use Rattle.format.specs.Files.{arcBytes, loadBytes, lowArc, lowLoad, arcAt, loadAt}
 use Rattle.format.specs.Promises.{Byte, ArcFits, LoadFits, Signed32}
+use Rattle.format.proofs.Halves.{whole}
 use Rattle.format.proofs.Reading.{signed-pattern}
 use Rattle.format.proofs.Windows.{arc-exact, load-exact, number-exact}
 use Rattle.format.proofs.Records.{Coding, every-append}
@@ -24,7 +25,7 @@ module _ (before file : List ℕ) where
   at-after i j = ap (byteAt (before ++ file)) (add-assoc (length before) i j) ∙ getD-append-add before file (i + j) 0
 
   read16-after : (i : ℕ) → read16 (before ++ file) (length before + i) ≡ read16 file i
-  read16-after i = ap₂ (λ (a b : ℕ). 256 * a + b) (getD-append-add before file i 0) (at-after i 1)
+  read16-after i = ap₂ joined16 (getD-append-add before file i 0) (at-after i 1)
 
   then-after : (i j : ℕ) → read16 (before ++ file) (length before + i + j) ≡ read16 file (i + j)
   then-after i j = ap (read16 (before ++ file)) (add-assoc (length before) i j) ∙ read16-after (i + j)
@@ -36,15 +37,20 @@ module _ (before file : List ℕ) where
   load-after i = cc (arc-after i, then-after i 4)
 
   number-after : (i : ℕ) → readSigned (before ++ file) (length before + i) ≡ readSigned file i
-  number-after i = ap₂ (λ (a b : ℕ). signedOf (65536 * a + b)) (read16-after i) (then-after i 2)
+  number-after i = ap signedOf (ap₂ joined32 (read16-after i) (then-after i 2))
+
+-- ---- a record that fits is written whole
+
+pub low-arc : (a : Arc) → ArcFits a → lowArc a ≡ a
+low-arc a w = λ i. arcOf (mod-eq-of-lt (w .tail) i) (mod-eq-of-lt (w .head) i) (mod-eq-of-lt (w .weight) i)
+
+pub low-load : (l : Load) → LoadFits l → lowLoad l ≡ l
+low-load l w = λ i. record { arc = low-arc (l .arc) (w .arc) i; amount = mod-eq-of-lt (w .amount) i }
 
 -- ---- 16 bits, written and read
 
 pub both-bytes : (v : ℕ) → v < 65536 → Every Byte (byte16 v)
 both-bytes v h = (omega arith, (omega arith, tt))
-
-pub whole : (v : ℕ) → 256 * (v / 256) + v % 256 ≡ v
-whole v = omega arith
 
 -- ---- the three
 
@@ -54,7 +60,7 @@ arcs-coded =
       size = λ a. refl;
       bytes = λ a w. (w .tail, (w .head, both-bytes (a .weight) (w .weight)));
       local = arc-after;
-      back = λ a w rest. ap (arcOf (a .tail) (a .head)) (whole (a .weight));
+      back = λ a w rest. ap (arcOf (a .tail) (a .head)) (whole 256 (a .weight));
       exact = arc-exact;
     }
 
@@ -64,7 +70,7 @@ loads-coded =
       size = λ l. refl;
       bytes = λ l w. every-append Byte (arcBytes (l .arc)) (byte16 (l .amount)) (arcs-coded .bytes (l .arc) (w .arc)) (both-bytes (l .amount) (w .amount));
       local = load-after;
-      back = λ l w rest. ap₂ (loadOf (l .arc .tail) (l .arc .head)) (whole (l .arc .weight)) (whole (l .amount));
+      back = λ l w rest. ap₂ (loadOf (l .arc .tail) (l .arc .head)) (whole 256 (l .arc .weight)) (whole 256 (l .amount));
       exact = load-exact;
     }
 
@@ -85,5 +91,5 @@ numbers-coded =
       exact = number-exact;
     }
   where
-    rejoined : (k : ℕ) → 65536 * (256 * (k / 65536 / 256) + k / 65536 % 256) + (256 * (k % 65536 / 256) + k % 65536 % 256) ≡ k
-    rejoined k = omega arith
+    rejoined : (k : ℕ) → joined32 (joined16 (k / 65536 / 256) (k / 65536 % 256)) (joined16 (k % 65536 / 256) (k % 65536 % 256)) ≡ k
+    rejoined k = ap₂ joined32 (whole 256 (k / 65536)) (whole 256 (k % 65536)) ∙ whole 65536 k

@@ -1,3 +1,4 @@
+pub mod Halves
 pub mod Reading
 pub mod Writing
 pub mod Windows

@@ -11,9 +11,10 @@ use Rattle.prelude.specs.Checks.{firstBroken}
 use Rattle.format.specs.Bytes.{byteAt, byte32, readSigned, listTo}
 use Rattle.format.specs.Files.{networkMark, annotationMark, networkSize, annotationSize, networkHeader, annotationHeader, arcBytes, loadBytes, networkFile, annotationFile, arcAt, loadAt, questionIn, nIn, sIn, tIn, countIn, claimIn, annotationCount, arcIn, loadIn, networkLayout, annotationLayout}
 use Rattle.format.specs.Promises.{Byte, ArcFits, LoadFits, Signed32, NetworkRoundTrip, AnnotationRoundTrip, OnlyNetwork, OnlyAnnotation, OneLayout}
+use Rattle.format.proofs.Halves.{whole}
 use Rattle.format.proofs.Windows.{window, window-append, window-all, pair}
 use Rattle.format.proofs.Records.{every-append, listTo-length, flat-length, flat-bytes, read-back, written-back}
-use Rattle.format.proofs.Codings.{both-bytes, whole, arcs-coded, loads-coded, numbers-coded}
+use Rattle.format.proofs.Codings.{both-bytes, arcs-coded, loads-coded, numbers-coded}
 use Rattle.format.proofs.Layouts.{holds, length-is, begins, other-mark}
 
 -- ---- written and read back
@@ -34,7 +35,7 @@ network-round-trip question n s t arcs hq hn hs ht m w =
       s-back = refl;
       t-back = refl;
       arcs-back =
-          ap (λ (k : ℕ). listTo k (arcIn file)) (whole (length arcs))
+          ap (λ (k : ℕ). listTo k (arcIn file)) (whole 256 (length arcs))
           ∙ subst (λ (l : List ℕ). listTo (length arcs) (arcIn (header ++ l)) ≡ arcs) (append-nil (flatMap arcBytes arcs))
           (read-back arcBytes arcAt 4 ArcFits arcs-coded header [] arcs w);
     }
@@ -58,7 +59,7 @@ annotation-round-trip claim numbers loads hc wn m wl =
       claim-back = refl;
       numbers-back = read-back byte32 readSigned 4 Signed32 numbers-coded header second numbers wn;
       loads-back =
-          ap (λ (k : ℕ). listTo k (loadIn n file)) (whole (length loads))
+          ap (λ (k : ℕ). listTo k (loadIn n file)) (whole 256 (length loads))
           ∙ sym (ap₂ (λ (l : List ℕ) (i : ℕ). listTo (length loads) (λ e. loadAt l (i + 6 * e))) same (omega arith))
           ∙ read-back loadBytes loadAt 6 LoadFits loads-coded (header ++ first) [] loads wl;
     }

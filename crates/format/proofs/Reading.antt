@@ -1,6 +1,6 @@
 -- What reading gives past the end, and the bits of a signed number as the machine has them.
 -- Assumes nothing.
-use mathlib.Core.Path.{_≡_, refl, sym, ap, ap₂, _∙_}
+use mathlib.Core.Path.{_≡_, refl, sym, ap, ap₂, _∙_, subst}
 use mathlib.Core.Bool.{Bool, true, false, false≢true}
 use mathlib.Core.List.{List}
 use Prim.Native.Nat.{ℕ, suc, _+_, _-_, _*_, _^_, _≤_, _<_}
@@ -14,9 +14,10 @@ use mir.Val.{Fits, SFits, toZ, ofZ, sel}
 use mir.Facts.{toZ-pos, toZ-ofZ, ofZ-toZ}
 use borrow.Author.Tests.{ltb-true}
 use Rattle.prelude.specs.Choice.{pick}
-use Rattle.network.specs.Network.{arcOf, loadOf}
-use Rattle.format.specs.Bytes.{byteAt, read16, patternOf, signedOf, readSigned}
+use Rattle.network.specs.Network.{Arc, Load, arcOf, loadOf}
+use Rattle.format.specs.Bytes.{byteAt, joined32, read16, read32, patternOf, signedOf, readSigned}
 use Rattle.format.specs.Files.{arcAt, loadAt}
+use Rattle.format.specs.Promises.{Byte, ArcFits, LoadFits}
 
 -- ---- past the end
 
@@ -26,15 +27,30 @@ byte-past file i h = List·getD-eq-default file 0 h
 pub read16-past : (file : List ℕ) (i : ℕ) → length file ≤ i → read16 file i ≡ 0
 read16-past file i h = omega (arith, byte-past file i h, byte-past file (i + 1) (omega arith))
 
+pub read32-past : (file : List ℕ) (i : ℕ) → length file ≤ i → read32 file i ≡ 0
+read32-past file i h = ap₂ joined32 (read16-past file i h) (read16-past file (i + 2) (omega arith))
+
 pub signed-past : (file : List ℕ) (i : ℕ) → length file ≤ i → readSigned file i ≡ pos 0
 unfolding signedOf
-signed-past file i h = ap₂ (λ (a b : ℕ). signedOf (65536 * a + b)) (read16-past file i h) (read16-past file (i + 2) (omega arith))
+signed-past file i h = ap signedOf (read32-past file i h)
 
 pub arc-past : (file : List ℕ) (i : ℕ) → length file ≤ i → arcAt file i ≡ arcOf 0 0 0
 arc-past file i h = cc (byte-past file i h, byte-past file (i + 1) (omega arith), read16-past file (i + 2) (omega arith))
 
 pub load-past : (file : List ℕ) (i : ℕ) → length file ≤ i → loadAt file i ≡ loadOf 0 0 0 0
 load-past file i h = cc (arc-past file i h, read16-past file (i + 4) (omega arith))
+
+-- ---- what is read from bytes fits
+
+module _ (file : List ℕ) (bytes : (i : ℕ) → Byte (byteAt file i)) where
+  pub read16-fits : (i : ℕ) → read16 file i < 65536
+  read16-fits i = omega (arith, bytes i, bytes (i + 1))
+
+  pub arc-fits : (i : ℕ) {a : Arc} → a ≡ arcAt file i → ArcFits a
+  arc-fits i h = subst (λ (a : Arc). ArcFits a) (sym h) (record { tail = bytes i; head = bytes (i + 1); weight = read16-fits (i + 2) })
+
+  pub load-fits : (i : ℕ) {l : Load} → l ≡ loadAt file i → LoadFits l
+  load-fits i h = subst (λ (l : Load). LoadFits l) (sym h) (record { arc = arc-fits i refl; amount = read16-fits (i + 4) })
 
 -- ---- signed numbers
 

@@ -86,7 +86,7 @@ module _ {A : Type 0} (write : A → List ℕ) (read : List ℕ → ℕ → A) (
       ∙ code .local (write x) (flatMap write xs ++ rest) (k * e)
       ∙ at-record xs (w .1) rest e (omega arith)
 
-  -- "in file order", after the bytes before
+  -- in file order, after the bytes before
   pub read-back : (before rest : List ℕ) (xs : List A) → Every W xs → listTo (length xs) (λ e. read (before ++ (flatMap write xs ++ rest)) (length before + k * e)) ≡ xs
   read-back before rest xs w =
       listTo-take (read [] 0) xs (λ e. read (before ++ (flatMap write xs ++ rest)) (length before + k * e))

@@ -9,10 +9,11 @@ use native.Mathlib.Omega.{arith}
 use lib.ListN.{length, take, drop}
 use lib.Seq.{drop-cons, take-length}
 use Rattle.prelude.specs.Lists.{Every}
-use Rattle.format.specs.Bytes.{byteAt, byte16, read16, signedOf, byte32, readSigned}
+use Rattle.format.specs.Bytes.{byteAt, joined16, joined32, byte16, read16, signedOf, byte32, readSigned}
 use Rattle.format.specs.Files.{arcBytes, loadBytes, arcAt, loadAt}
 use Rattle.format.specs.Promises.{Byte}
-use Rattle.format.proofs.Reading.{pattern-signed}
+use Rattle.format.proofs.Halves.{high-half, low-half}
+use Rattle.format.proofs.Reading.{read16-fits, pattern-signed}
 use Rattle.format.proofs.Writing.{two-more, four-more}
 
 unfoldable pub window : List ℕ → ℕ → ℕ → List ℕ
@@ -47,11 +48,8 @@ module _ (file : List ℕ) (e : Every Byte file) where
   unfolding window
   pair i = halves (byteAt file i) (byteAt file (i + 1)) (byte-in file e (i + 1)) ∙ ap (λ (j : ℕ). byteAt file i ∷ byteAt file j ∷ []) (add-one i)
     where
-      halves : (a b : ℕ) → b < 256 → byte16 (256 * a + b) ≡ a ∷ b ∷ []
-      halves a b h = ap₂ (λ (x y : ℕ). x ∷ y ∷ []) (omega arith) (omega arith)
-
-  number-small : (i : ℕ) → read16 file i < 65536
-  number-small i = omega (arith, byte-in file e i, byte-in file e (i + 1))
+      halves : (a b : ℕ) → b < 256 → byte16 (joined16 a b) ≡ a ∷ b ∷ []
+      halves a b h = ap₂ (λ (x y : ℕ). x ∷ y ∷ []) (high-half 256 a b h) (low-half 256 a b h)
 
   pub arc-exact : (i : ℕ) → arcBytes (arcAt file i) ≡ window file i 4
   unfolding window
@@ -65,9 +63,9 @@ module _ (file : List ℕ) (e : Every Byte file) where
 
   pub number-exact : (i : ℕ) → byte32 (readSigned file i) ≡ window file i 4
   unfolding window
-  number-exact i = bits (read16 file i) (read16 file (i + 2)) (number-small i) (number-small (i + 2)) ∙ ap₂ _++_ (pair i) (pair (i + 2)) ∙ ap (λ (j : ℕ). window file i 2 ++ window file j 2) (two-more i)
+  number-exact i = bits (read16 file i) (read16 file (i + 2)) (read16-fits file (byte-in file e) i) (read16-fits file (byte-in file e) (i + 2)) ∙ ap₂ _++_ (pair i) (pair (i + 2)) ∙ ap (λ (j : ℕ). window file i 2 ++ window file j 2) (two-more i)
     where
-      bits : (a b : ℕ) → a < 65536 → b < 65536 → byte32 (signedOf (65536 * a + b)) ≡ byte16 a ++ byte16 b
+      bits : (a b : ℕ) → a < 65536 → b < 65536 → byte32 (signedOf (joined32 a b)) ≡ byte16 a ++ byte16 b
       bits a b h l =
-          ap (λ (k : ℕ). byte16 (k / 65536) ++ byte16 (k % 65536)) (pattern-signed (65536 * a + b) (omega arith))
-          ∙ ap₂ (λ (x y : ℕ). byte16 x ++ byte16 y) (omega arith) (omega arith)
+          ap (λ (k : ℕ). byte16 (k / 65536) ++ byte16 (k % 65536)) (pattern-signed (joined32 a b) (omega arith))
+          ∙ ap₂ (λ (x y : ℕ). byte16 x ++ byte16 y) (high-half 65536 a b l) (low-half 65536 a b l)

@@ -1,4 +1,4 @@
--- Numbers in bytes, and lists of what is numbered from 0 on.
+-- Numbers in bytes, and lists of what is numbered from 0 on. The order of the bytes is that of document 01, Files and the helper.
 -- Assumes nothing.
 use mathlib.Core.List.{List, [], _∷_, _++_}
 use Prim.Native.Nat.{ℕ, zero, suc, _+_, _-_, _*_, _/_, _%_, _^_}
@@ -11,14 +11,25 @@ use Rattle.prelude.specs.Choice.{pick}
 abbrev pub byteAt : List ℕ → ℕ → ℕ
 byteAt file i = getD file i 0
 
--- "All fields are most significant byte first": 16 bits, written and read.
+-- Two bytes as a number of 16 bits, and two such numbers as one of 32: the high half stands first.
+abbrev pub joined16 : ℕ → ℕ → ℕ
+joined16 high low = 256 * high + low
+
+abbrev pub joined32 : ℕ → ℕ → ℕ
+joined32 high low = 65536 * high + low
+
+-- 16 bits, written and read with the most significant byte first.
 abbrev pub byte16 : ℕ → List ℕ
 byte16 v = v / 256 ∷ v % 256 ∷ []
 
 abbrev pub read16 : List ℕ → ℕ → ℕ
-read16 file i = 256 * byteAt file i + byteAt file (i + 1)
+read16 file i = joined16 (byteAt file i) (byteAt file (i + 1))
 
--- "32-bit two's complement": the 32 bits that stand for z, -(n + 1) as 2 ^ 32 - (n + 1), and the number that 32 bits stand for.
+-- 32 bits, read in the same order.
+abbrev pub read32 : List ℕ → ℕ → ℕ
+read32 file i = joined32 (read16 file i) (read16 file (i + 2))
+
+-- Two's complement: the 32 bits that stand for z, -(n + 1) as 2 ^ 32 - (n + 1), and the number that 32 bits stand for.
 unfoldable pub patternOf : ℤ → ℕ
 patternOf (pos n) = n
 patternOf (negsuc n) = 2 ^ 32 - suc n
@@ -30,7 +41,7 @@ abbrev pub byte32 : ℤ → List ℕ
 byte32 z = byte16 (patternOf z / 65536) ++ byte16 (patternOf z % 65536)
 
 abbrev pub readSigned : List ℕ → ℕ → ℤ
-readSigned file i = signedOf (65536 * read16 file i + read16 file (i + 2))
+readSigned file i = signedOf (read32 file i)
 
 -- g 0, …, g (n - 1).
 unfoldable pub listTo : {A : Type 0} → ℕ → (ℕ → A) → List A

@@ -1,51 +1,65 @@
--- The two files: the bytes that are written, the checks of a layout, and what a file says. Quotations are of the scope's section "Files and the helper".
+-- The two files: the bytes that are written, the checks of a layout, and what a file says. All of it renders document 01, Files and the helper.
 -- Assumes nothing.
 use mathlib.Core.Bool.{Bool, _&&_}
 use mathlib.Core.List.{List, [], _∷_, _++_, flatMap}
-use Prim.Native.Nat.{ℕ, _+_, _*_}
+use Prim.Native.Nat.{ℕ, _+_, _*_, _%_}
 use lib.Dec.{leb, eqb}
 use lib.IntN.{ℤ}
 use lib.ListN.{length}
 use Rattle.prelude.specs.Checks.{Check, _unless_}
-use Rattle.network.specs.Network.{Arc, Load, arcOf}
+use Rattle.network.specs.Network.{Arc, Load, arcOf, arcHeld}
+use Rattle.network.specs.declared.Record.{Record}
 use Rattle.format.specs.Bytes.{byteAt, byte16, read16, byte32, readSigned, listTo}
 
 -- ---- what is written
 
--- "The mark DRN", "the mark DRA": 68 is D, 82 is R, and the third letter is N or A.
+-- The marks are DRN of a network and DRA of an annotation: 68 is D, 82 is R, and these are their third letters, N and A.
 abbrev pub networkMark : ℕ
 networkMark = 78
 
 abbrev pub annotationMark : ℕ
 annotationMark = 65
 
--- "The mark .., a 16-bit version 1."
+-- Either file begins with its mark and the version 1 in 16 bits.
 abbrev pub markAndVersion : ℕ → List ℕ
 markAndVersion third = 68 ∷ 82 ∷ third ∷ byte16 1
 
--- "One byte each for question, n, s and t, a 16-bit count."
+-- A network's header goes on with a byte for the question, one for n, one for s and one for t, and the count of records in 16 bits: 11 bytes.
 abbrev pub networkHeader : ℕ → ℕ → ℕ → ℕ → ℕ → List ℕ
 networkHeader question n s t count = markAndVersion networkMark ++ question ∷ n ∷ s ∷ t ∷ byte16 count
 
--- "A claim byte, a 16-bit count."
+-- An annotation's header goes on with a byte for the claim, and the count of records in 16 bits: 8 bytes.
 abbrev pub annotationHeader : ℕ → ℕ → List ℕ
 annotationHeader claim count = markAndVersion annotationMark ++ claim ∷ byte16 count
 
--- "Per record a byte a, a byte b and 16 bits w."
+-- A record of a network: a byte for the tail, one for the head, and the weight in 16 bits.
 abbrev pub arcBytes : Arc → List ℕ
 arcBytes a = a .tail ∷ a .head ∷ byte16 (a .weight)
 
--- "Per record its four bytes and 16 bits x."
+-- A record of an annotation: the four bytes of the arc, and the amount in 16 bits.
 abbrev pub loadBytes : Load → List ℕ
 loadBytes l = arcBytes (l .arc) ++ byte16 (l .amount)
 
--- "A network file is" these.
+-- A whole network file.
 unfoldable pub networkFile : ℕ → ℕ → ℕ → ℕ → List Arc → List ℕ
 networkFile question n s t arcs = networkHeader question n s t (length arcs) ++ flatMap arcBytes arcs
 
--- "An annotation file is" these, with "n node numbers as 32-bit two's complement".
+-- A whole annotation file: between the header and the records stand the node numbers, each as the 32 bits of its two's complement.
 unfoldable pub annotationFile : ℕ → List ℤ → List Load → List ℕ
 annotationFile claim numbers loads = annotationHeader claim (length loads) ++ (flatMap byte32 numbers ++ flatMap loadBytes loads)
+
+-- ---- a record in code
+
+-- A record that the code holds, with an amount.
+abbrev pub loadHeld : Record → ℕ → Load
+loadHeld r x = record { arc = arcHeld r; amount = x }
+
+-- What a file has room for of a record of any size: the low byte, or the low 16 bits, of each field.
+abbrev pub lowArc : Arc → Arc
+lowArc a = arcOf (a .tail % 256) (a .head % 256) (a .weight % 65536)
+
+abbrev pub lowLoad : Load → Load
+lowLoad l = record { arc = lowArc (l .arc); amount = l .amount % 65536 }
 
 -- ---- what a file says
 
@@ -79,7 +93,7 @@ arcAt file i = arcOf (byteAt file i) (byteAt file (i + 1)) (read16 file (i + 2))
 abbrev pub loadAt : List ℕ → ℕ → Load
 loadAt file i = record { arc = arcAt file i; amount = read16 file (i + 4) }
 
--- The arc number e of a network file, and all of them "in file order".
+-- The arc number e of a network file, and all of them in file order.
 abbrev pub arcIn : List ℕ → ℕ → Arc
 arcIn file e = arcAt file (11 + 4 * e)
 
@@ -93,7 +107,7 @@ numberIn file v = readSigned file (8 + 4 * v)
 abbrev pub numbersIn : ℕ → List ℕ → List ℤ
 numbersIn n file = listTo n (numberIn file)
 
--- The load number e of an annotation file with n node numbers, and all of them "in file order".
+-- The load number e of an annotation file with n node numbers, and all of them in file order.
 abbrev pub loadIn : ℕ → List ℕ → ℕ → Load
 loadIn n file e = loadAt file (8 + 4 * n + 6 * e)
 
@@ -102,11 +116,11 @@ loadsIn n file = listTo (annotationCount file) (loadIn n file)
 
 -- ---- the checks of a layout
 
--- "Wrong mark": the first three bytes are D, R and the third letter.
+-- The mark is right: the first three bytes are D, R and the third letter.
 abbrev pub hasMark : ℕ → List ℕ → Bool
 hasMark third file = eqb (byteAt file 0) 68 && eqb (byteAt file 1) 82 && eqb (byteAt file 2) third
 
--- "17: shorter than its header (11 or 8 bytes) or wrong mark. 18: version not 1. 19: length not what n and the count require."
+-- Check 17 asks that the file has all of its header and the right mark, check 18 the version 1, check 19 the size that n and the count give.
 abbrev pub layout : ℕ → ℕ → ℕ → List ℕ → List Check
 layout header third size file =
     17 unless (leb header (length file) && hasMark third file)
@@ -114,7 +128,7 @@ layout header third size file =
     ∷ 19 unless eqb (length file) size
     ∷ []
 
--- "Length not what n and the count require": 11 bytes and 4 for each arc, 8 bytes, 4 for each node number and 6 for each load.
+-- The size of check 19: 11 bytes and 4 for each arc; or 8 bytes, 4 for each node number and 6 for each load.
 abbrev pub networkSize : ℕ → ℕ
 networkSize count = 11 + 4 * count
 

@@ -1,4 +1,4 @@
--- What is promised of the two files; proofs/Promises.antt keeps it.
+-- What is promised of the two files of document 01, Files and the helper; proofs/Promises.antt keeps it.
 -- Assumes nothing.
 use mathlib.Core.Path.{_≡_}
 use mathlib.Core.Logic.{_⊎_}

@@ -3,23 +3,30 @@ ghost use mathlib.Core.Path.{_≡_};
 ghost use Prim.Native.Nat.{_*_};
 ghost use lib.Seq.{sets};
 ghost use Rattle.prelude.specs.Checks.{firstBroken};
-ghost use Rattle.network.specs.Network.{loadOf};
 ghost use Rattle.format.specs.Bytes.{byte32};
-ghost use Rattle.format.specs.Files.{annotationLayout, claimIn, annotationCount, numberIn, loadIn, annotationHeader, loadBytes};
+ghost use Rattle.format.specs.Files.{annotationLayout, claimIn, annotationCount, numberIn, loadIn, annotationHeader, loadHeld, lowLoad, loadBytes};
+use super::arcs::inner_record;
+use super::arcs::put_record;
+use super::arcs::record_at;
+use super::arcs::record_of;
 use super::bytes::byte;
+use super::bytes::bytes_after;
+use super::bytes::inner16;
+use super::bytes::inner32;
+use super::bytes::low16;
 use super::bytes::number16;
 use super::bytes::number32;
 use super::bytes::put_byte;
 use super::bytes::put16;
 use super::bytes::put32;
 use super::layout::layout_check;
+use super::layout::write_mark;
+use network::Record;
 
-// An arc from a to b with the number w and the amount x.
+// An arc with an amount.
 pub struct Loaded {
-    pub a: u32,
-    pub b: u32,
-    pub w: u32,
-    pub x: u32,
+    pub arc: Record,
+    pub amount: u32,
 }
 
 pub fn claim(file: &[u8]) -> u8
@@ -43,39 +50,49 @@ pub fn annotation_check(file: &[u8], n: u8) -> u8
     layout_check(file, 8, b'A', 8 + 4 * numbers + 6 * loads)
 }
 
-// The node number of the vertex v, 0 past the end.
+// The node number of the vertex v, 0 past the end. One that is whole is read with no further test.
 pub fn number(file: &[u8], v: usize) -> i32
     ensures { λ r. ⌜ r ≡ numberIn (now (file .entry)) v ⌝ }
 {
-    if file.len() / 4 < v {
+    let size = file.len();
+    if v < bytes_after(8, size) / 4 {
+        return inner32(file, 8 + 4 * v);
+    }
+    if size / 4 < v {
         return 0;
     }
     number32(file, 8 + 4 * v)
 }
 
-// The load number e of a file with n node numbers, all zeros past the end.
+// The load number e of a file with n node numbers, all zeros past the end. A record that is whole is read with no further test.
 pub fn load(file: &[u8], n: u8, e: usize) -> Loaded
-    ensures { λ r. ⌜ loadOf (r .a) (r .b) (r .w) (r .x) ≡ loadIn n (now (file .entry)) e ⌝ }
+    ensures { λ r. ⌜ loadHeld (r .arc) (r .amount) ≡ loadIn n (now (file .entry)) e ⌝ }
 {
-    if file.len() / 6 < e {
+    let numbers = n as usize;
+    let start = 8 + 4 * numbers;
+    let size = file.len();
+    if e < bytes_after(start, size) / 6 {
+        let at = start + 6 * e;
+        let arc = inner_record(file, at);
+        let amount = inner16(file, at + 4) as u32;
         return Loaded {
-            a: 0,
-            b: 0,
-            w: 0,
-            x: 0,
+            arc: arc,
+            amount: amount,
         };
     }
-    let numbers = n as usize;
-    let at = 8 + 4 * numbers + 6 * e;
-    let a = byte(file, at) as u32;
-    let b = byte(file, at + 1) as u32;
-    let w = number16(file, at + 2) as u32;
-    let x = number16(file, at + 4) as u32;
+    if size / 6 < e {
+        let arc = record_of(0, 0, 0);
+        return Loaded {
+            arc: arc,
+            amount: 0,
+        };
+    }
+    let at = start + 6 * e;
+    let arc = record_at(file, at);
+    let amount = number16(file, at + 4) as u32;
     Loaded {
-        a: a,
-        b: b,
-        w: w,
-        x: x,
+        arc: arc,
+        amount: amount,
     }
 }
 
@@ -83,34 +100,29 @@ pub fn load(file: &[u8], n: u8, e: usize) -> Loaded
 pub fn write_header(buffer: &mut [u8], claim: u8, count: u16)
     ensures { λ _. ⌜ now (buffer .exit) ≡ sets (now (buffer .entry)) 0 (annotationHeader claim count) ⌝ }
 {
-    put_byte(buffer, 0, b'D');
-    put_byte(buffer, 1, b'R');
-    put_byte(buffer, 2, b'A');
-    put16(buffer, 3, 1);
+    write_mark(buffer, b'A');
     put_byte(buffer, 5, claim);
     put16(buffer, 6, count);
 }
 
 // The node number of the vertex v into the part of a file that holds the node numbers.
-pub fn write_number(buffer: &mut [u8], v: usize, z: i32)
-    ensures { λ _. ⌜ now (buffer .exit) ≡ sets (now (buffer .entry)) (4 * v) (byte32 z) ⌝ }
+pub fn write_number(part: &mut [u8], v: usize, z: i32)
+    ensures { λ _. ⌜ now (part .exit) ≡ sets (now (part .entry)) (4 * v) (byte32 z) ⌝ }
 {
-    if buffer.len() / 4 < v {
+    if part.len() / 4 < v {
         return;
     }
-    put32(buffer, 4 * v, z);
+    put32(part, 4 * v, z);
 }
 
-// The load number e into the part of a file that holds the loads.
-pub fn write_load(buffer: &mut [u8], e: usize, a: u8, b: u8, w: u16, x: u16)
-    ensures { λ _. ⌜ now (buffer .exit) ≡ sets (now (buffer .entry)) (6 * e) (loadBytes (loadOf a b w x)) ⌝ }
+// The load number e into the part of a file that holds the loads. Of a field that is too large the low bytes are written.
+pub fn write_load(part: &mut [u8], e: usize, arc: Record, amount: u32)
+    ensures { λ _. ⌜ now (part .exit) ≡ sets (now (part .entry)) (6 * e) (loadBytes (lowLoad (loadHeld arc amount))) ⌝ }
 {
-    if buffer.len() / 6 < e {
+    if part.len() / 6 < e {
         return;
     }
     let at = 6 * e;
-    put_byte(buffer, at, a);
-    put_byte(buffer, at + 1, b);
-    put16(buffer, at + 2, w);
-    put16(buffer, at + 4, x);
+    put_record(part, at, arc);
+    put16(part, at + 4, low16(amount));
 }

@@ -1,8 +1,11 @@
 // Bytes and numbers at an index of a slice, read and written. Past the end a byte reads as 0, and nothing is written.
 ghost use mathlib.Core.Path.{_≡_};
-ghost use lib.ListN.{set};
+ghost use Prim.Native.Nat.{_+_, _-_, _%_, _≤_};
+ghost use lib.ListN.{length, set};
 ghost use lib.Seq.{sets};
-ghost use Rattle.format.specs.Bytes.{byteAt, byte16, read16, patternOf, signedOf, byte32, readSigned};
+ghost use Rattle.format.specs.Bytes.{byteAt, joined16, joined32, byte16, read16, read32, patternOf, signedOf, byte32, readSigned};
+
+// ---- reading
 
 // The byte at i.
 pub fn byte(file: &[u8], i: usize) -> u8
@@ -14,6 +17,20 @@ pub fn byte(file: &[u8], i: usize) -> u8
     file[i]
 }
 
+// Two bytes as one number.
+pub fn joined16(high: u8, low: u8) -> u16
+    ensures { λ r. ⌜ r ≡ joined16 high low ⌝ }
+{
+    256 * (high as u16) + (low as u16)
+}
+
+// Two numbers of 16 bits as one.
+pub fn joined32(high: u16, low: u16) -> u32
+    ensures { λ r. ⌜ r ≡ joined32 high low ⌝ }
+{
+    65536 * (high as u32) + (low as u32)
+}
+
 // The number of 16 bits at i.
 pub fn number16(file: &[u8], i: usize) -> u16
     ensures { λ r. ⌜ r ≡ read16 (now (file .entry)) i ⌝ }
@@ -21,9 +38,17 @@ pub fn number16(file: &[u8], i: usize) -> u16
     if file.len() <= i {
         return 0;
     }
-    let high = byte(file, i) as u16;
-    let low = byte(file, i + 1) as u16;
-    256 * high + low
+    joined16(byte(file, i), byte(file, i + 1))
+}
+
+// The 32 bits at i.
+pub fn bits32(file: &[u8], i: usize) -> u32
+    ensures { λ r. ⌜ r ≡ read32 (now (file .entry)) i ⌝ }
+{
+    if file.len() <= i {
+        return 0;
+    }
+    joined32(number16(file, i), number16(file, i + 2))
 }
 
 // The number that 32 bits stand for. Of a negative one the bits other than these are a number of 31.
@@ -40,13 +65,38 @@ fn signed(k: u32) -> i32
 pub fn number32(file: &[u8], i: usize) -> i32
     ensures { λ r. ⌜ r ≡ readSigned (now (file .entry)) i ⌝ }
 {
-    if file.len() <= i {
+    signed(bits32(file, i))
+}
+
+// ---- reading where all bytes are within the slice, with no test
+
+// The number of 16 bits at i.
+pub(crate) fn inner16(file: &[u8], i: usize) -> u16
+    requires { ⌜ i + 2 ≤ length (now file) ⌝ }
+    ensures { λ r. ⌜ r ≡ read16 (now (file .entry)) i ⌝ }
+{
+    joined16(file[i], file[i + 1])
+}
+
+// The number of 32 bits at i.
+pub(crate) fn inner32(file: &[u8], i: usize) -> i32
+    requires { ⌜ i + 4 ≤ length (now file) ⌝ }
+    ensures { λ r. ⌜ r ≡ readSigned (now (file .entry)) i ⌝ }
+{
+    signed(joined32(inner16(file, i), inner16(file, i + 2)))
+}
+
+// How many of size bytes follow the first start.
+pub(crate) fn bytes_after(start: usize, size: usize) -> usize
+    ensures { λ r. ⌜ r ≡ size - start ⌝ }
+{
+    if size < start {
         return 0;
     }
-    let high = number16(file, i) as u32;
-    let low = number16(file, i + 2) as u32;
-    signed(65536 * high + low)
+    size - start
 }
+
+// ---- writing
 
 // The 32 bits that stand for z.
 fn pattern(z: i32) -> u32
@@ -56,6 +106,20 @@ fn pattern(z: i32) -> u32
         return !(!z as u32);
     }
     z as u32
+}
+
+// The low byte of a number.
+pub(crate) fn low8(k: u32) -> u8
+    ensures { λ r. ⌜ r ≡ k % 256 ⌝ }
+{
+    (k % 256) as u8
+}
+
+// The low 16 bits of a number.
+pub(crate) fn low16(k: u32) -> u16
+    ensures { λ r. ⌜ r ≡ k % 65536 ⌝ }
+{
+    (k % 65536) as u16
 }
 
 pub fn put_byte(buffer: &mut [u8], i: usize, b: u8)

@@ -1,9 +1,12 @@
-// Checks 17, 18 and 19 of either file.
+// What begins either file: its mark and its version, written, and checked with its length (checks 17, 18 and 19).
 ghost use mathlib.Core.Path.{_≡_};
+ghost use lib.Seq.{sets};
 ghost use Rattle.prelude.specs.Checks.{firstBroken};
-ghost use Rattle.format.specs.Files.{layout};
+ghost use Rattle.format.specs.Files.{layout, markAndVersion};
 use super::bytes::byte;
 use super::bytes::number16;
+use super::bytes::put_byte;
+use super::bytes::put16;
 
 // 0, or the number of the first check that refuses the file, whose mark ends in the letter third.
 pub fn layout_check(file: &[u8], header: usize, third: u8, size: usize) -> u8
@@ -28,4 +31,14 @@ pub fn layout_check(file: &[u8], header: usize, third: u8, size: usize) -> u8
         return 19;
     }
     0
+}
+
+// The mark that ends in the letter third, and the version 1: five bytes.
+pub(crate) fn write_mark(buffer: &mut [u8], third: u8)
+    ensures { λ _. ⌜ now (buffer .exit) ≡ sets (now (buffer .entry)) 0 (markAndVersion third) ⌝ }
+{
+    put_byte(buffer, 0, b'D');
+    put_byte(buffer, 1, b'R');
+    put_byte(buffer, 2, third);
+    put16(buffer, 3, 1);
 }

@@ -1,18 +1,22 @@
-// A network file: its layout, its header and its arcs.
+// A network file: its layout, its header and its arcs, read and written.
 ghost use mathlib.Core.Path.{_≡_};
+ghost use Prim.Native.Nat.{_*_};
+ghost use lib.Seq.{sets};
 ghost use Rattle.prelude.specs.Checks.{firstBroken};
-ghost use Rattle.network.specs.Network.{arcOf};
-ghost use Rattle.format.specs.Files.{networkLayout, questionIn, nIn, sIn, tIn, countIn, arcIn};
+ghost use Rattle.network.specs.Network.{arcHeld};
+ghost use Rattle.format.specs.Files.{networkLayout, questionIn, nIn, sIn, tIn, countIn, arcIn, networkHeader, arcBytes, lowArc};
+use super::arcs::inner_record;
+use super::arcs::put_record;
+use super::arcs::record_at;
+use super::arcs::record_of;
 use super::bytes::byte;
+use super::bytes::bytes_after;
 use super::bytes::number16;
+use super::bytes::put_byte;
+use super::bytes::put16;
 use super::layout::layout_check;
-
-// An arc from a to b with the number w.
-pub struct Record {
-    pub a: u8,
-    pub b: u8,
-    pub w: u16,
-}
+use super::layout::write_mark;
+use network::Record;
 
 pub fn question(file: &[u8]) -> u8
     ensures { λ r. ⌜ r ≡ questionIn (now (file .entry)) ⌝ }
@@ -52,16 +56,38 @@ pub fn network_check(file: &[u8]) -> u8
     layout_check(file, 11, b'N', 11 + 4 * arcs)
 }
 
-// The arc number e, all zeros past the end.
+// The arc number e, all zeros past the end. A record that is whole is read with no further test.
 pub fn arc(file: &[u8], e: usize) -> Record
-    ensures { λ r. ⌜ arcOf (r .a) (r .b) (r .w) ≡ arcIn (now (file .entry)) e ⌝ }
+    ensures { λ r. ⌜ arcHeld r ≡ arcIn (now (file .entry)) e ⌝ }
 {
-    if file.len() / 4 < e {
-        return Record { a: 0, b: 0, w: 0 };
+    let size = file.len();
+    if e < bytes_after(11, size) / 4 {
+        return inner_record(file, 11 + 4 * e);
     }
-    let at = 11 + 4 * e;
-    let a = byte(file, at);
-    let b = byte(file, at + 1);
-    let w = number16(file, at + 2);
-    Record { a: a, b: b, w: w }
+    if size / 4 < e {
+        return record_of(0, 0, 0);
+    }
+    record_at(file, 11 + 4 * e)
+}
+
+// The eleven bytes of the header.
+pub fn write_header(buffer: &mut [u8], question: u8, n: u8, s: u8, t: u8, count: u16)
+    ensures { λ _. ⌜ now (buffer .exit) ≡ sets (now (buffer .entry)) 0 (networkHeader question n s t count) ⌝ }
+{
+    write_mark(buffer, b'N');
+    put_byte(buffer, 5, question);
+    put_byte(buffer, 6, n);
+    put_byte(buffer, 7, s);
+    put_byte(buffer, 8, t);
+    put16(buffer, 9, count);
+}
+
+// The arc number e into the part of a file that holds the arcs. Of a field that is too large the low bytes are written.
+pub fn write_arc(part: &mut [u8], e: usize, arc: Record)
+    ensures { λ _. ⌜ now (part .exit) ≡ sets (now (part .entry)) (4 * e) (arcBytes (lowArc (arcHeld arc))) ⌝ }
+{
+    if part.len() / 4 < e {
+        return;
+    }
+    put_record(part, 4 * e, arc);
 }

@@ -29,11 +29,11 @@ pub(crate) fn setting(net: &[u8]) -> Setting
 }
 
 // 0, or the number of the first check that refuses the arc after e others: 6, 7 or 8.
-fn record_check(st: Setting, e: usize, a: u8, b: u8, w: u16) -> u8
+fn record_check(st: Setting, e: usize, a: u32, b: u32, w: u32) -> u8
     ensures { λ r. ⌜ r ≡ firstBroken (readRule (asked st) e (arcOf a b w)) ⌝ }
 {
     if e < 4096 {
-        return arc_check(st, a as u32, b as u32, w as u32);
+        return arc_check(st, a, b, w);
     }
     6
 }
@@ -46,7 +46,7 @@ fn records_check(st: Setting, net: &[u8]) -> u8
     let mut e = 0;
     while e < m {
         let arc = network_file::arc(net, e);
-        let why = record_check(st, e, arc.a, arc.b, arc.w);
+        let why = record_check(st, e, arc.tail, arc.head, arc.weight);
         if why != 0 {
             return why;
         }

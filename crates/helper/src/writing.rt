@@ -19,10 +19,7 @@ fn word(net: &[u8], e: usize) -> u32
     ensures { λ r. ⌜ recordArc r ≡ arcIn (now (net .entry)) e ⌝ }
 {
     let arc = network_file::arc(net, e);
-    let a = arc.a as u32;
-    let b = arc.b as u32;
-    let w = arc.w as u32;
-    a * 16777216 + b * 65536 + w
+    arc.tail * 16777216 + arc.head * 65536 + arc.weight
 }
 
 // The records of the file, as many as there is room for.
@@ -54,7 +51,7 @@ fn write_loads(part: &mut [u8], net: &[u8], amounts: &[u16])
     let mut e = 0;
     while e < amounts.len() {
         let arc = network_file::arc(net, e);
-        annotation_file::write_load(part, e, arc.a, arc.b, arc.w, amounts[e]);
+        annotation_file::write_load(part, e, arc, amounts[e] as u32);
         e += 1;
     }
 }

@@ -22,7 +22,7 @@ pub(crate) fn read_all(x: State, file: &[u8]) -> Turn
     let mut e = 0;
     while e < m {
         let arc = network_file::arc(file, e);
-        let turn = y.read_channel(arc.a as u32, arc.b as u32, arc.w as u32);
+        let turn = y.read_channel(arc.tail, arc.head, arc.weight);
         let why = turn.why;
         if why != 0 {
             return turn;
@@ -69,12 +69,12 @@ fn repeat_all(
     let mut e = 0;
     while e < m {
         let l = annotation_file::load(file, n, e);
-        let turn = y.repeat_channel(potentials, l.a, l.b, l.w, l.x);
+        let turn = y.repeat_channel(potentials, l.arc.tail, l.arc.head, l.arc.weight, l.amount);
         let why = turn.why;
         if why != 0 {
             return turn;
         }
-        move_amount(balances, l.a, l.b, l.x);
+        move_amount(balances, l.arc.tail, l.arc.head, l.amount);
         y = turn.state;
         e += 1;
     }

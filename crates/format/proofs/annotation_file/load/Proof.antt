@@ -1,6 +1,5 @@
 -- `format::annotation_file::load` meets its contract.
 -- Assumes nothing.
-use mathlib.Core.Path.{sym}
 use Prim.Native.Nat.{_+_, _*_}
 use native.Mathlib.Omega.{arith}
 use borrow.Author.Needs.{needs}
@@ -12,9 +11,6 @@ pub load-spec : {M : Type 1} → statement M
 load-spec =
     tie.close
     (tie.spec
-    (λ c. let a = c .before .before .args in sym (load-past (a .file .now) (8 + 4 * a .n + 6 * a .e) (omega arith)))
-    (λ c. search needs)
-    (λ c. search needs)
     (λ c. search needs)
     (λ c. search needs)
     (λ c κs. search needs)
@@ -22,9 +18,14 @@ load-spec =
     (λ c. search needs)
     (λ c κs. search needs)
     (λ c. search needs)
-    (λ c. search needs)
     (λ c κs. search needs)
     (λ c. search needs)
+    (λ c. cc)
+    (λ c κs. search needs)
+    (λ c. let a = c .before .before .before .before .before .args in cc (load-past (a .file .now) (8 + 4 * a .n + 6 * a .e) (omega arith)))
+    (λ c. search needs)
+    (λ c. search needs)
+    (λ c κs. search needs)
     (λ c. search needs)
     (λ c κs. search needs)
     (λ c. search needs)

@@ -12,7 +12,12 @@ pub number-spec : {M : Type 1} → statement M
 number-spec =
     tie.close
     (tie.spec
-    (λ c. sym (signed-past (c .before .before .args .file .now) (8 + 4 * c .before .before .args .v) (omega arith)))
+    (λ c κs. search needs)
+    (λ c. search needs)
+    (λ c. search needs)
+    (λ c κs. search needs)
+    (λ c. search needs)
+    (λ c. let a = c .before .before .before .before .args in sym (signed-past (a .file .now) (8 + 4 * a .v) (omega arith)))
     (λ c. search needs)
     (λ c. search needs)
     (λ c κs. search needs)

@@ -16,8 +16,8 @@ pub write-number-spec : {M : Type 1} → statement M
 write-number-spec =
     tie.close
     (tie.spec
-    (λ c. sets-past (c .before .before .args .buffer .now) (4 * c .before .before .args .v) (byte32 (c .before .before .args .z)) (omega arith))
+    (λ c. sets-past (c .before .before .args .part .now) (4 * c .before .before .args .v) (byte32 (c .before .before .args .z)) (omega arith))
     (λ c. search needs)
     (λ c κs. search needs)
     (λ c. search needs)
-    (λ c. let s = c .before .before .before .before .before .before in c .before .before .put32 .ensures ∙ ap (λ (z : ℤ). sets (s .args .buffer .now) (4 * s .args .v) (byte32 z)) (toZ-ofZ (s .fits .z))))
+    (λ c. let s = c .before .before .before .before .before .before in c .before .before .put32 .ensures ∙ ap (λ (z : ℤ). sets (s .args .part .now) (4 * s .args .v) (byte32 z)) (toZ-ofZ (s .fits .z))))

@@ -1,11 +1,10 @@
 -- `format::bytes::put16` meets its contract.
 -- Assumes nothing.
-use mathlib.Core.List.{[], _∷_}
-use Prim.Native.Nat.{_+_, _/_, _%_}
+use native.Mathlib.Numerals.{add-one}
 use native.Mathlib.Omega.{arith}
 use borrow.Author.Needs.{needs}
 use Rattle.format.specs.Bytes.{byte16}
-use Rattle.format.proofs.Writing.{sets-past, then-sets}
+use Rattle.format.proofs.Writing.{sets-past}
 use Rattle.format.proofs.bytes.put16.Statement.{statement}
 use Rattle.format.proofs.bytes.put16.Tie as tie
 
@@ -20,6 +19,4 @@ put16-spec =
     (λ c. search needs)
     (λ c κs. search needs)
     (λ c. search needs)
-    (λ c.
-    let s = c .before .before .before .before .before .before .before .before .before .before .args in
-    then-sets (s .buffer .now) (s .i) (s .v / 256 ∷ []) (s .v % 256 ∷ []) (s .i + 1) (c .before .before .before .before .before .before .put-byte .ensures) (omega arith) (c .before .before .put-byte2 .ensures)))
+    (λ c. cc (add-one (c .before .before .before .before .before .before .before .before .before .before .args .i))))

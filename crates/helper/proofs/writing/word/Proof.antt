@@ -6,6 +6,7 @@ use native.Mathlib.Omega.{arith}
 use borrow.Author.Needs.{needs}
 use Rattle.network.specs.Network.{arcOf}
 use Rattle.solver.specs.Certify.{recordArc}
+use Rattle.format.proofs.Reading.{arc-fits}
 use Rattle.helper.proofs.writing.word.Statement.{statement}
 use Rattle.helper.proofs.writing.word.Tie as tie
 
@@ -27,11 +28,11 @@ word-spec =
     tie.close
     (tie.spec
     (λ c κs. search needs)
-    (λ c. search needs)
-    (λ c. search needs)
-    (λ c. search needs)
-    (λ c. search needs)
-    (λ c. search needs)
-    (λ c. search needs)
-    (λ c. search needs)
-    (λ c. unpacked _ _ _ (search needs) (search needs) (search needs) ∙ c .before .before .before .arc .ensures))
+    (λ c. let w = arc-fits (c .before .before .before .args .net .now) (λ i. c .before .before .shared-slice-known .given i .fits) _ (c .before .arc .ensures) in omega arith)
+    (λ c. let w = arc-fits (c .before .before .before .before .args .net .now) (λ i. c .before .before .before .shared-slice-known .given i .fits) _ (c .before .before .arc .ensures) in omega arith)
+    (λ c. let w = arc-fits (c .before .before .before .before .args .net .now) (λ i. c .before .before .before .shared-slice-known .given i .fits) _ (c .before .before .arc .ensures) in omega arith)
+    (λ c. let w = arc-fits (c .before .before .before .before .before .args .net .now) (λ i. c .before .before .before .before .shared-slice-known .given i .fits) _ (c .before .before .before .arc .ensures) in omega arith)
+    (λ c.
+    let found = c .before .before .before .arc in
+    let w = arc-fits (c .before .before .before .before .before .args .net .now) (λ i. c .before .before .before .before .shared-slice-known .given i .fits) _ (found .ensures) in
+    unpacked _ _ _ (w .tail) (w .head) (w .weight) ∙ found .ensures))

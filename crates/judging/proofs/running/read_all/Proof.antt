@@ -29,23 +29,23 @@ loop-holds c =
 
 returns : tie.Need-returns Inv-loop μ-loop
 returns c =
-    let s = c .before .before .before .before .before .before .before .before .before .before .args in
-    let asked = c .before .before .before .before .before .before .before .before .count in
-    let l = c .before .before .before .before .before .before .before .loop in
+    let s = c .before .before .before .before .before .before .before .args in
+    let asked = c .before .before .before .before .before .count in
+    let l = c .before .before .before .before .loop in
     let turn = c .before .read-channel in
     let y = joined zeros zeros (l .y) in
     subst (λ (m : ℕ). Goes (joined zeros zeros (s .x)) (map read (listTo m (arcIn (s .file .now)))) (turn .result .why) (joined zeros zeros (turn .result .state))) (asked .ensures)
-    (gone read (arcIn (s .file .now)) (joined zeros zeros (s .x)) (asked .result) y (l .e) (l .inv) (c .before .before .before .before .before .before .loop-test .taken) (turn .result .why) _
-    (read-refused y (arcIn (s .file .now) (l .e)) (turn .result) (turn .ensures ∙ ap (readTurn (l .y)) (c .before .before .before .before .before .arc .ensures)) (c .if1 .taken)) (c .if1 .taken))
+    (gone read (arcIn (s .file .now)) (joined zeros zeros (s .x)) (asked .result) y (l .e) (l .inv) (c .before .before .before .loop-test .taken) (turn .result .why) _
+    (read-refused y (arcIn (s .file .now) (l .e)) (turn .result) (turn .ensures ∙ ap (readTurn (l .y)) (c .before .before .arc .ensures)) (c .if1 .taken)) (c .if1 .taken))
 
 loop-again : tie.Need-loop-again Inv-loop μ-loop
 loop-again c =
-    let s = c .before .before .before .before .before .before .before .before .before .before .before .args in
-    let l = c .before .before .before .before .before .before .before .before .loop in
+    let s = c .before .before .before .before .before .before .before .before .args in
+    let l = c .before .before .before .before .before .loop in
     let turn = c .before .before .read-channel in
     let y = joined zeros zeros (l .y) in
-    going-on read (arcIn (s .file .now)) (joined zeros zeros (s .x)) (c .before .before .before .before .before .before .before .before .before .count .result) y (l .e) (l .inv) (c .before .before .before .before .before .before .before .loop-test .taken) _
-    (read-accepted y (arcIn (s .file .now) (l .e)) (turn .result) (turn .ensures ∙ ap (readTurn (l .y)) (c .before .before .before .before .before .before .arc .ensures)) (c .before .if1 .left))
+    going-on read (arcIn (s .file .now)) (joined zeros zeros (s .x)) (c .before .before .before .before .before .before .count .result) y (l .e) (l .inv) (c .before .before .before .before .loop-test .taken) _
+    (read-accepted y (arcIn (s .file .now) (l .e)) (turn .result) (turn .ensures ∙ ap (readTurn (l .y)) (c .before .before .before .arc .ensures)) (c .before .if1 .left))
 
 returns-2 : tie.Need-returns-2 Inv-loop μ-loop
 returns-2 c =
@@ -64,12 +64,9 @@ read-all-spec =
     (λ c. search needs)
     loop-holds
     (λ c κs. search needs)
-    (λ c. search needs)
-    (λ c. search needs)
-    (λ c. search needs)
     (λ c κs. search needs)
     returns
     (λ c. search needs)
-    (λ c. omega (arith, c .before .before .before .before .before .before .before .loop-test .taken))
+    (λ c. omega (arith, c .before .before .before .before .loop-test .taken))
     loop-again
     returns-2)
