@@ -1,34 +1,29 @@
--- A run of a session is the run of its trace: what its steps answer depends on the point only where two lists of arcs are compared at it.
+-- A run of a session is the run of the lists that it has accepted: what its steps answer depends on the point only where two lists of arcs are compared at it.
 -- Assumes nothing.
 use mathlib.Core.Path.{_≡_, refl, _∙_, ap, ap₂}
-use mathlib.Core.Bool.{Bool}
 use mathlib.Core.List.{List, [], _∷_}
-use Prim.Native.Nat.{ℕ}
 use native.Mathlib.Omega.{arith}
 use lib.Dec.{lt→ltb}
-use Rattle.prelude.specs.Checks.{Hold}
-use Rattle.prelude.proofs.Settle.{settled}
-use Rattle.field.specs.Field.{p, product}
-use Rattle.network.specs.Network.{Arc}
-use Rattle.network.specs.Question.{Opened, value, none}
-use Rattle.network.specs.Tests.{settingOf}
-use Rattle.network.proofs.Allowed.{size-test, ends-test}
-use Rattle.checks.specs.declared.Setting.{Setting as Held}
-use Rattle.checks.specs.Setting.{asked}
-use Rattle.session.specs.Print.{Point, printOf, samePrint}
-use Rattle.session.specs.Session.{Said, accepted, gives, refused, said, emptyStream, holding, void, hand, accept}
-use Rattle.session.specs.Steps.{openChecks, opening}
-use Rattle.session.specs.declared.Answer.the-variants.{Refused}
+use Rattle.prelude.specs.Checks.{_unless_, Hold}
+use Rattle.prelude.proofs.Settle.{settled, hold-append}
+use Rattle.network.specs.Question.{Setting, Opened, value, none}
+use Rattle.network.specs.Tests.{openingChecks}
+use Rattle.network.proofs.Allowed.{opening-test}
+use Rattle.points.specs.Points.{pointOk}
+use Rattle.points.specs.declared.Point.{Point}
+use Rattle.points.specs.declared.Print.{Print}
+use Rattle.points.proofs.Prints.{print-none}
+use Rattle.state.specs.Answers.{Said, accepted, gives, refused, said}
+use Rattle.state.specs.State.{held, openChecks, opened}
+use Rattle.state.specs.declared.Answer.the-variants.{Refused}
+use Rattle.session.specs.Session.{joined, zeros, holding, void, hand, accept}
+use Rattle.session.specs.Steps.{opening}
 use Rattle.session.specs.declared.Reply.{Reply}
 use Rattle.runs.specs.Run.{Step, run, runFrom}
-use Rattle.runs.specs.Exchange.{Open}
-use Rattle.runs.proofs.Trace.{Trace, during, view, next, reply, replies}
-use Rattle.runs.proofs.Good.{Good, good-next}
-use Rattle.runs.proofs.View.{told, steps-agree}
-
--- do two lists of arcs agree at the point?
-abbrev pub agreeAt : Point → List Arc → List Arc → Bool
-agreeAt r l m = samePrint (printOf r l) (printOf r m)
+use Rattle.runs.specs.Exchange.{Opens}
+use Rattle.runs.proofs.AcceptedLists.{AcceptedLists, during, sessionOf, next, reply, replies}
+use Rattle.runs.proofs.Invariant.{Invariant, invariant-next}
+use Rattle.runs.proofs.StepsAgree.{told, agreeAt, steps-agree}
 
 said-told : (a : Said) → said (told a) ≡ a
 said-told accepted = refl
@@ -36,21 +31,22 @@ said-told (gives (value v)) = refl
 said-told (gives none) = refl
 said-told (refused k) = refl
 
-run-as-trace : (held : Held) (r : Point) → Opened (asked held) → (tr : Trace) → Good (asked held) tr → (steps : List Step)
-    → run (view held r tr) steps ≡ replies (agreeAt r) (asked held) tr steps
+run-agrees : (st : Setting) (r : Point) → Opened st → (x : AcceptedLists) → Invariant st x → (steps : List Step)
+    → run (sessionOf st r x) steps ≡ replies (agreeAt r) st x steps
 unfolding run replies
-run-as-trace held r o tr g [] = refl
-run-as-trace held r o tr g (a ∷ steps) =
-    ap (λ (x : Reply). said (x .answer) ∷ run (x .session) steps) (steps-agree held r tr o g a)
-    ∙ ap₂ _∷_ (said-told (reply (agreeAt r) (asked held) tr a)) (run-as-trace held r o (next (asked held) tr a) (good-next (asked held) tr g a) steps)
+run-agrees st r o x g [] = refl
+run-agrees st r o x g (a ∷ steps) =
+    ap (λ (y : Reply). said (y .answer) ∷ run (y .session) steps) (steps-agree st r x o g a)
+    ∙ ap₂ _∷_ (said-told (reply (agreeAt r) st x a)) (run-agrees st r o (next st x a) (invariant-next st x g a) steps)
 
-open-holds : (q n s t : ℕ) (r : Point) → Open q n s t r → Hold (openChecks q n s t r)
-open-holds q n s t r h = (h .question, (size-test (settingOf q n s t) (h .opened .sized), (ends-test (settingOf q n s t) (h .opened .ends), (lt→ltb r p (h .point), tt))))
+opens-held : (st : Setting) (r : Point) → Opens st r → Hold (openChecks st r)
+opens-held st r h = hold-append (openingChecks st) (4 unless pointOk r ∷ []) (opening-test st (h .opened)) (lt→ltb _ _ (h .point), tt)
 
 -- what opening hands back where it accepts is the session of the empty lists
-pub runs-as-trace : (q n s t : ℕ) (r : Point) → Open q n s t r → (steps : List Step) → runFrom q n s t r steps ≡ replies (agreeAt r) (settingOf q n s t) (during []) steps
-unfolding opening product
-runs-as-trace q n s t r h steps =
+pub runs-agree : (st : Setting) (r : Point) → Opens st r → (steps : List Step) → runFrom st r steps ≡ replies (agreeAt r) st (during []) steps
+unfolding opening
+runs-agree st r h steps =
     ap (λ (x : Reply). run (x .session) steps)
-    (settled (λ why. hand void (Refused why)) (openChecks q n s t r) (accept (holding 1 (record { question = q; n = n; s = s; t = t }) r emptyStream)) (open-holds q n s t r h))
-    ∙ run-as-trace (record { question = q; n = n; s = s; t = t }) r (h .opened) (during []) (record { allowed = tt; few = omega arith }) steps
+    (settled (λ why. hand void (Refused why)) (openChecks st r) (accept (joined zeros zeros (opened st r))) (opens-held st r h))
+    ∙ ap (λ (p : Print). run (holding 1 (held st) r (record { count = 0; print = p })) steps) (print-none r)
+    ∙ run-agrees st r (h .opened) (during []) (record { allowed = tt; few = omega arith }) steps

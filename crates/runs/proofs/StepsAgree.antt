@@ -2,40 +2,42 @@
 -- Assumes nothing.
 use mathlib.Core.Path.{_≡_, refl, sym, _∙_, ap, ap₂}
 use mathlib.Core.Bool.{Bool, true, false}
-use mathlib.Core.List.{List, [], _∷_, _++_, map}
+use mathlib.Core.List.{List, [], _∷_, _++_}
 use Prim.Native.Nat.{ℕ, _*_, _≤_, _<_}
 use native.Mathlib.Omega.{arith}
-use lib.Dec.{eqb, leb, ltb, leb→le, ltb→lt}
+use lib.Dec.{eqb, leb, leb→le, ltb→lt}
 use lib.IntN.{ℤ, pos}
 use lib.ListN.{length, set, length-append, length-map}
 use Rattle.prelude.specs.Checks.{Check, _unless_, settle, Hold}
 use Rattle.prelude.specs.Choice.{pick, indicator}
-use Rattle.words.specs.Bounded.{boundedSum}
-use Rattle.prelude.specs.Lists.{Every, at}
+use Rattle.prelude.specs.Lists.{Every, listTo, at}
 use Rattle.prelude.proofs.Lists.{every-map}
-use Rattle.field.specs.Field.{product, fingerprint}
-use Rattle.field.proofs.Step.{fingerprint-snoc}
-use Rattle.network.specs.Network.{Arc, key, Load, arcs, sumOf, balance, cost, crosses, cut}
-use Rattle.network.specs.Question.{Question, shortestPath, maximumFlow, assignment, Setting, Opened}
-use Rattle.network.specs.Certificate.{marked}
-use Rattle.network.specs.Tests.{Claim, ofValue, ofNone, claimOf, claimOk, mostFor, arcChecks, amountOk, ruleOk, Sums, balancesOk, sumsOk, answerOf}
+use Rattle.words.specs.Bounded.{boundedSum}
+use Rattle.network.specs.Limits.{mostVertices, mostArcs}
+use Rattle.network.specs.Network.{Arc, Load, arcs, sumOf, balance, crosses, sumAcross}
+use Rattle.network.specs.Question.{Setting, asks, unitCost, unitsMost, Opened}
+use Rattle.network.specs.Certificate.{marked, Sums, rulesOf}
+use Rattle.network.specs.Tests.{readingChecks, claimOf, claimingChecks, Numbers, numberingChecks, repeatingChecks, balancesOk, sumsOk, finishingChecks, answerOf}
 use Rattle.network.proofs.Append.{arcs-snoc}
-use Rattle.checks.specs.declared.Setting.{Setting as Held}
-use Rattle.checks.specs.Setting.{asked, sumsHeld}
-use Rattle.session.specs.Print.{Point, printOf, samePrint}
-use Rattle.session.specs.Session.{Said, accepted, gives, refused, answered, extendStream, joined, holding, void, withState, hand, accept, refuse}
-use Rattle.session.specs.Steps.{withRead, withClaim, withNumber, moved, withRepeat, repeatChecks, finishChecks, readStep, endStep, claimStep, numberStep, repeatStep, finishStep}
-use Rattle.session.specs.declared.Answer.{Answer}
-use Rattle.session.specs.declared.Answer.the-variants.{Accepted, Refused}
+use Rattle.points.specs.Points.{printOf, samePrint}
+use Rattle.points.specs.declared.Point.{Point}
+use Rattle.points.proofs.Prints.{print-none, print-more}
+use Rattle.state.specs.Answers.{Said, accepted, gives, refused, answered}
+use Rattle.state.specs.Arrays.{moved}
+use Rattle.state.specs.State.{extendStream, stateOf, held, numbersHeld, withRead, withClaim, withNumber, withRepeat}
+use Rattle.state.specs.declared.Answer.{Answer}
+use Rattle.state.specs.declared.Answer.the-variants.{Accepted, Refused}
+use Rattle.session.specs.Session.{potentialsIn, sumsIn, joined, holding, void, withState, hand, accept, refuse}
+use Rattle.session.specs.Steps.{readStep, endStep, claimStep, numberStep, repeatStep, finishStep}
 use Rattle.session.specs.declared.Reply.{Reply}
 use Rattle.session.specs.declared.Session.{Session}
 use Rattle.runs.specs.Run.{Step, read, end, claim, number, repeat, finish, step}
-use Rattle.runs.specs.Exchange.{readRule, numberRule, repeatRule, sumsAt, finishRule}
-use Rattle.runs.proofs.Trace.{Trace, closed, during, after, certifying, stream, table, wordsOf, view, stays, next, reply}
-use Rattle.runs.proofs.Words.{marks-more, marks-same}
-use Rattle.runs.proofs.Tables.{zeros, at-list, list-more}
-use Rattle.runs.proofs.Totals.{Light, balances-at, balances-more, cost-more, cut-more}
-use Rattle.runs.proofs.Good.{Fine, Checked, Good, none-yet, repeat-fine}
+use Rattle.runs.specs.Exchange.{numbersOf, sumsAt}
+use Rattle.runs.proofs.AcceptedLists.{AcceptedLists, closed, during, after, certifying, streamOf, marksOf, sessionOf, afterRefusal, next, reply}
+use Rattle.runs.proofs.MarkWords.{marks-more, marks-same}
+use Rattle.runs.proofs.VertexArrays.{all-zero, at-list, list-more}
+use Rattle.runs.proofs.RepeatedSums.{WithinLimits, units-within, balances-at, balances-more, cost-more, cut-more}
+use Rattle.runs.proofs.Invariant.{LoadPassed, AnnotationPassed, Invariant, none-yet, repeat-passed}
 
 -- the answer that says it
 abbrev pub told : Said → Answer
@@ -43,29 +45,25 @@ told accepted = Accepted
 told (gives a) = answered a
 told (refused k) = Refused k
 
+-- do two lists of arcs agree at the point?
+abbrev pub agreeAt : Point → List Arc → List Arc → Bool
+agreeAt r l m = samePrint (printOf r l) (printOf r m)
+
 -- ---- one more
 
-stream-more : (r : Point) (l : List Arc) (e : Arc) → extendStream r (stream r l) e ≡ stream r (l ++ e ∷ [])
-stream-more r l e = λ i. record { count = sym (length-append l (e ∷ [])) i; fingerprint = (sym (fingerprint-snoc r (key e) (map key l)) ∙ ap (fingerprint r) (sym (keys-snoc l))) i }
-  where
-    keys-snoc : (l : List Arc) → map key (l ++ e ∷ []) ≡ map key l ++ key e ∷ []
-    keys-snoc [] = refl
-    keys-snoc (d ∷ l) = ap (λ (ks : List ℕ). key d ∷ ks) (keys-snoc l)
+stream-more : (r : Point) (l : List Arc) (e : Arc) → extendStream r (streamOf r l) e ≡ streamOf r (l ++ e ∷ [])
+stream-more r l e = λ i. record { count = sym (length-append l (e ∷ [])) i; print = print-more r l e i }
 
-most-within : (q : Question) (c : Claim) (w : ℕ) → w ≤ 32767 → mostFor q c w ≤ 32767
-most-within shortestPath ofValue w h = omega arith
-most-within shortestPath ofNone w h = omega arith
-most-within maximumFlow c w h = h
-most-within assignment ofValue w h = omega arith
-most-within assignment ofNone w h = omega arith
-
-light : (st : Setting) → Opened st → (c : Claim) (ys : List ℤ) (b : Load) → Fine st c ys b → Light b
-light st o c ys b h = record {
-  tail-below = omega (arith, o .sized .at-most, h .allowed .joins .tail-below);
-  head-below = omega (arith, o .sized .at-most, h .allowed .joins .head-below);
-  weight-within = h .allowed .weight-within;
-  amount-within = omega (arith, leb→le (b .amount) (mostFor (st .question) c (b .arc .weight)) (h .amount), most-within (st .question) c (b .arc .weight) (h .allowed .weight-within));
-}
+within-limits : (st : Setting) → Opened st → (a : Numbers) (b : Load) → LoadPassed st a b → WithinLimits (asks st) b
+within-limits st o a b h =
+    let u = units-within (asks st) (a .claim) (b .arc) (h .allowed .weight-within) in
+    record {
+      tail-below = omega (arith, o .sized .at-most, h .allowed .joins .tail-below);
+      head-below = omega (arith, o .sized .at-most, h .allowed .joins .head-below);
+      amount-within = omega (arith, leb→le (b .amount) (rulesOf st (a .claim) .most (b .arc)) (h .amount), u .amount);
+      cost-within = u .cost;
+      units-within = u .units;
+    }
 
 -- a void session refuses every step
 pub void-stays : (a : Step) → step void a ≡ hand void (Refused 5)
@@ -85,153 +83,136 @@ decided see g left e x v a [] h = ap (λ (y : Session). hand y (told a)) (h tt)
 decided see g left e x v a ((k unless true) ∷ cs) h = decided see g left e x v a cs (λ b. h (tt, b))
 decided see g left e x v a ((k unless false) ∷ cs) h = e k
 
--- finishing ends the trace unless it gave 5
-ended : (tr : Trace) (a b c d e : Bool) → settle (stays tr) (5 unless a ∷ 13 unless b ∷ 14 unless c ∷ 15 unless d ∷ 16 unless e ∷ []) closed ≡ pick a closed tr
-ended tr false b c d e = refl
-ended tr true false c d e = refl
-ended tr true true false d e = refl
-ended tr true true true false e = refl
-ended tr true true true true false = refl
-ended tr true true true true true = refl
+-- finishing ends the lists unless it gave 5
+ended : (x : AcceptedLists) (a b c d e : Bool) → settle (afterRefusal x) (5 unless a ∷ 13 unless b ∷ 14 unless c ∷ 15 unless d ∷ 16 unless e ∷ []) closed ≡ pick a closed x
+ended x false b c d e = refl
+ended x true false c d e = refl
+ended x true true false d e = refl
+ended x true true true false e = refl
+ended x true true true true false = refl
+ended x true true true true true = refl
 
-module _ (held : Held) (r : Point) where
-  abbrev pub See : Trace → Session
-  See tr = view held r tr
+module _ (st : Setting) (r : Point) where
+  abbrev session : AcceptedLists → Session
+  session x = sessionOf st r x
 
-  -- the step of the session is the step of the trace
-  abbrev pub Agrees : Trace → Step → Type 0
-  Agrees tr a = step (See tr) a ≡ hand (See (next (asked held) tr a)) (told (reply (λ l m. samePrint (printOf r l) (printOf r m)) (asked held) tr a))
+  -- the step of the session is the step of the lists
+  abbrev pub Agrees : AcceptedLists → Step → Type 0
+  Agrees x a = step (session x) a ≡ hand (session (next st x a)) (told (reply (agreeAt r) st x a))
 
-  claim-one : (l : List Arc) (k : ℕ) → withState (See (after l)) (withClaim (See (after l) .state) k) ≡ See (certifying l k [] [])
-  unfolding product sumOf cut
-  claim-one l k = λ i. joined (zeros 255 (at []) (λ v. refl) i) (zeros 255 (λ v. balance v []) (λ v. refl) i) (withClaim (See (after l) .state) k)
+  claim-one : (l : List Arc) (k : ℕ) → withState (session (after l)) (withClaim (session (after l) .state) k) ≡ session (certifying l k [] [])
+  unfolding sumOf sumAcross
+  claim-one l k = λ i. joined (all-zero mostVertices (at []) (λ v. refl) i) (all-zero mostVertices (λ v. balance v []) (λ v. refl) i)
+      (stateOf 3 (session (after l) .state .reading) (withClaim (session (after l) .state) k .numbering)
+      (record { list = record { count = 0; print = print-none r i }; cost = pos 0; cut = pos 0 }))
 
   module _ (l : List Arc) (k : ℕ) (ys : List ℤ) (f : List Load) where
-    abbrev Here : Trace
-    Here = certifying l k ys f
+    abbrev here : AcceptedLists
+    here = certifying l k ys f
 
-    abbrev Agree : Bool
-    Agree = samePrint (printOf r l) (printOf r (arcs f))
+    abbrev numbers : Numbers
+    numbers = numbersOf (claimOf k) ys
 
-    -- a refusal
-    refusal : (j : ℕ) → refuse (See Here) j ≡ hand (See (stays Here j)) (Refused j)
+    refusal : (j : ℕ) → refuse (session here) j ≡ hand (session (afterRefusal here j)) (Refused j)
     refusal j = go (eqb j 5)
       where
-        go : (b : Bool) → hand (pick b (See Here) void) (Refused j) ≡ hand (See (pick b Here closed)) (Refused j)
+        go : (b : Bool) → hand (pick b (session here) void) (Refused j) ≡ hand (session (pick b here closed)) (Refused j)
         go true = refl
         go false = refl
 
     -- a step by its rules, where x is the session after it
-    ruled : (x : Session) (tr : Trace) (a : Said) (cs : List Check) → (Hold cs → x ≡ See tr)
-        → settle (refuse (See Here)) cs (hand x (told a)) ≡ hand (See (settle (stays Here) cs tr)) (told (settle refused cs a))
-    ruled = decided See (refuse (See Here)) (stays Here) refusal
+    ruled : (x : Session) (y : AcceptedLists) (a : Said) (cs : List Check) → (Hold cs → x ≡ session y)
+        → settle (refuse (session here)) cs (hand x (told a)) ≡ hand (session (settle (afterRefusal here) cs y)) (told (settle refused cs a))
+    ruled = decided session (refuse (session here)) (afterRefusal here) refusal
 
-    module _ (o : Opened (asked held)) (g : Checked (asked held) l k ys f) where
-      fits : length ys ≤ 255
+    module _ (o : Opened st) (g : AnnotationPassed st l k ys f) where
+      fits : length ys ≤ mostVertices
       fits = omega (arith, g .given, o .sized .at-most)
 
-      few : length f ≤ 4096
+      few : length f ≤ mostArcs
       few = omega (arith, g .most, g .list .few)
 
-      lights : Every Light f
-      lights = every-map (light (asked held) o (claimOf k) ys) f (g .loads)
+      within : Every (WithinLimits (asks st)) f
+      within = every-map (within-limits st o numbers) f (g .loads)
 
       -- ---- a node number
 
       -- the session after it
       abbrev numbered : ℤ → Session
-      numbered z = joined (set (See Here .potentials) (length ys) z) (See Here .balances) (withNumber (See Here .state) z)
+      numbered z = joined (set (session here .potentials) (length ys) z) (session here .balances) (withNumber (session here .state) z)
 
-      number-one : (z : ℤ) → length ys < held .n → numbered z ≡ See (certifying l k (ys ++ z ∷ []) f)
-      unfolding cut
-      number-one z h = λ i. joined (list-more 255 ys z (omega (arith, h, o .sized .at-most)) i) (table 255 (λ v. balance v f)) record {
-        phase = 3;
-        setting = held;
-        point = r;
-        read = stream r l;
-        claim = k;
-        given = sym (length-append ys (z ∷ [])) i;
-        marks = marks-more ys z i;
-        repeated = stream r (arcs f);
-        cost = pos (cost f);
-        cut = uncut i;
-      }
+      number-one : (z : ℤ) → length ys < st .n → numbered z ≡ session (certifying l k (ys ++ z ∷ []) f)
+      unfolding sumAcross
+      number-one z h = λ i. joined (list-more mostVertices ys z (omega (arith, h, o .sized .at-most)) i) (session here .balances)
+          (stateOf 3 (session here .state .reading)
+          (record { claim = k; given = sym (length-append ys (z ∷ [])) i; marks = marks-more ys z i })
+          (record { list = streamOf r (arcs f); cost = pos (sumOf (unitCost (asks st)) f); cut = uncut i }))
         where
-          uncut : pos (cut (marked (at ys)) (arcs f)) ≡ pos (cut (marked (at (ys ++ z ∷ []))) (arcs f))
-          uncut = rw (none-yet (asked held) ys f h (g .in-turn)) refl
+          uncut : pos (sumAcross (unitsMost (asks st)) (marked (at ys)) (arcs f)) ≡ pos (sumAcross (unitsMost (asks st)) (marked (at (ys ++ z ∷ []))) (arcs f))
+          uncut = rw (none-yet st ys f h (g .in-turn)) refl
 
-      number-step : (z : ℤ) → Agrees Here (number z)
+      number-step : (z : ℤ) → Agrees here (number z)
       unfolding numberStep
       number-step z =
-          ruled (numbered z) (certifying l k (ys ++ z ∷ []) f) accepted (numberRule (asked held) (claimOf k) (length ys) z)
-          (λ h. number-one z (ltb→lt (length ys) (held .n) (h .0)))
+          ruled (numbered z) (certifying l k (ys ++ z ∷ []) f) accepted (numberingChecks st (claimOf k) (length ys) z)
+          (λ h. number-one z (ltb→lt (length ys) (st .n) (h .0)))
 
       -- ---- a repeated arc
 
       -- the session after it
       abbrev loaded : Load → Session
-      loaded b = joined (See Here .potentials) (moved (See Here .balances) (b .arc .tail) (b .arc .head) (b .amount)) (withRepeat (See Here .state) b)
+      loaded b = joined (session here .potentials) (moved (session here .balances) (b .arc .tail) (b .arc .head) (b .amount)) (withRepeat (session here .state) b)
 
-      repeat-one : (b : Load) → Light b → loaded b ≡ See (certifying l k ys (f ++ b ∷ []))
-      repeat-one b h = λ i. joined (table 255 (at ys)) (balances-more f lights few b h i) record {
-        phase = 3;
-        setting = held;
-        point = r;
-        read = stream r l;
-        claim = k;
-        given = length ys;
-        marks = wordsOf ys;
-        repeated = (stream-more r (arcs f) (b .arc) ∙ ap (stream r) (sym (arcs-snoc f b))) i;
-        cost = cost-more f lights few b h i;
-        cut = (ap (λ (m : ℕ → Bool). boundedSum (pos (cut (marked (at ys)) (arcs f))) (pos (b .arc .weight * indicator (crosses m (b .arc))))) (marks-same ys fits)
-            ∙ cut-more f lights few b h (marked (at ys))) i;
-      }
+      repeat-one : (b : Load) → WithinLimits (asks st) b → loaded b ≡ session (certifying l k ys (f ++ b ∷ []))
+      repeat-one b h = λ i. joined (session here .potentials) (balances-more (asks st) f within few b h i)
+          (stateOf 3 (session here .state .reading) (session here .state .numbering)
+          (record {
+            list = (stream-more r (arcs f) (b .arc) ∙ ap (streamOf r) (sym (arcs-snoc f b))) i;
+            cost = cost-more (asks st) f within few b h i;
+            cut = (ap (λ (m : ℕ → Bool). boundedSum (pos (sumAcross (unitsMost (asks st)) (marked (at ys)) (arcs f))) (pos (unitsMost (asks st) (b .arc) * indicator (crosses m (b .arc))))) (marks-same ys fits)
+                ∙ cut-more (asks st) f within few b h (marked (at ys))) i;
+          }))
 
-      repeat-checks : (b : Load) → repeatChecks (See Here .state) (at (table 255 (at ys))) b ≡ repeatRule (asked held) (claimOf k) ys (length l) (length f) b
-      repeat-checks b = λ i.
-          5 unless eqb (length ys) (held .n)
-          ∷ 6 unless ltb (length-map f (λ b. b .arc) i) (length l)
-          ∷ (arcChecks (asked held) (b .arc)
-          ++ 11 unless amountOk (asked held) (claimOf k) b
-          ∷ 12 unless ruleOk (asked held) (claimOf k) (at-list 255 ys fits i) (marks-same ys fits i) (b .arc)
-          ∷ [])
+      -- what the session holds of the annotation is what was given
+      numbers-same : numbersHeld (session here .state) (potentialsIn (session here)) ≡ numbers
+      numbers-same = λ i. record { claim = claimOf k; given = length ys; number = at-list mostVertices ys fits i; mark = marks-same ys fits i }
 
-      repeat-step : (b : Load) → Agrees Here (repeat b)
+      repeat-step : (b : Load) → Agrees here (repeat b)
       unfolding repeatStep
       repeat-step b =
-          ap (λ (cs : List Check). settle (refuse (See Here)) cs (accept (loaded b))) (repeat-checks b)
-          ∙ ruled (loaded b) (certifying l k ys (f ++ b ∷ [])) accepted (repeatRule (asked held) (claimOf k) ys (length l) (length f) b)
-          (λ h. repeat-one b (light (asked held) o (claimOf k) ys b (repeat-fine (asked held) (claimOf k) ys (length l) (length f) b h)))
+          ap₂ (λ (a : Numbers) (n : ℕ). settle (refuse (session here)) (repeatingChecks st a (length l) n b) (accept (loaded b))) numbers-same (length-map f (λ b. b .arc))
+          ∙ ruled (loaded b) (certifying l k ys (f ++ b ∷ [])) accepted (repeatingChecks st numbers (length l) (length f) b)
+          (λ h. repeat-one b (within-limits st o numbers b (repeat-passed st numbers (length l) (length f) b h)))
 
       -- ---- finishing
 
-      sums-same : sumsHeld (table 255 (λ v. balance v f)) (pos (cost f)) (pos (cut (marked (at ys)) (arcs f))) ≡ sumsAt ys f
-      sums-same = λ i. record { balances = balances-at f lights few i; cost = pos (cost f); cut = pos (cut (marked (at ys)) (arcs f)) }
+      sums-same : sumsIn (session here) ≡ sumsAt st ys f
+      sums-same = λ i. record {
+        balances = balances-at (asks st) f within few i;
+        cost = pos (sumOf (unitCost (asks st)) f);
+        cut = pos (sumAcross (unitsMost (asks st)) (marked (at ys)) (arcs f));
+      }
 
-      finish-checks : finishChecks (See Here .state) (at (table 255 (at ys))) (sumsHeld (table 255 (λ v. balance v f)) (pos (cost f)) (pos (cut (marked (at ys)) (arcs f)))) ≡ finishRule (asked held) (claimOf k) (length l) Agree ys f
-      finish-checks = λ i.
-          5 unless eqb (length ys) (held .n)
-          ∷ 13 unless leb (length l) (length-map f (λ b. b .arc) i)
-          ∷ 14 unless Agree
-          ∷ 15 unless balancesOk (asked held) (claimOf k) (sums-same i)
-          ∷ 16 unless sumsOk (asked held) (claimOf k) (at-list 255 ys fits i) (marks-same ys fits i) (sums-same i)
-          ∷ []
+      abbrev finishes : Numbers → ℕ → Sums → List Check
+      finishes a n u = finishingChecks st a (length l) n (agreeAt r l (arcs f)) u
 
-      finish-step : Agrees Here finish
+      abbrev answer : Said
+      answer = gives (answerOf st (claimOf k) (sumsAt st ys f))
+
+      finish-step : Agrees here finish
       unfolding finishStep
       finish-step =
-          ap₂ (λ (cs : List Check) (u : Sums). settle (refuse (See Here)) cs (hand void (answered (answerOf (asked held) (claimOf k) u)))) finish-checks sums-same
-          ∙ ruled void closed (gives (answerOf (asked held) (claimOf k) (sumsAt ys f))) (finishRule (asked held) (claimOf k) (length l) Agree ys f) (λ h. refl)
-          ∙ ap (λ (tr : Trace). hand (See tr) (told (settle refused (finishRule (asked held) (claimOf k) (length l) Agree ys f) (gives (answerOf (asked held) (claimOf k) (sumsAt ys f))))))
-          (ended Here (eqb (length ys) (held .n)) (leb (length l) (length f)) Agree
-          (balancesOk (asked held) (claimOf k) (sumsAt ys f)) (sumsOk (asked held) (claimOf k) (at ys) (marked (at ys)) (sumsAt ys f)))
+          (λ i. settle (refuse (session here)) (finishes (numbers-same i) (length-map f (λ b. b .arc) i) (sums-same i)) (hand void (answered (answerOf st (claimOf k) (sums-same i)))))
+          ∙ ruled void closed answer (finishes numbers (length f) (sumsAt st ys f)) (λ h. refl)
+          ∙ ap (λ (x : AcceptedLists). hand (session x) (told (settle refused (finishes numbers (length f) (sumsAt st ys f)) answer)))
+          (ended here (eqb (length ys) (st .n)) (leb (length l) (length f)) (agreeAt r l (arcs f)) (balancesOk st (claimOf k) (sumsAt st ys f)) (sumsOk st numbers (sumsAt st ys f)))
 
-  pub steps-agree : (tr : Trace) → Opened (asked held) → Good (asked held) tr → (a : Step) → Agrees tr a
+  pub steps-agree : (x : AcceptedLists) → Opened st → Invariant st x → (a : Step) → Agrees x a
   unfolding readStep endStep claimStep numberStep repeatStep finishStep
   steps-agree closed o g a = void-stays a
   steps-agree (during l) o g (read e) =
-      decided (λ l. See (during l)) (refuse (See (during l))) (λ why. l) (λ why. refl) (withState (See (during l)) (withRead (See (during l) .state) e)) (l ++ e ∷ []) accepted (readRule (asked held) (length l) e)
-      (λ h. ap (holding 1 held r) (stream-more r l e))
+      decided (λ l. session (during l)) (refuse (session (during l))) (λ why. l) (λ why. refl) (withState (session (during l)) (withRead (session (during l) .state) e)) (l ++ e ∷ []) accepted (readingChecks st (length l) e)
+      (λ h. ap (holding 1 (held st) r) (stream-more r l e))
   steps-agree (during l) o g end = refl
   steps-agree (during l) o g (claim k) = refl
   steps-agree (during l) o g (number z) = refl
@@ -240,7 +221,7 @@ module _ (held : Held) (r : Point) where
   steps-agree (after l) o g (read e) = refl
   steps-agree (after l) o g end = refl
   steps-agree (after l) o g (claim k) =
-      decided See (refuse (See (after l))) (λ why. after l) (λ why. refl) (withState (See (after l)) (withClaim (See (after l) .state) k)) (certifying l k [] []) accepted (9 unless claimOk (asked held) k ∷ [])
+      decided session (refuse (session (after l))) (λ why. after l) (λ why. refl) (withState (session (after l)) (withClaim (session (after l) .state) k)) (certifying l k [] []) accepted (claimingChecks st k)
       (λ h. claim-one l k)
   steps-agree (after l) o g (number z) = refl
   steps-agree (after l) o g (repeat b) = refl
