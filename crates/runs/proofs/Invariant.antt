@@ -28,16 +28,16 @@ use Rattle.runs.proofs.AcceptedLists.{AcceptedLists, closed, during, af
 -- a repeated arc with its amount that passes checks 7, 8, 11 and 12
 pub record LoadPassed (st : Setting) (a : Numbers) (b : Load) : Type 0 where
   pub allowed : Allowed st (b .arc)
-  pub amount : T (amountOk st (a .claim) b)
-  pub rule : T (ruleOk st a b)
+  pub amount-ok : T (amountOk st (a .claim) b)
+  pub rule-ok : T (ruleOk st a b)
 
 pub record AnnotationPassed (st : Setting) (l : List Arc) (k : ℕ) (ys : List ℤ) (f : List Load) : Type 0 where
   pub list : Readable st l
-  pub claimed : T (claimOk st k)
-  pub given : length ys ≤ st .n
+  pub claim-ok : T (claimOk st k)
+  pub numbered : length ys ≤ st .n
   pub nodes : (v : ℕ) → v < length ys → T (nodeOk st (claimOf k) v (at ys v))
   pub loads : Every (LoadPassed st (numbersOf (claimOf k) ys)) f
-  pub most : length f ≤ length l
+  pub repeated : length f ≤ length l
   pub in-turn : (length ys ≡ st .n) ⊎ (f ≡ [])
 
 abbrev pub Invariant : Setting → AcceptedLists → Type 0
@@ -76,17 +76,17 @@ module _ (st : Setting) where
   repeat-passed a m i b h =
       let rest = 11 unless amountOk st (a .claim) b ∷ 12 unless ruleOk st a b ∷ [] in
       let late = hold-right (arcChecks st (b .arc)) rest (h .1 .1) in
-      record { allowed = arc-rule st (b .arc) (hold-left (arcChecks st (b .arc)) rest (h .1 .1)); amount = late .0; rule = late .1 .0 }
+      record { allowed = arc-rule st (b .arc) (hold-left (arcChecks st (b .arc)) rest (h .1 .1)); amount-ok = late .0; rule-ok = late .1 .0 }
 
   module _ (l : List Arc) (k : ℕ) (ys : List ℤ) (f : List Load) (g : AnnotationPassed st l k ys f) where
     number-more : (z : ℤ) → Hold (numberingChecks st (claimOf k) (length ys) z) → AnnotationPassed st l k (ys ++ z ∷ []) f
     number-more z h = record {
       list = g .list;
-      claimed = g .claimed;
-      given = omega (arith, room, length-append ys (z ∷ []));
+      claim-ok = g .claim-ok;
+      numbered = omega (arith, room, length-append ys (z ∷ []));
       nodes = λ v b. node v b (ℕ-discrete v (length ys));
       loads = rw nothing tt;
-      most = g .most;
+      repeated = g .repeated;
       in-turn = inr nothing;
     }
       where
@@ -105,11 +105,11 @@ module _ (st : Setting) where
     repeat-more : (b : Load) → Hold (repeatingChecks st (numbersOf (claimOf k) ys) (length l) (length f) b) → AnnotationPassed st l k ys (f ++ b ∷ [])
     repeat-more b h = record {
       list = g .list;
-      claimed = g .claimed;
-      given = g .given;
+      claim-ok = g .claim-ok;
+      numbered = g .numbered;
       nodes = g .nodes;
       loads = every-snoc (LoadPassed st (numbersOf (claimOf k) ys)) f b (g .loads) (repeat-passed (numbersOf (claimOf k) ys) (length l) (length f) b h);
-      most = omega (arith, ltb→lt (length f) (length l) (h .1 .0), length-append f (b ∷ []));
+      repeated = omega (arith, ltb→lt (length f) (length l) (h .1 .0), length-append f (b ∷ []));
       in-turn = inl (eqb→eq (length ys) (st .n) (h .0));
     }
 
@@ -125,7 +125,7 @@ module _ (st : Setting) where
   invariant-next (after l) g (read e) = g
   invariant-next (after l) g end = g
   invariant-next (after l) g (claim k) = settle-keeps (Invariant st) (λ why. after l) (claimingChecks st k) (certifying l k [] []) (λ why. g)
-      (λ h. record { list = g; claimed = h .0; given = omega arith; nodes = λ v b. absurd (omega arith); loads = tt; most = omega arith; in-turn = inr refl })
+      (λ h. record { list = g; claim-ok = h .0; numbered = omega arith; nodes = λ v b. absurd (omega arith); loads = tt; repeated = omega arith; in-turn = inr refl })
   invariant-next (after l) g (number z) = g
   invariant-next (after l) g (repeat b) = g
   invariant-next (after l) g finish = g

@@ -85,11 +85,11 @@ module _ (st : Setting) where
     number-holds (z ∷ ys) i b h =
         (lt→ltb i (st .n) (omega arith), (h 0 i (omega arith) (omega arith), number-holds ys (suc i) (omega arith) (λ j v e l. h (suc j) v (omega arith) (omega arith))))
 
-    number-each : (ys : List ℤ) (i : ℕ) → Hold (numberingAll st c i ys) → (j v : ℕ) → i + j ≡ v → j < length ys → T (nodeOk st c v (at ys j))
+    each-number : (ys : List ℤ) (i : ℕ) → Hold (numberingAll st c i ys) → (j v : ℕ) → i + j ≡ v → j < length ys → T (nodeOk st c v (at ys j))
     unfolding numberingAll
-    number-each [] i h j v e b = absurd (omega arith)
-    number-each (z ∷ ys) i h zero v e b = subst (λ (k : ℕ). T (nodeOk st c k z)) (omega arith) (h .1 .0)
-    number-each (z ∷ ys) i h (suc j) v e b = number-each ys (suc i) (h .1 .1) j v (omega arith) (omega arith)
+    each-number [] i h j v e b = absurd (omega arith)
+    each-number (z ∷ ys) i h zero v e b = subst (λ (k : ℕ). T (nodeOk st c k z)) (omega arith) (h .1 .0)
+    each-number (z ∷ ys) i h (suc j) v e b = each-number ys (suc i) (h .1 .1) j v (omega arith) (omega arith)
 
   module _ (a : Numbers) (m : ℕ) where
     record Repeats (i : ℕ) (f : List Load) : Type 0 where
@@ -113,12 +113,12 @@ module _ (st : Setting) where
         } in
         (t, (lt→ltb i m (omega arith), (e .0, (e .1 .0, (x, (u, rest))))))
 
-    repeat-each : (f : List Load) (i : ℕ) → i ≤ m → Hold (repeatingAll st a m i f) → Repeats i f
+    each-repeat : (f : List Load) (i : ℕ) → i ≤ m → Hold (repeatingAll st a m i f) → Repeats i f
     unfolding repeatingAll
-    repeat-each [] i b h = record { records = tt; amounts = tt; rules = tt; room = omega arith }
-    repeat-each (l ∷ f) i b h =
+    each-repeat [] i b h = record { records = tt; amounts = tt; rules = tt; room = omega arith }
+    each-repeat (l ∷ f) i b h =
         let checked = h .1 .1 in
-        let u = repeat-each f (suc i) (ltb→lt i m (h .1 .0)) (checked .1 .1 .1 .1) in
+        let u = each-repeat f (suc i) (ltb→lt i m (h .1 .0)) (checked .1 .1 .1 .1) in
         record {
           records = (arc-rule st (l .arc) (checked .0, (checked .1 .0, tt)), u .records);
           amounts = both (amountOk st (a .claim) l) _ (checked .1 .1 .0) (u .amounts);
@@ -130,21 +130,21 @@ module _ (st : Setting) where
     abbrev c : Claim
     c = claimOf k
 
-    abbrev numbers : List Check
-    numbers = numberingAll st c 0 ys
+    abbrev numberRules : List Check
+    numberRules = numberingAll st c 0 ys
 
-    abbrev repeated : List Check
-    repeated = repeatingAll st (numbersOf c ys) (length net) 0 f
+    abbrev repeatRules : List Check
+    repeatRules = repeatingAll st (numbersOf c ys) (length net) 0 f
 
-    abbrev answer : Answer
-    answer = answerOf st c (sumsAt st ys f)
+    abbrev result : Answer
+    result = answerOf st c (sumsAt st ys f)
 
     -- rules that hold are met
-    meets : Hold (annotationRules st (length net) k ys f) → Hold (finalRules st r net k ys f) → Meets st r net k ys f answer
+    meets : Hold (annotationRules st (length net) k ys f) → Hold (finalRules st r net k ys f) → Meets st r net k ys f result
     meets h w =
         let e = eqb→eq (length ys) (st .n) (w .0) in
-        let nodes = number-each c ys 0 (hold-left numbers repeated (h .1)) in
-        let u = repeat-each (numbersOf c ys) (length net) f 0 (omega arith) (hold-right numbers repeated (h .1)) in
+        let nodes = each-number c ys 0 (hold-left numberRules repeatRules (h .1)) in
+        let u = each-repeat (numbersOf c ys) (length net) f 0 (omega arith) (hold-right numberRules repeatRules (h .1)) in
         let admitted = and-right (leb 1 k && leb k 2) (rulesOf st c .admitted) (h .0) in
         record {
           claims = sym (ap claimNumber (claim-answered (asks st) c admitted (sumsAt st ys f)) ∙ claim-named k (and-left (leb 1 k && leb k 2) (rulesOf st c .admitted) (h .0)));
@@ -163,7 +163,7 @@ module _ (st : Setting) where
         }
 
     -- rules that are met hold
-    holds : (a : Answer) → Meets st r net k ys f a → Hold (annotationRules st (length net) k ys f) × Hold (finalRules st r net k ys f) × (answer ≡ a)
+    holds : (a : Answer) → Meets st r net k ys f a → Hold (annotationRules st (length net) k ys f) × Hold (finalRules st r net k ys f) × (result ≡ a)
     holds a m =
         let full : T (eqb (length ys) (st .n)) = rw (m .one-each) (eqb-refl (st .n)) in
         let number = number-holds c ys 0 (omega (arith, m .one-each)) (λ j v e b. subst (λ (i : ℕ). T (nodeOk st c i (at ys j))) (omega arith) (node j (omega (arith, m .one-each)))) in
@@ -171,13 +171,13 @@ module _ (st : Setting) where
         let claimed : T (claimOk st k) = rw (m .claims) (claim-fits st (claimFor a) (m .certificate .admitted)) in
         let same = print-same (printOf r net) (printOf r (arcs f)) (m .fingerprints) in
         let final : Hold (finalRules st r net k ys f) = (full, (le→leb (length net) (length f) (omega (arith, m .as-many)), (same, (passed .balances, (passed .sums, tt))))) in
-        ((claimed, hold-append numbers repeated number repeat), final, ap (λ (d : Claim). answerOf st d (sumsAt st ys f)) (sym claims) ∙ sym (certified-answer st (at ys) f a (m .certificate)))
+        ((claimed, hold-append numberRules repeatRules number repeat), final, ap (λ (d : Claim). answerOf st d (sumsAt st ys f)) (sym same-claim) ∙ sym (certified-answer st (at ys) f a (m .certificate)))
       where
-        claims : claimFor a ≡ c
-        claims = sym (claim-of-number (claimFor a)) ∙ ap claimOf (sym (m .claims))
+        same-claim : claimFor a ≡ c
+        same-claim = sym (claim-of-number (claimFor a)) ∙ ap claimOf (sym (m .claims))
 
         passed : Passed st c (at ys) f
-        passed = subst (λ (d : Claim). Passed st d (at ys) f) claims (certified-passed st (at ys) f a (m .certificate))
+        passed = subst (λ (d : Claim). Passed st d (at ys) f) same-claim (certified-passed st (at ys) f a (m .certificate))
 
         node : (v : ℕ) → v < st .n → T (nodeOk st c v (at ys v))
         node = allTo-at (st .n) (λ v. nodeOk st c v (at ys v)) (passed .nodes)
@@ -193,14 +193,14 @@ module _ (st : Setting) where
 
         to : verdict st r net k ys f ≡ gives a → Meets st r net k ys f a
         to d =
-            let u = gives-held (readingAll st 0 net ++ (annotation ++ final)) answer a d in
+            let u = gives-held (readingAll st 0 net ++ (annotation ++ final)) result a d in
             let w = hold-right (readingAll st 0 net) (annotation ++ final) (u .0) in
             subst (Meets st r net k ys f) (u .1) (meets (hold-left annotation final w) (hold-right annotation final w))
 
         from : Meets st r net k ys f a → verdict st r net k ys f ≡ gives a
         from m =
             let u = holds a m in
-            settled refused (readingAll st 0 net ++ (annotation ++ final)) (gives answer)
+            settled refused (readingAll st 0 net ++ (annotation ++ final)) (gives result)
             (hold-append (readingAll st 0 net) (annotation ++ final) (read-holds net 0 (h .allowed) (omega (arith, h .few))) (hold-append annotation final (u .0) (u .1)))
             ∙ ap gives (u .2)
 

@@ -38,18 +38,18 @@ pub record WithinLimits (q : Question) (l : Load) : Type 0 where
 
 -- whatever is asked and claimed, an arc carries no more units than the greatest weight, and a unit costs no more
 pub record UnitsWithin (q : Question) (c : Claim) (e : Arc) : Type 0 where
-  pub amount : rulesFor q c .most e ≤ mostWeight
-  pub cost : unitCost q e ≤ mostWeight
-  pub units : unitsMost q e ≤ mostWeight
+  pub most-within : rulesFor q c .most e ≤ mostWeight
+  pub cost-within : unitCost q e ≤ mostWeight
+  pub units-within : unitsMost q e ≤ mostWeight
 
-pub units-within : (q : Question) (c : Claim) (e : Arc) → WeightWithin e → UnitsWithin q c e
-units-within shortestPath ofValue e h = record { amount = omega arith; cost = h; units = omega arith }
-units-within shortestPath ofNone e h = record { amount = omega arith; cost = h; units = omega arith }
-units-within maximumFlow ofValue e h = record { amount = h; cost = omega arith; units = h }
-units-within maximumFlow ofNone e h = record { amount = omega arith; cost = omega arith; units = h }
-units-within assignment ofValue e h = record { amount = omega arith; cost = h; units = omega arith }
-units-within assignment ofNone e h = record { amount = omega arith; cost = h; units = omega arith }
-units-within unasked c e h = record { amount = omega arith; cost = omega arith; units = omega arith }
+pub units-limited : (q : Question) (c : Claim) (e : Arc) → WeightWithin e → UnitsWithin q c e
+units-limited shortestPath ofValue e h = record { most-within = omega arith; cost-within = h; units-within = omega arith }
+units-limited shortestPath ofNone e h = record { most-within = omega arith; cost-within = h; units-within = omega arith }
+units-limited maximumFlow ofValue e h = record { most-within = h; cost-within = omega arith; units-within = h }
+units-limited maximumFlow ofNone e h = record { most-within = omega arith; cost-within = omega arith; units-within = h }
+units-limited assignment ofValue e h = record { most-within = omega arith; cost-within = h; units-within = omega arith }
+units-limited assignment ofNone e h = record { most-within = omega arith; cost-within = h; units-within = omega arith }
+units-limited unasked c e h = record { most-within = omega arith; cost-within = omega arith; units-within = omega arith }
 
 -- ---- small numbers
 
@@ -77,20 +77,20 @@ part-of : (w : ℕ) (b : Bool) → w * indicator b ≤ w
 part-of w true = omega arith
 part-of w false = omega arith
 
-module _ (q : Question) (f : List Load) (within : Every (WithinLimits q) f) (few : length f ≤ mostArcs) where
+module _ (q : Question) (f : List Load) (loads : Every (WithinLimits q) f) (few : length f ≤ mostArcs) where
   -- no arc ends at a vertex past the end
   pub balances-at : at (listTo mostVertices (λ v. balance v f)) ≡ (λ v. balance v f)
   balances-at = at-listTo mostVertices (λ v. balance v f) past
     where
       past : (v : ℕ) → mostVertices ≤ v → balance v f ≡ pos 0
       past v h =
-          let out = sumOf-none (λ e. e .tail) v f (every-map (λ l (k : WithinLimits q l). let b = k .tail-below in omega arith) f within) in
-          let in′ = sumOf-none (λ e. e .head) v f (every-map (λ l (k : WithinLimits q l). let b = k .head-below in omega arith) f within) in
+          let out = sumOf-none (λ e. e .tail) v f (every-map (λ l (k : WithinLimits q l). let b = k .tail-below in omega arith) f loads) in
+          let in′ = sumOf-none (λ e. e .head) v f (every-map (λ l (k : WithinLimits q l). let b = k .head-below in omega arith) f loads) in
           omega (signed, balance-parts (leaving v f) (entering v f), parts-min (balance v f))
 
   at-an-end : (end : Arc → ℕ) (v : ℕ) → sumOf (λ e. delta (end e) v) f ≤ 134213632
   at-an-end end v =
-      let most = sumOf-most (λ e. delta (end e) v) mostWeight f (every-map (λ l (k : WithinLimits q l). let b = k .amount-within in omega (arith, at-one-end (l .amount) (end (l .arc)) v)) f within) in
+      let most = sumOf-most (λ e. delta (end e) v) mostWeight f (every-map (λ l (k : WithinLimits q l). let b = k .amount-within in omega (arith, at-one-end (l .amount) (end (l .arc)) v)) f loads) in
       omega arith
 
   balance-within : (v : ℕ) → (posPart (balance v f) ≤ 134213632) × (negPart (balance v f) ≤ 134213632)
@@ -152,7 +152,7 @@ module _ (q : Question) (f : List Load) (within : Every (WithinLimits q) f) (few
 
     pub cost-more : boundedSum (pos (sumOf (unitCost q) f)) (pos (l .amount * unitCost q (l .arc))) ≡ pos (sumOf (unitCost q) (f ++ l ∷ []))
     cost-more =
-        let most = sumOf-most (unitCost q) 1073676289 f (every-map (λ b (k : WithinLimits q b). mul-le-mul (k .amount-within) (k .cost-within)) f within) in
+        let most = sumOf-most (unitCost q) 1073676289 f (every-map (λ b (k : WithinLimits q b). mul-le-mul (k .amount-within) (k .cost-within)) f loads) in
         plus-pos (sumOf (unitCost q) f) (l .amount * unitCost q (l .arc)) (omega arith) (omega (arith, mul-le-mul (h .amount-within) (h .cost-within)))
         ∙ ap pos (sym (sumOf-snoc (unitCost q) f l))
 
@@ -160,7 +160,7 @@ module _ (q : Question) (f : List Load) (within : Every (WithinLimits q) f) (few
         ≡ pos (sumAcross (unitsMost q) m (arcs (f ++ l ∷ [])))
     cut-more m =
         let most = across-most (unitsMost q) m mostWeight (arcs f) (image-every (λ b. b .arc) (λ e. unitsMost q e * indicator (crosses m e) ≤ mostWeight) f
-        (every-map (λ b (k : WithinLimits q b). let w = k .units-within in omega (arith, part-of (unitsMost q (b .arc)) (crosses m (b .arc)))) f within)) in
+        (every-map (λ b (k : WithinLimits q b). let w = k .units-within in omega (arith, part-of (unitsMost q (b .arc)) (crosses m (b .arc)))) f loads)) in
         plus-pos (sumAcross (unitsMost q) m (arcs f)) (unitsMost q (l .arc) * indicator (crosses m (l .arc))) (omega (arith, length-map f (λ b. b .arc)))
         (let w = h .units-within in omega (arith, part-of (unitsMost q (l .arc)) (crosses m (l .arc))))
         ∙ ap pos (sym (ap (sumAcross (unitsMost q) m) (arcs-snoc f l) ∙ across-snoc (unitsMost q) m (arcs f) (l .arc)))

@@ -23,13 +23,13 @@ use Rattle.runs.specs.Run.{Step, run, runFrom}
 use Rattle.runs.specs.Exchange.{Opens}
 use Rattle.runs.proofs.AcceptedLists.{AcceptedLists, during, sessionOf, next, reply, replies}
 use Rattle.runs.proofs.Invariant.{Invariant, invariant-next}
-use Rattle.runs.proofs.StepsAgree.{told, agreeAt, steps-agree}
+use Rattle.runs.proofs.StepsAgree.{saying, agreeAt, steps-agree}
 
-said-told : (a : Said) → said (told a) ≡ a
-said-told accepted = refl
-said-told (gives (value v)) = refl
-said-told (gives none) = refl
-said-told (refused k) = refl
+said-back : (a : Said) → said (saying a) ≡ a
+said-back accepted = refl
+said-back (gives (value v)) = refl
+said-back (gives none) = refl
+said-back (refused k) = refl
 
 run-agrees : (st : Setting) (r : Point) → Opened st → (x : AcceptedLists) → Invariant st x → (steps : List Step)
     → run (sessionOf st r x) steps ≡ replies (agreeAt r) st x steps
@@ -37,7 +37,7 @@ unfolding run replies
 run-agrees st r o x g [] = refl
 run-agrees st r o x g (a ∷ steps) =
     ap (λ (y : Reply). said (y .answer) ∷ run (y .session) steps) (steps-agree st r x o g a)
-    ∙ ap₂ _∷_ (said-told (reply (agreeAt r) st x a)) (run-agrees st r o (next st x a) (invariant-next st x g a) steps)
+    ∙ ap₂ _∷_ (said-back (reply (agreeAt r) st x a)) (run-agrees st r o (next st x a) (invariant-next st x g a) steps)
 
 opens-held : (st : Setting) (r : Point) → Opens st r → Hold (openChecks st r)
 opens-held st r h = hold-append (openingChecks st) (4 unless pointOk r ∷ []) (opening-test st (h .opened)) (lt→ltb _ _ (h .point), tt)

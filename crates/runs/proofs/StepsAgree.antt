@@ -10,7 +10,7 @@ use lib.IntN.{ℤ, pos}
 use lib.ListN.{length, set, length-append, length-map}
 use Rattle.prelude.specs.Checks.{Check, _unless_, settle, Hold}
 use Rattle.prelude.specs.Choice.{pick, indicator}
-use Rattle.prelude.specs.Lists.{Every, listTo, at}
+use Rattle.prelude.specs.Lists.{Every, at}
 use Rattle.prelude.proofs.Lists.{every-map}
 use Rattle.words.specs.Bounded.{boundedSum}
 use Rattle.network.specs.Limits.{mostVertices, mostArcs}
@@ -33,17 +33,17 @@ use Rattle.session.specs.declared.Reply.{Reply}
 use Rattle.session.specs.declared.Session.{Session}
 use Rattle.runs.specs.Run.{Step, read, end, claim, number, repeat, finish, step}
 use Rattle.runs.specs.Exchange.{numbersOf, sumsAt}
-use Rattle.runs.proofs.AcceptedLists.{AcceptedLists, closed, during, after, certifying, streamOf, marksOf, sessionOf, afterRefusal, next, reply}
+use Rattle.runs.proofs.AcceptedLists.{AcceptedLists, closed, during, after, certifying, streamOf, sessionOf, afterRefusal, next, reply}
 use Rattle.runs.proofs.MarkWords.{marks-more, marks-same}
 use Rattle.runs.proofs.VertexArrays.{all-zero, at-list, list-more}
-use Rattle.runs.proofs.RepeatedSums.{WithinLimits, units-within, balances-at, balances-more, cost-more, cut-more}
+use Rattle.runs.proofs.RepeatedSums.{WithinLimits, units-limited, balances-at, balances-more, cost-more, cut-more}
 use Rattle.runs.proofs.Invariant.{LoadPassed, AnnotationPassed, Invariant, none-yet, repeat-passed}
 
 -- the answer that says it
-abbrev pub told : Said → Answer
-told accepted = Accepted
-told (gives a) = answered a
-told (refused k) = Refused k
+abbrev pub saying : Said → Answer
+saying accepted = Accepted
+saying (gives a) = answered a
+saying (refused k) = Refused k
 
 -- do two lists of arcs agree at the point?
 abbrev pub agreeAt : Point → List Arc → List Arc → Bool
@@ -56,13 +56,13 @@ stream-more r l e = λ i. record { count = sym (length-append l (e ∷ [])) i; p
 
 within-limits : (st : Setting) → Opened st → (a : Numbers) (b : Load) → LoadPassed st a b → WithinLimits (asks st) b
 within-limits st o a b h =
-    let u = units-within (asks st) (a .claim) (b .arc) (h .allowed .weight-within) in
+    let u = units-limited (asks st) (a .claim) (b .arc) (h .allowed .weight-within) in
     record {
       tail-below = omega (arith, o .sized .at-most, h .allowed .joins .tail-below);
       head-below = omega (arith, o .sized .at-most, h .allowed .joins .head-below);
-      amount-within = omega (arith, leb→le (b .amount) (rulesOf st (a .claim) .most (b .arc)) (h .amount), u .amount);
-      cost-within = u .cost;
-      units-within = u .units;
+      amount-within = omega (arith, leb→le (b .amount) (rulesOf st (a .claim) .most (b .arc)) (h .amount-ok), u .most-within);
+      cost-within = u .cost-within;
+      units-within = u .units-within;
     }
 
 -- a void session refuses every step
@@ -78,8 +78,8 @@ void-stays finish = refl
 -- what is handed back is settled by the checks, and so is what is said
 decided : {A : Type 0} (see : A → Session) (g : ℕ → Reply) (left : ℕ → A) → ((k : ℕ) → g k ≡ hand (see (left k)) (Refused k))
     → (x : Session) (v : A) (a : Said) (cs : List Check) → (Hold cs → x ≡ see v)
-    → settle g cs (hand x (told a)) ≡ hand (see (settle left cs v)) (told (settle refused cs a))
-decided see g left e x v a [] h = ap (λ (y : Session). hand y (told a)) (h tt)
+    → settle g cs (hand x (saying a)) ≡ hand (see (settle left cs v)) (saying (settle refused cs a))
+decided see g left e x v a [] h = ap (λ (y : Session). hand y (saying a)) (h tt)
 decided see g left e x v a ((k unless true) ∷ cs) h = decided see g left e x v a cs (λ b. h (tt, b))
 decided see g left e x v a ((k unless false) ∷ cs) h = e k
 
@@ -98,7 +98,7 @@ module _ (st : Setting) (r : Point) where
 
   -- the step of the session is the step of the lists
   abbrev pub Agrees : AcceptedLists → Step → Type 0
-  Agrees x a = step (session x) a ≡ hand (session (next st x a)) (told (reply (agreeAt r) st x a))
+  Agrees x a = step (session x) a ≡ hand (session (next st x a)) (saying (reply (agreeAt r) st x a))
 
   claim-one : (l : List Arc) (k : ℕ) → withState (session (after l)) (withClaim (session (after l) .state) k) ≡ session (certifying l k [] [])
   unfolding sumOf sumAcross
@@ -110,8 +110,8 @@ module _ (st : Setting) (r : Point) where
     abbrev here : AcceptedLists
     here = certifying l k ys f
 
-    abbrev numbers : Numbers
-    numbers = numbersOf (claimOf k) ys
+    abbrev numbersHere : Numbers
+    numbersHere = numbersOf (claimOf k) ys
 
     refusal : (j : ℕ) → refuse (session here) j ≡ hand (session (afterRefusal here j)) (Refused j)
     refusal j = go (eqb j 5)
@@ -122,18 +122,18 @@ module _ (st : Setting) (r : Point) where
 
     -- a step by its rules, where x is the session after it
     ruled : (x : Session) (y : AcceptedLists) (a : Said) (cs : List Check) → (Hold cs → x ≡ session y)
-        → settle (refuse (session here)) cs (hand x (told a)) ≡ hand (session (settle (afterRefusal here) cs y)) (told (settle refused cs a))
+        → settle (refuse (session here)) cs (hand x (saying a)) ≡ hand (session (settle (afterRefusal here) cs y)) (saying (settle refused cs a))
     ruled = decided session (refuse (session here)) (afterRefusal here) refusal
 
     module _ (o : Opened st) (g : AnnotationPassed st l k ys f) where
       fits : length ys ≤ mostVertices
-      fits = omega (arith, g .given, o .sized .at-most)
+      fits = omega (arith, g .numbered, o .sized .at-most)
 
       few : length f ≤ mostArcs
-      few = omega (arith, g .most, g .list .few)
+      few = omega (arith, g .repeated, g .list .few)
 
-      within : Every (WithinLimits (asks st)) f
-      within = every-map (within-limits st o numbers) f (g .loads)
+      loads-within : Every (WithinLimits (asks st)) f
+      loads-within = every-map (within-limits st o numbersHere) f (g .loads)
 
       -- ---- a node number
 
@@ -164,31 +164,31 @@ module _ (st : Setting) (r : Point) where
       loaded b = joined (session here .potentials) (moved (session here .balances) (b .arc .tail) (b .arc .head) (b .amount)) (withRepeat (session here .state) b)
 
       repeat-one : (b : Load) → WithinLimits (asks st) b → loaded b ≡ session (certifying l k ys (f ++ b ∷ []))
-      repeat-one b h = λ i. joined (session here .potentials) (balances-more (asks st) f within few b h i)
+      repeat-one b h = λ i. joined (session here .potentials) (balances-more (asks st) f loads-within few b h i)
           (stateOf 3 (session here .state .reading) (session here .state .numbering)
           (record {
             list = (stream-more r (arcs f) (b .arc) ∙ ap (streamOf r) (sym (arcs-snoc f b))) i;
-            cost = cost-more (asks st) f within few b h i;
+            cost = cost-more (asks st) f loads-within few b h i;
             cut = (ap (λ (m : ℕ → Bool). boundedSum (pos (sumAcross (unitsMost (asks st)) (marked (at ys)) (arcs f))) (pos (unitsMost (asks st) (b .arc) * indicator (crosses m (b .arc))))) (marks-same ys fits)
-                ∙ cut-more (asks st) f within few b h (marked (at ys))) i;
+                ∙ cut-more (asks st) f loads-within few b h (marked (at ys))) i;
           }))
 
       -- what the session holds of the annotation is what was given
-      numbers-same : numbersHeld (session here .state) (potentialsIn (session here)) ≡ numbers
+      numbers-same : numbersHeld (session here .state) (potentialsIn (session here)) ≡ numbersHere
       numbers-same = λ i. record { claim = claimOf k; given = length ys; number = at-list mostVertices ys fits i; mark = marks-same ys fits i }
 
       repeat-step : (b : Load) → Agrees here (repeat b)
       unfolding repeatStep
       repeat-step b =
           ap₂ (λ (a : Numbers) (n : ℕ). settle (refuse (session here)) (repeatingChecks st a (length l) n b) (accept (loaded b))) numbers-same (length-map f (λ b. b .arc))
-          ∙ ruled (loaded b) (certifying l k ys (f ++ b ∷ [])) accepted (repeatingChecks st numbers (length l) (length f) b)
-          (λ h. repeat-one b (within-limits st o numbers b (repeat-passed st numbers (length l) (length f) b h)))
+          ∙ ruled (loaded b) (certifying l k ys (f ++ b ∷ [])) accepted (repeatingChecks st numbersHere (length l) (length f) b)
+          (λ h. repeat-one b (within-limits st o numbersHere b (repeat-passed st numbersHere (length l) (length f) b h)))
 
       -- ---- finishing
 
       sums-same : sumsIn (session here) ≡ sumsAt st ys f
       sums-same = λ i. record {
-        balances = balances-at (asks st) f within few i;
+        balances = balances-at (asks st) f loads-within few i;
         cost = pos (sumOf (unitCost (asks st)) f);
         cut = pos (sumAcross (unitsMost (asks st)) (marked (at ys)) (arcs f));
       }
@@ -196,16 +196,16 @@ module _ (st : Setting) (r : Point) where
       abbrev finishes : Numbers → ℕ → Sums → List Check
       finishes a n u = finishingChecks st a (length l) n (agreeAt r l (arcs f)) u
 
-      abbrev answer : Said
-      answer = gives (answerOf st (claimOf k) (sumsAt st ys f))
+      abbrev result : Said
+      result = gives (answerOf st (claimOf k) (sumsAt st ys f))
 
       finish-step : Agrees here finish
       unfolding finishStep
       finish-step =
           (λ i. settle (refuse (session here)) (finishes (numbers-same i) (length-map f (λ b. b .arc) i) (sums-same i)) (hand void (answered (answerOf st (claimOf k) (sums-same i)))))
-          ∙ ruled void closed answer (finishes numbers (length f) (sumsAt st ys f)) (λ h. refl)
-          ∙ ap (λ (x : AcceptedLists). hand (session x) (told (settle refused (finishes numbers (length f) (sumsAt st ys f)) answer)))
-          (ended here (eqb (length ys) (st .n)) (leb (length l) (length f)) (agreeAt r l (arcs f)) (balancesOk st (claimOf k) (sumsAt st ys f)) (sumsOk st numbers (sumsAt st ys f)))
+          ∙ ruled void closed result (finishes numbersHere (length f) (sumsAt st ys f)) (λ h. refl)
+          ∙ ap (λ (x : AcceptedLists). hand (session x) (saying (settle refused (finishes numbersHere (length f) (sumsAt st ys f)) result)))
+          (ended here (eqb (length ys) (st .n)) (leb (length l) (length f)) (agreeAt r l (arcs f)) (balancesOk st (claimOf k) (sumsAt st ys f)) (sumsOk st numbersHere (sumsAt st ys f)))
 
   pub steps-agree : (x : AcceptedLists) → Opened st → Invariant st x → (a : Step) → Agrees x a
   unfolding readStep endStep claimStep numberStep repeatStep finishStep

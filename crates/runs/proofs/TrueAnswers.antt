@@ -5,7 +5,7 @@ use mathlib.Core.Bool.{Bool, _&&_}
 use mathlib.Core.List.{List}
 use Prim.Native.Nat.{ℕ}
 use native.Mathlib.Omega.{arith}
-use lib.Dec.{T, leb, leb→le, eqb→eq}
+use lib.Dec.{leb, leb→le, eqb→eq}
 use lib.IntN.{ℤ}
 use lib.ListN.{length}
 use Rattle.prelude.specs.Checks.{Hold}
@@ -29,14 +29,14 @@ module _ (st : Setting) (l : List Arc) (k : ℕ) (ys : List ℤ) (f : List Load)
 
   module _ (same : Bool) (h : Hold (finishingChecks st (numbersOf (claimOf k) ys) (length l) (length f) same (sumsAt st ys f))) where
     pub same-size : length f ≡ length l
-    same-size = omega (arith, leb→le (length l) (length f) (h .1 .0), g .most)
+    same-size = omega (arith, leb→le (length l) (length f) (h .1 .0), g .repeated)
 
     passed : Passed st (claimOf k) (at ys) f
     passed = record {
-      claim = and-right (leb 1 k && leb k 2) (rulesOf st (claimOf k) .admitted) (g .claimed);
+      claim = and-right (leb 1 k && leb k 2) (rulesOf st (claimOf k) .admitted) (g .claim-ok);
       nodes = at-allTo (st .n) (λ v. nodeOk st (claimOf k) v (at ys v)) (λ v b. g .nodes v (omega (arith, eqb→eq (length ys) (st .n) (h .0))));
-      amounts = every→all (amountOk st (claimOf k)) (λ b (u : LoadPassed st (numbersOf (claimOf k) ys) b). u .amount) f (g .loads);
-      on-arcs = every→all (ruleOk st (numbersOf (claimOf k) ys)) (λ b (u : LoadPassed st (numbersOf (claimOf k) ys) b). u .rule) f (g .loads);
+      amounts = every→all (amountOk st (claimOf k)) (λ b (u : LoadPassed st (numbersOf (claimOf k) ys) b). u .amount-ok) f (g .loads);
+      on-arcs = every→all (ruleOk st (numbersOf (claimOf k) ys)) (λ b (u : LoadPassed st (numbersOf (claimOf k) ys) b). u .rule-ok) f (g .loads);
       balances = h .1 .1 .1 .0;
       sums = h .1 .1 .1 .1 .0;
     }

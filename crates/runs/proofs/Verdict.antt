@@ -12,7 +12,7 @@ use lib.Dec.{T, eqb, lt→ltb}
 use lib.IntN.{ℤ}
 use lib.ListN.{length, take, length-append}
 use lib.Seq.{append-snoc}
-use Rattle.prelude.specs.Checks.{Check, _unless_, settle, Hold}
+use Rattle.prelude.specs.Checks.{Check, settle, Hold}
 use Rattle.prelude.proofs.Booleans.{fails}
 use Rattle.prelude.proofs.Settle.{settle-append, settle-map}
 use Rattle.network.specs.Network.{Arc, Load, arcs}
@@ -45,56 +45,56 @@ module _ (agree : List Arc → List Arc → Bool) (st : Setting) where
   -- ---- the first answer that is not `accepted`
 
   -- Steps of one kind: what they bring is held in a list, where the rule on each holds.
-  record Kind {A : Type 0} (make : A → Step) (listed : List A → AcceptedLists) (rule : ℕ → A → List Check) (rules : ℕ → List A → List Check) : Type 0 where
-    left : List A → ℕ → AcceptedLists
-    moves : (l : List A) (a : A) → next st (listed l) (make a) ≡ settle (left l) (rule (length l) a) (listed (l ++ a ∷ []))
-    answers : (l : List A) (a : A) → reply agree st (listed l) (make a) ≡ settle refused (rule (length l) a) accepted
-    none : (i : ℕ) → rules i [] ≡ []
-    more : (i : ℕ) (a : A) (l : List A) → rules i (a ∷ l) ≡ rule i a ++ rules (suc i) l
+  record OneKind {A : Type 0} (make : A → Step) (listed : List A → AcceptedLists) (rule : ℕ → A → List Check) (rules : ℕ → List A → List Check) : Type 0 where
+    kept : List A → ℕ → AcceptedLists
+    moves : (l : List A) (a : A) → next st (listed l) (make a) ≡ settle (kept l) (rule (length l) a) (listed (l ++ a ∷ []))
+    says : (l : List A) (a : A) → reply agree st (listed l) (make a) ≡ settle refused (rule (length l) a) accepted
+    rules-none : (i : ℕ) → rules i [] ≡ []
+    rules-more : (i : ℕ) (a : A) (l : List A) → rules i (a ∷ l) ≡ rule i a ++ rules (suc i) l
 
-  outcome-each : {A : Type 0} {make : A → Step} {listed : List A → AcceptedLists} {rule : ℕ → A → List Check} {rules : ℕ → List A → List Check} → Kind make listed rule rules
+  outcome-each : {A : Type 0} {make : A → Step} {listed : List A → AcceptedLists} {rule : ℕ → A → List Check} {rules : ℕ → List A → List Check} → OneKind make listed rule rules
       → (l before : List A) (steps : List Step)
       → outcome (heard (listed before) (map make l ++ steps)) ≡ settle refused (rules (length before) l) (outcome (heard (listed (before ++ l)) steps))
   unfolding replies
-  outcome-each kind [] before steps = rw (kind .none (length before), append-nil before) refl
+  outcome-each kind [] before steps = rw (kind .rules-none (length before), append-nil before) refl
   outcome-each {make} {listed} {rule} {rules} kind (a ∷ l) before steps =
-      rw (kind .more (length before) a l)
-      (ap₂ (λ (b : Said) (x : AcceptedLists). outcome (b ∷ heard x (map make l ++ steps))) (kind .answers before a) (kind .moves before a)
-      ∙ outcome-step (λ x. heard x (map make l ++ steps)) (kind .left before) (rule (length before) a) (listed (before ++ a ∷ []))
+      rw (kind .rules-more (length before) a l)
+      (ap₂ (λ (b : Said) (x : AcceptedLists). outcome (b ∷ heard x (map make l ++ steps))) (kind .says before a) (kind .moves before a)
+      ∙ outcome-step (λ x. heard x (map make l ++ steps)) (kind .kept before) (rule (length before) a) (listed (before ++ a ∷ []))
       ∙ ap (settle refused (rule (length before) a))
       (outcome-each kind l (before ++ a ∷ []) steps
       ∙ ap₂ (λ i k. settle refused (rules i l) (outcome (heard (listed k) steps))) (snoc-length before a) (append-snoc before a l))
       ∙ sym (settle-append refused (rule (length before) a) (rules (suc (length before)) l) (outcome (heard (listed (before ++ a ∷ l)) steps))))
 
-  reads : Kind read during (readingChecks st) (readingAll st)
+  reading-kind : OneKind read during (readingChecks st) (readingAll st)
   unfolding readingAll
-  reads = record {
-    left = λ l why. during l;
+  reading-kind = record {
+    kept = λ l why. during l;
     moves = λ l e. settle-map during (λ why. l) (readingChecks st (length l) e) (l ++ e ∷ []);
-    answers = λ l e. refl;
-    none = λ i. refl;
-    more = λ i e l. refl;
+    says = λ l e. refl;
+    rules-none = λ i. refl;
+    rules-more = λ i e l. refl;
   }
 
   module _ (net : List Arc) (k : ℕ) where
-    numbers : Kind number (λ ys. certifying net k ys []) (numberingChecks st (claimOf k)) (numberingAll st (claimOf k))
+    numbering-kind : OneKind number (λ ys. certifying net k ys []) (numberingChecks st (claimOf k)) (numberingAll st (claimOf k))
     unfolding numberingAll
-    numbers = record {
-      left = λ ys. afterRefusal (certifying net k ys []);
+    numbering-kind = record {
+      kept = λ ys. afterRefusal (certifying net k ys []);
       moves = λ ys z. refl;
-      answers = λ ys z. refl;
-      none = λ i. refl;
-      more = λ i z l. refl;
+      says = λ ys z. refl;
+      rules-none = λ i. refl;
+      rules-more = λ i z l. refl;
     }
 
-    repeats : (ys : List ℤ) → Kind repeat (certifying net k ys) (repeatingChecks st (numbersOf (claimOf k) ys) (length net)) (repeatingAll st (numbersOf (claimOf k) ys) (length net))
+    repeating-kind : (ys : List ℤ) → OneKind repeat (certifying net k ys) (repeatingChecks st (numbersOf (claimOf k) ys) (length net)) (repeatingAll st (numbersOf (claimOf k) ys) (length net))
     unfolding repeatingAll
-    repeats ys = record {
-      left = λ f. afterRefusal (certifying net k ys f);
+    repeating-kind ys = record {
+      kept = λ f. afterRefusal (certifying net k ys f);
       moves = λ f b. refl;
-      answers = λ f b. refl;
-      none = λ i. refl;
-      more = λ i b l. refl;
+      says = λ f b. refl;
+      rules-none = λ i. refl;
+      rules-more = λ i b l. refl;
     }
 
     module _ (ys : List ℤ) (f : List Load) where
@@ -109,14 +109,14 @@ module _ (agree : List Arc → List Arc → Bool) (st : Setting) where
       outcome-annotation =
           outcome-step (λ x. heard x (numberSteps ys f)) (λ why. after net) (claimingChecks st k) (certifying net k [] [])
           ∙ ap (settle refused (claimingChecks st k))
-          (outcome-each numbers ys [] (repeatSteps f)
-          ∙ ap (settle refused (numberingAll st (claimOf k) 0 ys)) (outcome-each (repeats ys) f [] (finish ∷ []) ∙ ap (settle refused (repeatingAll st (numbersOf (claimOf k) ys) (length net) 0 f)) (outcome-alone _))
+          (outcome-each numbering-kind ys [] (repeatSteps f)
+          ∙ ap (settle refused (numberingAll st (claimOf k) 0 ys)) (outcome-each (repeating-kind ys) f [] (finish ∷ []) ∙ ap (settle refused (repeatingAll st (numbersOf (claimOf k) ys) (length net) 0 f)) (outcome-alone _))
           ∙ sym (settle-append refused (numberingAll st (claimOf k) 0 ys) (repeatingAll st (numbersOf (claimOf k) ys) (length net) 0 f) (settle refused final result)))
 
       outcome-exchange : outcome (heard (during []) (exchange net k ys f)) ≡ settle refused (readingAll st 0 net ++ (annotationRules st (length net) k ys f ++ final)) result
       unfolding replies
       outcome-exchange =
-          outcome-each reads net [] (end ∷ claim k ∷ numberSteps ys f)
+          outcome-each reading-kind net [] (end ∷ claim k ∷ numberSteps ys f)
           ∙ ap (settle refused (readingAll st 0 net)) (outcome-annotation ∙ sym (settle-append refused (annotationRules st (length net) k ys f) final result))
           ∙ sym (settle-append refused (readingAll st 0 net) (annotationRules st (length net) k ys f ++ final) result)
 
@@ -196,4 +196,4 @@ pub reading-broken : (st : Setting) (r : Point) (net : List Arc) → Opens st r
     → outcome (runFrom st r (map read net ++ [])) ≡ settle refused (readingAll st 0 net) accepted
 unfolding replies
 reading-broken st r net o =
-    ap outcome (runs-agree st r o (map read net ++ [])) ∙ outcome-each (agreeAt r) st (reads (agreeAt r) st) net [] []
+    ap outcome (runs-agree st r o (map read net ++ [])) ∙ outcome-each (agreeAt r) st (reading-kind (agreeAt r) st) net [] []

@@ -91,11 +91,11 @@ module _ {P : Type 0} (agrees : P → List Arc → List Arc → Bool) (st : Sett
   WrongIn x steps r = Some (Wrong st net) (replies (agrees r) st x steps)
 
   -- the list read will be `net`
-  abbrev Fits : List Step → AcceptedLists → Type 0
-  Fits steps closed = Unit {0}
-  Fits steps (during l) = listFrom st l steps ≡ net
-  Fits steps (after l) = l ≡ net
-  Fits steps (certifying l k ys f) = l ≡ net
+  abbrev WillRead : List Step → AcceptedLists → Type 0
+  WillRead steps closed = Unit {0}
+  WillRead steps (during l) = listFrom st l steps ≡ net
+  WillRead steps (after l) = l ≡ net
+  WillRead steps (certifying l k ys f) = l ≡ net
 
   quiet : (cs : List Check) → Wrong st net (settle refused cs accepted) → ⊥
   quiet cs = settle-keeps (λ a. Wrong st net a → ⊥) refused cs accepted (λ k w. w) (λ h w. w)
@@ -113,11 +113,11 @@ module _ {P : Type 0} (agrees : P → List Arc → List Arc → Bool) (st : Sett
       first r (inr w) = absurd (never st net (replies (agrees r) st closed steps) (closed-refuses (agrees r) st steps) w)
 
   -- finishing gives an answer that is not true
-  abbrev ends : List Arc → ℕ → List ℤ → List Load → P → List Check
-  ends l k ys f r = finishingChecks st (numbersOf (claimOf k) ys) (length l) (length f) (agrees r l (arcs f)) (sumsAt st ys f)
+  abbrev finishRules : List Arc → ℕ → List ℤ → List Load → P → List Check
+  finishRules l k ys f r = finishingChecks st (numbersOf (claimOf k) ys) (length l) (length f) (agrees r l (arcs f)) (sumsAt st ys f)
 
   abbrev Untrue : List Arc → ℕ → List ℤ → List Load → P → Type 0
-  Untrue l k ys f r = Hold (ends l k ys f r) × ¬ (TrueAnswer st net (answerOf st (claimOf k) (sumsAt st ys f)))
+  Untrue l k ys f r = Hold (finishRules l k ys f r) × ¬ (TrueAnswer st net (answerOf st (claimOf k) (sumsAt st ys f)))
 
   -- then the lists are as long and agree, but are no permutations
   untrue : (l : List Arc) (k : ℕ) (ys : List ℤ) (f : List Load) → AnnotationPassed st l k ys f → l ≡ net → Blame agrees st (length net) (Untrue l k ys f)
@@ -133,7 +133,7 @@ module _ {P : Type 0} (agrees : P → List Arc → List Arc → Bool) (st : Sett
                 (true-answer st l k ys f g (agrees r l (arcs f)) (w .0) o m)),
           ))
 
-  blame : (steps : List Step) (x : AcceptedLists) → Invariant st x → Fits steps x → Blame agrees st (length net) (WrongIn x steps)
+  blame : (steps : List Step) (x : AcceptedLists) → Invariant st x → WillRead steps x → Blame agrees st (length net) (WrongIn x steps)
   unfolding replies listFrom
   blame [] x g fit = nobody (λ r w. w)
   blame (a ∷ steps) closed g fit = later (λ r w. w) (blame steps closed g fit)
@@ -147,7 +147,7 @@ module _ {P : Type 0} (agrees : P → List Arc → List Arc → Bool) (st : Sett
   blame (end ∷ steps) (after l) g fit = later (λ r w. w) (blame steps (after l) g fit)
   blame (claim k ∷ steps) (after l) g fit =
       later (λ r. quiet (claimingChecks st k)) (blame steps (next st (after l) (claim k)) (invariant-next st (after l) g (claim k))
-      (settle-keeps (Fits steps) (λ why. after l) (claimingChecks st k) (certifying l k [] []) (λ why. fit) (λ h. fit)))
+      (settle-keeps (WillRead steps) (λ why. after l) (claimingChecks st k) (certifying l k [] []) (λ why. fit) (λ h. fit)))
   blame (number z ∷ steps) (after l) g fit = later (λ r w. w) (blame steps (after l) g fit)
   blame (repeat b ∷ steps) (after l) g fit = later (λ r w. w) (blame steps (after l) g fit)
   blame (finish ∷ steps) (after l) g fit = later (λ r w. w) (blame steps (after l) g fit)
@@ -157,13 +157,13 @@ module _ {P : Type 0} (agrees : P → List Arc → List Arc → Bool) (st : Sett
   blame (number z ∷ steps) (certifying l k ys f) g fit =
       let rule = numberingChecks st (claimOf k) (length ys) z in
       later (λ r. quiet rule) (blame steps (next st (certifying l k ys f) (number z)) (invariant-next st (certifying l k ys f) g (number z))
-      (settle-keeps (Fits steps) (afterRefusal (certifying l k ys f)) rule (certifying l k (ys ++ z ∷ []) f) (refusal-keeps (Fits steps) (certifying l k ys f) fit tt) (λ h. fit)))
+      (settle-keeps (WillRead steps) (afterRefusal (certifying l k ys f)) rule (certifying l k (ys ++ z ∷ []) f) (refusal-keeps (WillRead steps) (certifying l k ys f) fit tt) (λ h. fit)))
   blame (repeat b ∷ steps) (certifying l k ys f) g fit =
       let rule = repeatingChecks st (numbersOf (claimOf k) ys) (length l) (length f) b in
       later (λ r. quiet rule) (blame steps (next st (certifying l k ys f) (repeat b)) (invariant-next st (certifying l k ys f) g (repeat b))
-      (settle-keeps (Fits steps) (afterRefusal (certifying l k ys f)) rule (certifying l k ys (f ++ b ∷ [])) (refusal-keeps (Fits steps) (certifying l k ys f) fit tt) (λ h. fit)))
+      (settle-keeps (WillRead steps) (afterRefusal (certifying l k ys f)) rule (certifying l k ys (f ++ b ∷ [])) (refusal-keeps (WillRead steps) (certifying l k ys f) fit tt) (λ h. fit)))
   blame (finish ∷ steps) (certifying l k ys f) g fit =
-      finish-blame (certifying l k ys f) steps (answerOf st (claimOf k) (sumsAt st ys f)) (eqb (length ys) (st .n)) (λ r. tail (ends l k ys f r))
+      finish-blame (certifying l k ys f) steps (answerOf st (claimOf k) (sumsAt st ys f)) (eqb (length ys) (st .n)) (λ r. tail (finishRules l k ys f r))
       (untrue l k ys f g fit) (blame steps (certifying l k ys f) g fit)
 
 -- ---- opening
@@ -199,7 +199,7 @@ few-blamed st size Bad point b [] d a = omega arith
 few-blamed st size Bad point (nobody h) (r ∷ rs) d a = absurd (h r (a .0))
 few-blamed st size Bad point (lists l m o hl hm e e′ h) (r ∷ rs) d a =
     let few = few-mislead st l m o hl hm (e ∙ sym e′) (h r (a .0) .1) (r ∷ rs) d
-        (every-map (λ x w. (point x w, same-print (printOf x l) (printOf x m) (h x w .0))) (r ∷ rs) a) in
+    (every-map (λ x w. (point x w, same-print (printOf x l) (printOf x m) (h x w .0))) (r ∷ rs) a) in
     rw e at few
 
 pub few-wrong : FewWrong
