@@ -31,6 +31,7 @@ pub record LoadPassed (st : Setting) (a : Numbers) (b : Load) : Type 0 where
   pub amount-ok : T (amountOk st (a .claim) b)
   pub rule-ok : T (ruleOk st a b)
 
+-- the claim, the node numbers and the repeated arcs, after the arcs l were read
 pub record AnnotationPassed (st : Setting) (l : List Arc) (k : ℕ) (ys : List ℤ) (f : List Load) : Type 0 where
   pub list : Readable st l
   pub claim-ok : T (claimOk st k)

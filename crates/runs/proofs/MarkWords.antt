@@ -14,6 +14,7 @@ use Rattle.prelude.specs.Integers.{eqZ}
 use Rattle.prelude.specs.Lists.{at}
 use Rattle.words.specs.Marks.{isMarked, withMark}
 use Rattle.words.proofs.MarkLaws.{marked-same, marked-other}
+use Rattle.network.specs.Limits.{mostVertices}
 use Rattle.network.specs.Certificate.{marked}
 use Rattle.state.specs.State.{marksAfter}
 use Rattle.runs.proofs.AcceptedLists.{marksFrom, marksOf}
@@ -71,5 +72,5 @@ no-mark n k = rw (word (decLt (k / 64) n), zero-div (2 ^ (k % 64)))
     word (yes h) = getD-replicate n (k / 64) 0 0 h
     word (no h) = List·getD-eq-default (replicate n 0) 0 (omega (arith, length-replicate {A = ℕ} n 0))
 
-pub marks-same : (ys : List ℤ) → length ys ≤ 255 → isMarked (marksOf ys) ≡ marked (at ys)
+pub marks-same : (ys : List ℤ) → length ys ≤ mostVertices → isMarked (marksOf ys) ≡ marked (at ys)
 marks-same ys l = fun-ext (λ k. ap (isMarked (marksOf ys)) (omega arith) ∙ marks-at ys 0 (replicate 4 0) refl (omega arith) (λ j h. no-mark 4 j) k)

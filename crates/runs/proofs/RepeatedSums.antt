@@ -28,7 +28,7 @@ use Rattle.network.proofs.Sums.{Compared, compared, sumOf-none}
 use Rattle.state.specs.Arrays.{takenAt, moved}
 use Rattle.runs.proofs.VertexArrays.{length-listTo, at-listTo, listTo-is, changed}
 
--- a load on an arc between vertices, with what it may add to each sum
+-- a load between vertices that there are, and with numbers no larger than the greatest weight
 pub record WithinLimits (q : Question) (l : Load) : Type 0 where
   pub tail-below : l .arc .tail < mostVertices
   pub head-below : l .arc .head < mostVertices
@@ -88,12 +88,12 @@ module _ (q : Question) (f : List Load) (loads : Every (WithinLimits q) f) (few 
           let in′ = sumOf-none (λ e. e .head) v f (every-map (λ l (k : WithinLimits q l). let b = k .head-below in omega arith) f loads) in
           omega (signed, balance-parts (leaving v f) (entering v f), parts-min (balance v f))
 
-  at-an-end : (end : Arc → ℕ) (v : ℕ) → sumOf (λ e. delta (end e) v) f ≤ 134213632
+  at-an-end : (end : Arc → ℕ) (v : ℕ) → sumOf (λ e. delta (end e) v) f ≤ mostArcs * mostWeight
   at-an-end end v =
       let most = sumOf-most (λ e. delta (end e) v) mostWeight f (every-map (λ l (k : WithinLimits q l). let b = k .amount-within in omega (arith, at-one-end (l .amount) (end (l .arc)) v)) f loads) in
       omega arith
 
-  balance-within : (v : ℕ) → (posPart (balance v f) ≤ 134213632) × (negPart (balance v f) ≤ 134213632)
+  balance-within : (v : ℕ) → (posPart (balance v f) ≤ mostArcs * mostWeight) × (negPart (balance v f) ≤ mostArcs * mostWeight)
   balance-within v =
       let out = at-an-end (λ e. e .tail) v in
       let in′ = at-an-end (λ e. e .head) v in
@@ -152,7 +152,7 @@ module _ (q : Question) (f : List Load) (loads : Every (WithinLimits q) f) (few 
 
     pub cost-more : boundedSum (pos (sumOf (unitCost q) f)) (pos (l .amount * unitCost q (l .arc))) ≡ pos (sumOf (unitCost q) (f ++ l ∷ []))
     cost-more =
-        let most = sumOf-most (unitCost q) 1073676289 f (every-map (λ b (k : WithinLimits q b). mul-le-mul (k .amount-within) (k .cost-within)) f loads) in
+        let most = sumOf-most (unitCost q) (mostWeight * mostWeight) f (every-map (λ b (k : WithinLimits q b). mul-le-mul (k .amount-within) (k .cost-within)) f loads) in
         plus-pos (sumOf (unitCost q) f) (l .amount * unitCost q (l .arc)) (omega arith) (omega (arith, mul-le-mul (h .amount-within) (h .cost-within)))
         ∙ ap pos (sym (sumOf-snoc (unitCost q) f l))
 

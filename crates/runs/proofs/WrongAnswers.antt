@@ -42,7 +42,7 @@ use Rattle.runs.proofs.TrueAnswers.{again, same-size, true-answer}
 -- ---- whose fault a wrong answer is
 
 -- Nobody's, at no point; or that of two lists of `size` arcs that reading accepts, which are no permutations and agree at the point. The points may be of any type.
-pub data Blame {P : Type 0} (agrees : P → List Arc → List Arc → Bool) (st : Setting) (size : ℕ) (Bad : P → Type 0) : Type 0 where
+data Blame {P : Type 0} (agrees : P → List Arc → List Arc → Bool) (st : Setting) (size : ℕ) (Bad : P → Type 0) : Type 0 where
   nobody : ((r : P) → Bad r → ⊥) → Blame agrees st size Bad
   lists : (l m : List Arc) → Opened st → Every (Allowed st) l → Every (Allowed st) m → length l ≡ size → length m ≡ size
       → ((r : P) → Bad r → T (agrees r l m) × ¬ (Perm l m)) → Blame agrees st size Bad
@@ -112,10 +112,11 @@ module _ {P : Type 0} (agrees : P → List Arc → List Arc → Bool) (st : Sett
       first r (inl w) = let h = wrong-held st net a (cs r) w in ((tt, h .0), h .1)
       first r (inr w) = absurd (never st net (replies (agrees r) st closed steps) (closed-refuses (agrees r) st steps) w)
 
-  -- finishing gives an answer that is not true
+  -- the rules of finishing at the point r
   abbrev finishRules : List Arc → ℕ → List ℤ → List Load → P → List Check
   finishRules l k ys f r = finishingChecks st (numbersOf (claimOf k) ys) (length l) (length f) (agrees r l (arcs f)) (sumsAt st ys f)
 
+  -- they hold, and the answer is not true
   abbrev Untrue : List Arc → ℕ → List ℤ → List Load → P → Type 0
   Untrue l k ys f r = Hold (finishRules l k ys f r) × ¬ (TrueAnswer st net (answerOf st (claimOf k) (sumsAt st ys f)))
 
