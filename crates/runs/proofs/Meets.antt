@@ -15,28 +15,32 @@ use lib.Seq.{take-all}
 use Rattle.prelude.specs.Checks.{Check, settle, Hold}
 use Rattle.prelude.specs.Lists.{Every, all, at}
 use Rattle.prelude.proofs.Booleans.{and-left, and-right, both}
-use Rattle.prelude.proofs.Permutations.{perm-sym, perm-length, perm-every, perm-map}
+use Rattle.prelude.proofs.Permutations.{perm-sym, perm-length, perm-every}
 use Rattle.prelude.proofs.Settle.{settled, hold-append, hold-left, hold-right, settled-back}
 use Rattle.prelude.proofs.Sums.{allTo-at, at-allTo}
-use Rattle.field.proofs.Promises.{permutations-agree}
-use Rattle.network.specs.Network.{Arc, Load, arcs, key}
-use Rattle.network.specs.Question.{Question, shortestPath, maximumFlow, assignment, Setting, Opened, Allowed, Answer}
-use Rattle.network.specs.Certificate.{marked}
-use Rattle.network.specs.Tests.{settingOf, Claim, ofValue, ofNone, claimNumber, claimOf, claimFor, mayClaim, claimOk, nodeOk, amountOk, ruleOk, Sums, answerFor, answerOf, Passed}
-use Rattle.network.proofs.Allowed.{joins-rule, joins-test, weight-rule, weight-test}
-use Rattle.network.proofs.Promises.{certificates-sound, tests-suffice, tests-needed}
-use Rattle.session.specs.Print.{Point, printOf, samePrint}
-use Rattle.session.specs.Session.{gives, refused}
+use Rattle.network.specs.Limits.{mostArcs}
+use Rattle.network.specs.Network.{Arc, Load, arcs}
+use Rattle.network.specs.Question.{Question, shortestPath, maximumFlow, assignment, unasked, Setting, asks, Allowed, Answer}
+use Rattle.network.specs.Certificate.{Claim, ofValue, ofNone, claimFor, Sums, rulesFor, rulesOf}
+use Rattle.network.specs.Tests.{readingAll, claimNumber, claimOf, claimOk, Numbers, nodeOk, amountOk, ruleOk, answerOf, Passed}
+use Rattle.network.proofs.Allowed.{arc-rule, arc-test}
+use Rattle.network.proofs.Promises.{certificates-sound}
+use Rattle.network.proofs.Tests.{passed-certified, certified-passed, certified-answer}
+use Rattle.points.specs.Points.{printOf}
+use Rattle.points.specs.declared.Point.{Point}
+use Rattle.points.proofs.Prints.{same-print, print-same}
+use Rattle.points.proofs.Promises.{same-everywhere}
+use Rattle.state.specs.Answers.{gives, refused}
 use Rattle.runs.specs.Run.{runFrom}
-use Rattle.runs.specs.Exchange.{exchange, last, sumsAt, readRules, numberRules, repeatRules, annotationRules, finalRules, verdict, Open, Readable, Meets}
+use Rattle.runs.specs.Exchange.{exchange, last, numbersOf, sumsAt, numberingAll, repeatingAll, annotationRules, finalRules, verdict, Opens, Readable, Meets}
 use Rattle.runs.specs.Promises.{Answers, Outcomes, TrueWhereSame, CertificatesPass}
-use Rattle.runs.proofs.Looks.{no-answer}
+use Rattle.runs.proofs.FirstAndLast.{no-answer}
 use Rattle.runs.proofs.Verdict.{first-broken, last-gives}
 
 -- ---- an answer is given where every rule holds
 
-pub given : (cs : List Check) (v a : Answer) → settle refused cs (gives v) ≡ gives a → Hold cs × (v ≡ a)
-given cs v a e = let u = settled-back refused cs (gives v) (gives a) (λ k. no-answer k a) e in let same = u .1 in (u .0, cc)
+pub gives-held : (cs : List Check) (v a : Answer) → settle refused cs (gives v) ≡ gives a → Hold cs × (v ≡ a)
+gives-held cs v a e = let u = settled-back refused cs (gives v) (gives a) (λ k. no-answer k a) e in let same = u .1 in (u .0, cc)
 
 -- ---- the claim
 
@@ -51,129 +55,129 @@ claim-of-number : (c : Claim) → claimOf (claimNumber c) ≡ c
 claim-of-number ofValue = refl
 claim-of-number ofNone = refl
 
-claim-fits : (st : Setting) (c : Claim) → T (mayClaim (st .question) c) → T (claimOk st (claimNumber c))
+claim-fits : (st : Setting) (c : Claim) → T (rulesOf st c .admitted) → T (claimOk st (claimNumber c))
 claim-fits st ofValue h = h
 claim-fits st ofNone h = h
 
-claim-answered : (q : Question) (c : Claim) (u : Sums) → claimFor (answerFor q c (u .cost) (u .cut)) ≡ c
-claim-answered q ofNone u = refl
-claim-answered shortestPath ofValue u = refl
-claim-answered maximumFlow ofValue u = refl
-claim-answered assignment ofValue u = refl
+claim-answered : (q : Question) (c : Claim) → T (rulesFor q c .admitted) → (u : Sums) → claimFor (rulesFor q c .answer u) ≡ c
+claim-answered shortestPath ofValue h u = refl
+claim-answered shortestPath ofNone h u = refl
+claim-answered maximumFlow ofValue h u = refl
+claim-answered maximumFlow ofNone h u = refl
+claim-answered assignment ofValue h u = refl
+claim-answered assignment ofNone h u = refl
+claim-answered unasked c h u = absurd h
 
 -- ---- each part of the rules, for every element
 
 module _ (st : Setting) where
-  read-holds : (net : List Arc) (i : ℕ) → Every (Allowed st) net → i + length net ≤ 4096 → Hold (readRules st i net)
-  unfolding readRules
+  read-holds : (net : List Arc) (i : ℕ) → Every (Allowed st) net → i + length net ≤ mostArcs → Hold (readingAll st i net)
+  unfolding readingAll
   read-holds [] i h b = tt
   read-holds (e ∷ net) i h b =
-      (lt→ltb i 4096 (omega arith), (joins-test st e (h .0 .joins), (weight-test e (h .0 .weight-within), read-holds net (suc i) (h .1) (omega arith))))
+      let t = arc-test st e (h .0) in
+      (lt→ltb i mostArcs (omega arith), (t .0, (t .1 .0, read-holds net (suc i) (h .1) (omega arith))))
 
   module _ (c : Claim) where
-    number-holds : (ys : List ℤ) (i : ℕ) → i + length ys ≤ st .n → ((j v : ℕ) → i + j ≡ v → j < length ys → T (nodeOk st c v (at ys j))) → Hold (numberRules st c i ys)
-    unfolding numberRules
+    number-holds : (ys : List ℤ) (i : ℕ) → i + length ys ≤ st .n → ((j v : ℕ) → i + j ≡ v → j < length ys → T (nodeOk st c v (at ys j))) → Hold (numberingAll st c i ys)
+    unfolding numberingAll
     number-holds [] i b h = tt
     number-holds (z ∷ ys) i b h =
         (lt→ltb i (st .n) (omega arith), (h 0 i (omega arith) (omega arith), number-holds ys (suc i) (omega arith) (λ j v e l. h (suc j) v (omega arith) (omega arith))))
 
-    number-each : (ys : List ℤ) (i : ℕ) → Hold (numberRules st c i ys) → (j v : ℕ) → i + j ≡ v → j < length ys → T (nodeOk st c v (at ys j))
-    unfolding numberRules
-    number-each [] i h j v e b = absurd (omega arith)
-    number-each (z ∷ ys) i h zero v e b = subst (λ (k : ℕ). T (nodeOk st c k z)) (omega arith) (h .1 .0)
-    number-each (z ∷ ys) i h (suc j) v e b = number-each ys (suc i) (h .1 .1) j v (omega arith) (omega arith)
+    each-number : (ys : List ℤ) (i : ℕ) → Hold (numberingAll st c i ys) → (j v : ℕ) → i + j ≡ v → j < length ys → T (nodeOk st c v (at ys j))
+    unfolding numberingAll
+    each-number [] i h j v e b = absurd (omega arith)
+    each-number (z ∷ ys) i h zero v e b = subst (λ (k : ℕ). T (nodeOk st c k z)) (omega arith) (h .1 .0)
+    each-number (z ∷ ys) i h (suc j) v e b = each-number ys (suc i) (h .1 .1) j v (omega arith) (omega arith)
 
-    module _ (ys : List ℤ) (m : ℕ) where
-      record Repeats (i : ℕ) (f : List Load) : Type 0 where
-        records : Every (Allowed st) (arcs f)
-        amounts : T (all (amountOk st c) f)
-        rules : T (all (ruleOk st c (at ys) (marked (at ys))) (arcs f))
-        room : i + length f ≤ m
+  module _ (a : Numbers) (m : ℕ) where
+    record Repeats (i : ℕ) (f : List Load) : Type 0 where
+      records : Every (Allowed st) (arcs f)
+      amounts : T (all (amountOk st (a .claim)) f)
+      rules : T (all (ruleOk st a) f)
+      room : i + length f ≤ m
 
-      repeat-holds : T (eqb (length ys) (st .n)) → (f : List Load) (i : ℕ) → Repeats i f → Hold (repeatRules st c ys m i f)
-      unfolding repeatRules
-      repeat-holds t [] i h = tt
-      repeat-holds t (l ∷ f) i h =
-          let amounts = all (amountOk st c) f in
-          let rules = all (ruleOk st c (at ys) (marked (at ys))) (arcs f) in
-          let e = h .records .0 in
-          let a = and-left (amountOk st c l) amounts (h .amounts) in
-          let u = and-left (ruleOk st c (at ys) (marked (at ys)) (l .arc)) rules (h .rules) in
-          let rest = repeat-holds t f (suc i) record {
-            records = h .records .1;
-            amounts = and-right (amountOk st c l) amounts (h .amounts);
-            rules = and-right (ruleOk st c (at ys) (marked (at ys)) (l .arc)) rules (h .rules);
-            room = omega arith;
-          } in
-          (t, (lt→ltb i m (omega arith), (joins-test st (l .arc) (e .joins), (weight-test (l .arc) (e .weight-within), (a, (u, rest))))))
+    repeat-holds : T (eqb (a .given) (st .n)) → (f : List Load) (i : ℕ) → Repeats i f → Hold (repeatingAll st a m i f)
+    unfolding repeatingAll
+    repeat-holds t [] i h = tt
+    repeat-holds t (l ∷ f) i h =
+        let e = arc-test st (l .arc) (h .records .0) in
+        let x = and-left (amountOk st (a .claim) l) (all (amountOk st (a .claim)) f) (h .amounts) in
+        let u = and-left (ruleOk st a l) (all (ruleOk st a) f) (h .rules) in
+        let rest = repeat-holds t f (suc i) record {
+          records = h .records .1;
+          amounts = and-right (amountOk st (a .claim) l) (all (amountOk st (a .claim)) f) (h .amounts);
+          rules = and-right (ruleOk st a l) (all (ruleOk st a) f) (h .rules);
+          room = omega arith;
+        } in
+        (t, (lt→ltb i m (omega arith), (e .0, (e .1 .0, (x, (u, rest))))))
 
-      repeat-each : (f : List Load) (i : ℕ) → i ≤ m → Hold (repeatRules st c ys m i f) → Repeats i f
-      unfolding repeatRules
-      repeat-each [] i b h = record { records = tt; amounts = tt; rules = tt; room = omega arith }
-      repeat-each (l ∷ f) i b h =
-          let checked = h .1 .1 in
-          let u = repeat-each f (suc i) (ltb→lt i m (h .1 .0)) (checked .1 .1 .1 .1) in
-          record {
-            records = (record { joins = joins-rule st (l .arc) (checked .0); weight-within = weight-rule (l .arc) (checked .1 .0) }, u .records);
-            amounts = both (amountOk st c l) _ (checked .1 .1 .0) (u .amounts);
-            rules = both (ruleOk st c (at ys) (marked (at ys)) (l .arc)) _ (checked .1 .1 .1 .0) (u .rules);
-            room = omega (arith, u .room);
-          }
+    each-repeat : (f : List Load) (i : ℕ) → i ≤ m → Hold (repeatingAll st a m i f) → Repeats i f
+    unfolding repeatingAll
+    each-repeat [] i b h = record { records = tt; amounts = tt; rules = tt; room = omega arith }
+    each-repeat (l ∷ f) i b h =
+        let checked = h .1 .1 in
+        let u = each-repeat f (suc i) (ltb→lt i m (h .1 .0)) (checked .1 .1 .1 .1) in
+        record {
+          records = (arc-rule st (l .arc) (checked .0, (checked .1 .0, tt)), u .records);
+          amounts = both (amountOk st (a .claim) l) _ (checked .1 .1 .0) (u .amounts);
+          rules = both (ruleOk st a l) _ (checked .1 .1 .1 .0) (u .rules);
+          room = omega (arith, u .room);
+        }
 
-  module _ (o : Opened st) (r : Point) (net : List Arc) (k : ℕ) (ys : List ℤ) (f : List Load) where
+  module _ (r : Point) (net : List Arc) (k : ℕ) (ys : List ℤ) (f : List Load) where
     abbrev c : Claim
     c = claimOf k
 
-    abbrev numbers : List Check
-    numbers = numberRules st c 0 ys
+    abbrev numberRules : List Check
+    numberRules = numberingAll st c 0 ys
 
-    abbrev repeated : List Check
-    repeated = repeatRules st c ys (length net) 0 f
+    abbrev repeatRules : List Check
+    repeatRules = repeatingAll st (numbersOf c ys) (length net) 0 f
 
-    abbrev answer : Answer
-    answer = answerOf st c (sumsAt ys f)
+    abbrev result : Answer
+    result = answerOf st c (sumsAt st ys f)
 
     -- rules that hold are met
-    meets : Hold (annotationRules st (length net) k ys f) → Hold (finalRules st r net k ys f) → Meets st r net k ys f answer
+    meets : Hold (annotationRules st (length net) k ys f) → Hold (finalRules st r net k ys f) → Meets st r net k ys f result
     meets h w =
         let e = eqb→eq (length ys) (st .n) (w .0) in
-        let nodes = number-each c ys 0 (hold-left numbers repeated (h .1)) in
-        let u = repeat-each c ys (length net) f 0 (omega arith) (hold-right numbers repeated (h .1)) in
+        let nodes = each-number c ys 0 (hold-left numberRules repeatRules (h .1)) in
+        let u = each-repeat (numbersOf c ys) (length net) f 0 (omega arith) (hold-right numberRules repeatRules (h .1)) in
+        let admitted = and-right (leb 1 k && leb k 2) (rulesOf st c .admitted) (h .0) in
         record {
-          claims = sym (ap claimNumber (claim-answered (st .question) c (sumsAt ys f)) ∙ claim-named k (and-left (leb 1 k && leb k 2) (mayClaim (st .question) c) (h .0)));
+          claims = sym (ap claimNumber (claim-answered (asks st) c admitted (sumsAt st ys f)) ∙ claim-named k (and-left (leb 1 k && leb k 2) (rulesOf st c .admitted) (h .0)));
           one-each = e;
           records = u .records;
-          certificate = tests-suffice st c (at ys) f o record {
-            claim = and-right (leb 1 k && leb k 2) (mayClaim (st .question) c) (h .0);
+          certificate = passed-certified st c (at ys) f record {
+            claim = admitted;
             nodes = at-allTo (st .n) (λ v. nodeOk st c v (at ys v)) (λ v b. nodes v v (omega arith) (omega arith));
             amounts = u .amounts;
-            rules = u .rules;
+            on-arcs = u .rules;
             balances = w .1 .1 .1 .0;
             sums = w .1 .1 .1 .1 .0;
           };
           as-many = omega (arith, leb→le (length net) (length f) (w .1 .0), u .room);
-          fingerprints = eqb→eq (printOf r net) (printOf r (arcs f)) (w .1 .1 .0);
+          fingerprints = same-print (printOf r net) (printOf r (arcs f)) (w .1 .1 .0);
         }
 
     -- rules that are met hold
-    holds : (a : Answer) → Meets st r net k ys f a → Hold (annotationRules st (length net) k ys f) × Hold (finalRules st r net k ys f) × (answer ≡ a)
+    holds : (a : Answer) → Meets st r net k ys f a → Hold (annotationRules st (length net) k ys f) × Hold (finalRules st r net k ys f) × (result ≡ a)
     holds a m =
         let full : T (eqb (length ys) (st .n)) = rw (m .one-each) (eqb-refl (st .n)) in
         let number = number-holds c ys 0 (omega (arith, m .one-each)) (λ j v e b. subst (λ (i : ℕ). T (nodeOk st c i (at ys j))) (omega arith) (node j (omega (arith, m .one-each)))) in
-        let repeat = repeat-holds c ys (length net) full f 0 record { records = m .records; amounts = passed .amounts; rules = passed .rules; room = omega (arith, m .as-many) } in
-        let claimed : T (claimOk st k) = rw (m .claims) (claim-fits st (claimFor a) (needed .0 .claim)) in
-        let same : T (samePrint (printOf r net) (printOf r (arcs f))) = rw (m .fingerprints) (eqb-refl (printOf r (arcs f))) in
+        let repeat = repeat-holds (numbersOf c ys) (length net) full f 0 record { records = m .records; amounts = passed .amounts; rules = passed .on-arcs; room = omega (arith, m .as-many) } in
+        let claimed : T (claimOk st k) = rw (m .claims) (claim-fits st (claimFor a) (m .certificate .admitted)) in
+        let same = print-same (printOf r net) (printOf r (arcs f)) (m .fingerprints) in
         let final : Hold (finalRules st r net k ys f) = (full, (le→leb (length net) (length f) (omega (arith, m .as-many)), (same, (passed .balances, (passed .sums, tt))))) in
-        ((claimed, hold-append numbers repeated number repeat), final, ap (λ (d : Claim). answerOf st d (sumsAt ys f)) (sym claims) ∙ sym (needed .1))
+        ((claimed, hold-append numberRules repeatRules number repeat), final, ap (λ (d : Claim). answerOf st d (sumsAt st ys f)) (sym same-claim) ∙ sym (certified-answer st (at ys) f a (m .certificate)))
       where
-        needed : Passed st (claimFor a) (at ys) f × (a ≡ answerOf st (claimFor a) (sumsAt ys f))
-        needed = tests-needed st (at ys) f a (m .certificate)
-
-        claims : claimFor a ≡ c
-        claims = sym (claim-of-number (claimFor a)) ∙ ap claimOf (sym (m .claims))
+        same-claim : claimFor a ≡ c
+        same-claim = sym (claim-of-number (claimFor a)) ∙ ap claimOf (sym (m .claims))
 
         passed : Passed st c (at ys) f
-        passed = subst (λ (d : Claim). Passed st d (at ys) f) claims (needed .0)
+        passed = subst (λ (d : Claim). Passed st d (at ys) f) same-claim (certified-passed st (at ys) f a (m .certificate))
 
         node : (v : ℕ) → v < st .n → T (nodeOk st c v (at ys v))
         node = allTo-at (st .n) (λ v. nodeOk st c v (at ys v)) (passed .nodes)
@@ -189,47 +193,46 @@ module _ (st : Setting) where
 
         to : verdict st r net k ys f ≡ gives a → Meets st r net k ys f a
         to d =
-            let u = given (readRules st 0 net ++ (annotation ++ final)) answer a d in
-            let w = hold-right (readRules st 0 net) (annotation ++ final) (u .0) in
+            let u = gives-held (readingAll st 0 net ++ (annotation ++ final)) result a d in
+            let w = hold-right (readingAll st 0 net) (annotation ++ final) (u .0) in
             subst (Meets st r net k ys f) (u .1) (meets (hold-left annotation final w) (hold-right annotation final w))
 
         from : Meets st r net k ys f a → verdict st r net k ys f ≡ gives a
         from m =
             let u = holds a m in
-            settled refused (readRules st 0 net ++ (annotation ++ final)) (gives answer)
-            (hold-append (readRules st 0 net) (annotation ++ final) (read-holds net 0 (h .allowed) (omega (arith, h .few))) (hold-append annotation final (u .0) (u .1)))
+            settled refused (readingAll st 0 net ++ (annotation ++ final)) (gives result)
+            (hold-append (readingAll st 0 net) (annotation ++ final) (read-holds net 0 (h .allowed) (omega (arith, h .few))) (hold-append annotation final (u .0) (u .1)))
             ∙ ap gives (u .2)
 
 -- ---- demand 2
 
 pub outcomes : Outcomes
-outcomes q n s t r net k ys f a o h =
-    rw (first-broken q n s t r net k ys f o) (verdict-meets (settingOf q n s t) (o .opened) r net k ys f h a)
+outcomes st r net k ys f a o h = rw (first-broken st r net k ys f o) (verdict-meets st r net k ys f h a)
 
 -- finishing answers exactly where the first n node numbers meet the rules
 last-meets :
-    (q n s t : ℕ) (r : Point) (net : List Arc) (k : ℕ) (ys : List ℤ) (f : List Load) (a : Answer)
-    → Open q n s t r → Readable (settingOf q n s t) net
-    → (last (runFrom q n s t r (exchange net k ys f)) ≡ gives a) ↔ Meets (settingOf q n s t) r net k (take n ys) f a
-last-meets q n s t r net k ys f a o h =
-    let u = last-gives q n s t r net k ys f a o (read-holds (settingOf q n s t) net 0 (h .allowed) (omega (arith, h .few))) in
-    let w = outcomes q n s t r net k (take n ys) f a o h in
+    (st : Setting) (r : Point) (net : List Arc) (k : ℕ) (ys : List ℤ) (f : List Load) (a : Answer)
+    → Opens st r → Readable st net
+    → (last (runFrom st r (exchange net k ys f)) ≡ gives a) ↔ Meets st r net k (take (st .n) ys) f a
+last-meets st r net k ys f a o h =
+    let u = last-gives st r net k ys f a o (read-holds st net 0 (h .allowed) (omega (arith, h .few))) in
+    let w = outcomes st r net k (take (st .n) ys) f a o h in
     (λ d. w .0 (u .0 d), λ m. u .1 (w .1 m))
 
 pub answers : Answers
-answers q n s t r net k ys f a o h e = rw (take-all n ys (omega arith)) at (last-meets q n s t r net k ys f a o h)
+answers st r net k ys f a o h e = rw (take-all (st .n) ys (omega arith)) at (last-meets st r net k ys f a o h)
 
 pub true-where-same : TrueWhereSame
-true-where-same q n s t r net k ys f a o h d e =
-    certificates-sound (settingOf q n s t) net (at (take n ys)) f a (o .opened) (h .allowed) d (last-meets q n s t r net k ys f a o h .0 e .certificate)
+true-where-same st r net k ys f a o h d e =
+    certificates-sound st net (at (take (st .n) ys)) f a (o .opened) (h .allowed) d (last-meets st r net k ys f a o h .0 e .certificate)
 
 pub certificates-pass : CertificatesPass
-certificates-pass q n s t r net ys f a o h d e c =
-    outcomes q n s t r net (claimNumber (claimFor a)) ys f a o h .1 record {
+certificates-pass st r net ys f a o h d e c =
+    outcomes st r net (claimNumber (claimFor a)) ys f a o h .1 record {
       claims = refl;
       one-each = e;
-      records = perm-every (Allowed (settingOf q n s t)) (perm-sym d) (h .allowed);
+      records = perm-every (Allowed st) (perm-sym d) (h .allowed);
       certificate = c;
       as-many = sym (length-map f (λ l. l .arc)) ∙ perm-length d;
-      fingerprints = permutations-agree _ _ (perm-map key (perm-sym d)) r;
+      fingerprints = same-everywhere net (arcs f) (perm-sym d) r;
     }

@@ -1,9 +1,9 @@
 -- The promises of specs/Promises.antt, kept.
 -- Assumes nothing.
 use Rattle.runs.specs.Promises.{FirstBroken, Answers, Outcomes, TrueWhereSame, CertificatesPass, FewWrong, OnlyRefusals}
-use Rattle.runs.proofs.Bound as bound
 use Rattle.runs.proofs.Meets as meets
 use Rattle.runs.proofs.Verdict as verdict
+use Rattle.runs.proofs.WrongAnswers as wrong
 
 pub first-broken : FirstBroken
 first-broken = verdict.first-broken
@@ -21,7 +21,7 @@ pub certificates-pass : CertificatesPass
 certificates-pass = meets.certificates-pass
 
 pub few-wrong : FewWrong
-few-wrong = bound.few-wrong
+few-wrong = wrong.few-wrong
 
 pub only-refusals : OnlyRefusals
-only-refusals = bound.only-refusals
+only-refusals = wrong.only-refusals

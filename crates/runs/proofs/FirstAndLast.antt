@@ -9,7 +9,7 @@ use native.Mathlib.Omega.{arith}
 use lib.Dec.{T}
 use Rattle.prelude.specs.Checks.{Check, _unless_, settle}
 use Rattle.network.specs.Question.{Answer}
-use Rattle.session.specs.Session.{Said, accepted, gives, refused}
+use Rattle.state.specs.Answers.{Said, accepted, gives, refused}
 use Rattle.runs.specs.Exchange.{outcome, last}
 
 pub no-answer : (k : ℕ) (a : Answer) → refused k ≡ gives a → ⊥
@@ -31,30 +31,30 @@ outcome-step rest g ((k unless false) ∷ cs) v = refl
 -- ---- the last
 
 -- The answers end with a, or both they and a refuse.
-pub data Ends : List Said → Said → Type 0 where
-  alone : {a : Said} → Ends (a ∷ []) a
-  refusing : {j k : ℕ} → Ends (refused j ∷ []) (refused k)
-  on : {b a : Said} {l : List Said} → Ends l a → Ends (b ∷ l) a
+pub data LastSays : List Said → Said → Type 0 where
+  alone : {a : Said} → LastSays (a ∷ []) a
+  refusing : {j k : ℕ} → LastSays (refused j ∷ []) (refused k)
+  on : {b a : Said} {l : List Said} → LastSays l a → LastSays (b ∷ l) a
 
-last-on : {l : List Said} {a : Said} (b : Said) → Ends l a → last (b ∷ l) ≡ last l
+last-on : {l : List Said} {a : Said} (b : Said) → LastSays l a → last (b ∷ l) ≡ last l
 last-on b alone = refl
 last-on b refusing = refl
 last-on b (on h) = refl
 
-pub ends-gives : {l : List Said} {a : Said} → Ends l a → (v : Answer) → (last l ≡ gives v) ↔ (a ≡ gives v)
+pub ends-gives : {l : List Said} {a : Said} → LastSays l a → (v : Answer) → (last l ≡ gives v) ↔ (a ≡ gives v)
 ends-gives alone v = (λ d. d, λ d. d)
 ends-gives (refusing {j} {k}) v = (λ d. absurd (no-answer j v d), λ d. absurd (no-answer k v d))
 ends-gives (on {b} h) v = (λ d. ends-gives h v .0 (sym (last-on b h) ∙ d), λ d. last-on b h ∙ ends-gives h v .1 d)
 
 -- each check that fails turns the rest into answers that end with a refusal
-abbrev pub Turned : {A : Type 0} → (A → List Said) → (ℕ → A) → List Check → Type 0
-Turned rest g [] = Unit {0}
-Turned rest g ((k unless ok) ∷ cs) = (¬ (T ok) → Ends (rest (g k)) (refused k)) × Turned rest g cs
+abbrev pub EachRefuses : {A : Type 0} → (A → List Said) → (ℕ → A) → List Check → Type 0
+EachRefuses rest g [] = Unit {0}
+EachRefuses rest g ((k unless ok) ∷ cs) = (¬ (T ok) → LastSays (rest (g k)) (refused k)) × EachRefuses rest g cs
 
 pub ends-step :
     {A : Type 0} (rest new : A → List Said) (g : ℕ → A) (cs : List Check) (v : A)
-    → Turned rest g cs → Ends (rest v) (outcome (new v))
-    → Ends (settle refused cs accepted ∷ rest (settle g cs v)) (outcome (settle refused cs accepted ∷ new (settle g cs v)))
+    → EachRefuses rest g cs → LastSays (rest v) (outcome (new v))
+    → LastSays (settle refused cs accepted ∷ rest (settle g cs v)) (outcome (settle refused cs accepted ∷ new (settle g cs v)))
 ends-step rest new g [] v h e = on e
 ends-step rest new g ((k unless true) ∷ cs) v h e = ends-step rest new g cs v (h .1) e
 ends-step rest new g ((k unless false) ∷ cs) v h e = on (h .0 (λ t. t))

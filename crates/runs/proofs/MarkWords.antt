@@ -14,18 +14,19 @@ use Rattle.prelude.specs.Integers.{eqZ}
 use Rattle.prelude.specs.Lists.{at}
 use Rattle.words.specs.Marks.{isMarked, withMark}
 use Rattle.words.proofs.MarkLaws.{marked-same, marked-other}
+use Rattle.network.specs.Limits.{mostVertices}
 use Rattle.network.specs.Certificate.{marked}
-use Rattle.session.specs.Steps.{marksAfter}
-use Rattle.runs.proofs.Trace.{words, wordsOf}
+use Rattle.state.specs.State.{marksAfter}
+use Rattle.runs.proofs.AcceptedLists.{marksFrom, marksOf}
 
 -- ---- one node number more
 
-words-snoc : (ys : List ℤ) (i : ℕ) (ms : List ℕ) (z : ℤ) → marksAfter (words i ms ys) (i + length ys) z ≡ words i ms (ys ++ z ∷ [])
-words-snoc [] i ms z = ap (λ (k : ℕ). marksAfter ms k z) (omega arith)
-words-snoc (y ∷ ys) i ms z = ap (λ (k : ℕ). marksAfter (words (suc i) (marksAfter ms i y) ys) k z) (omega arith) ∙ words-snoc ys (suc i) (marksAfter ms i y) z
+marks-snoc : (ys : List ℤ) (i : ℕ) (ms : List ℕ) (z : ℤ) → marksAfter (marksFrom i ms ys) (i + length ys) z ≡ marksFrom i ms (ys ++ z ∷ [])
+marks-snoc [] i ms z = ap (λ (k : ℕ). marksAfter ms k z) (omega arith)
+marks-snoc (y ∷ ys) i ms z = ap (λ (k : ℕ). marksAfter (marksFrom (suc i) (marksAfter ms i y) ys) k z) (omega arith) ∙ marks-snoc ys (suc i) (marksAfter ms i y) z
 
-pub marks-more : (ys : List ℤ) (z : ℤ) → marksAfter (wordsOf ys) (length ys) z ≡ wordsOf (ys ++ z ∷ [])
-marks-more ys z = ap (λ (k : ℕ). marksAfter (wordsOf ys) k z) (omega arith) ∙ words-snoc ys 0 (replicate 4 0) z
+pub marks-more : (ys : List ℤ) (z : ℤ) → marksAfter (marksOf ys) (length ys) z ≡ marksOf (ys ++ z ∷ [])
+marks-more ys z = ap (λ (k : ℕ). marksAfter (marksOf ys) k z) (omega arith) ∙ marks-snoc ys 0 (replicate 4 0) z
 
 -- ---- the marks of the words are those of the node numbers
 
@@ -46,21 +47,21 @@ same : (ms : List ℕ) (i : ℕ) (b : Bool) → length ms ≡ 4 → i < 256 → 
 same ms i true e l c = marked-same ms i (omega arith)
 same ms i false e l c = c
 
-words-below : (ys : List ℤ) (i : ℕ) (ms : List ℕ) → length ms ≡ 4 → i + length ys ≤ 256 → (j : ℕ) → j < i → isMarked (words i ms ys) j ≡ isMarked ms j
-words-below [] i ms e l j h = refl
-words-below (z ∷ ys) i ms e l j h =
-    words-below ys (suc i) (marksAfter ms i z) (length-after ms i (isOne z) ∙ e) (omega arith) j (omega arith) ∙ other ms i j (isOne z) e (omega arith) (omega arith)
+marks-below : (ys : List ℤ) (i : ℕ) (ms : List ℕ) → length ms ≡ 4 → i + length ys ≤ 256 → (j : ℕ) → j < i → isMarked (marksFrom i ms ys) j ≡ isMarked ms j
+marks-below [] i ms e l j h = refl
+marks-below (z ∷ ys) i ms e l j h =
+    marks-below ys (suc i) (marksAfter ms i z) (length-after ms i (isOne z) ∙ e) (omega arith) j (omega arith) ∙ other ms i j (isOne z) e (omega arith) (omega arith)
 
-words-at : (ys : List ℤ) (i : ℕ) (ms : List ℕ) → length ms ≡ 4 → i + length ys ≤ 256 → ((k : ℕ) → i ≤ k → isMarked ms k ≡ false)
-    → (k : ℕ) → isMarked (words i ms ys) (i + k) ≡ marked (at ys) k
-words-at [] i ms e l clear k = clear (i + k) (omega arith)
-words-at (z ∷ ys) i ms e l clear zero =
-    ap (isMarked (words (suc i) (marksAfter ms i z) ys)) (omega arith)
-    ∙ words-below ys (suc i) (marksAfter ms i z) (length-after ms i (isOne z) ∙ e) (omega arith) i (le-refl _)
+marks-at : (ys : List ℤ) (i : ℕ) (ms : List ℕ) → length ms ≡ 4 → i + length ys ≤ 256 → ((k : ℕ) → i ≤ k → isMarked ms k ≡ false)
+    → (k : ℕ) → isMarked (marksFrom i ms ys) (i + k) ≡ marked (at ys) k
+marks-at [] i ms e l clear k = clear (i + k) (omega arith)
+marks-at (z ∷ ys) i ms e l clear zero =
+    ap (isMarked (marksFrom (suc i) (marksAfter ms i z) ys)) (omega arith)
+    ∙ marks-below ys (suc i) (marksAfter ms i z) (length-after ms i (isOne z) ∙ e) (omega arith) i (le-refl _)
     ∙ same ms i (isOne z) e (omega arith) (clear i (le-refl _))
-words-at (z ∷ ys) i ms e l clear (suc k) =
-    ap (isMarked (words (suc i) (marksAfter ms i z) ys)) (omega arith)
-    ∙ words-at ys (suc i) (marksAfter ms i z) (length-after ms i (isOne z) ∙ e) (omega arith)
+marks-at (z ∷ ys) i ms e l clear (suc k) =
+    ap (isMarked (marksFrom (suc i) (marksAfter ms i z) ys)) (omega arith)
+    ∙ marks-at ys (suc i) (marksAfter ms i z) (length-after ms i (isOne z) ∙ e) (omega arith)
     (λ j h. other ms i j (isOne z) e (omega arith) (omega arith) ∙ clear j (omega arith)) k
 
 no-mark : (n k : ℕ) → isMarked (replicate n 0) k ≡ false
@@ -71,5 +72,5 @@ no-mark n k = rw (word (decLt (k / 64) n), zero-div (2 ^ (k % 64)))
     word (yes h) = getD-replicate n (k / 64) 0 0 h
     word (no h) = List·getD-eq-default (replicate n 0) 0 (omega (arith, length-replicate {A = ℕ} n 0))
 
-pub marks-same : (ys : List ℤ) → length ys ≤ 255 → isMarked (wordsOf ys) ≡ marked (at ys)
-marks-same ys l = fun-ext (λ k. ap (isMarked (wordsOf ys)) (omega arith) ∙ words-at ys 0 (replicate 4 0) refl (omega arith) (λ j h. no-mark 4 j) k)
+pub marks-same : (ys : List ℤ) → length ys ≤ mostVertices → isMarked (marksOf ys) ≡ marked (at ys)
+marks-same ys l = fun-ext (λ k. ap (isMarked (marksOf ys)) (omega arith) ∙ marks-at ys 0 (replicate 4 0) refl (omega arith) (λ j h. no-mark 4 j) k)
