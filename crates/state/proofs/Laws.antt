@@ -3,21 +3,35 @@
 use mathlib.Core.Path.{_≡_, refl, sym, _∙_, ap}
 use mathlib.Core.Bool.{Bool, true, false, _&&_}
 use mathlib.Core.List.{List, [], _∷_, _++_, append-nil}
-use Prim.Native.Nat.{ℕ, _+_, _*_, _≤_}
-use native.Mathlib.Nat.{mul-le-mul}
+use Prim.Native.Nat.{ℕ, _+_, _*_, _≤_, _<_}
+use native.Mathlib.Nat.{mul-le-mul, le-trans}
 use native.Mathlib.Omega.{arith}
+use lib.Dec.{T, leb, leb→le, ltb→lt, lit≤}
 use lib.IntN.{ℤ, pos, _+ℤ_}
 use mir.Syntax.{w32}
 use mir.Val.{Fits}
-use Rattle.prelude.specs.Checks.{Check, settle, firstBroken, Hold}
-use Rattle.prelude.specs.Choice.{pick}
+use Rattle.prelude.specs.Checks.{Check, _unless_, settle, firstBroken, Hold}
+use Rattle.prelude.specs.Choice.{pick, indicator}
+use Rattle.prelude.specs.Lists.{at}
+use Rattle.prelude.specs.Sums.{allTo}
 use Rattle.words.specs.Bounded.{small, boundedSum}
+use Rattle.prelude.proofs.Booleans.{and-left, and-right}
 use Rattle.prelude.proofs.Integers.{signed, parts-add}
-use Rattle.prelude.proofs.Settle.{settled, Numbered, none-broken, part-refused, part-passed}
-use Rattle.state.specs.State.{marksAfter, numberMore}
+use Rattle.prelude.proofs.Settle.{settled, hold-left, Numbered, none-broken, part-refused, part-passed}
+use Rattle.network.specs.Network.{Arc, Load, arcHeld, loadHeld}
+use Rattle.network.specs.Question.{Question, shortestPath, maximumFlow, assignment, unasked, Setting, asks, EndsFor, Opened, unitCost}
+use Rattle.network.specs.Certificate.{Claim, ofValue, ofNone, Ends, endsOf, Rules, rulesFor, rulesOf}
+use Rattle.network.specs.Tests.{openingChecks, claimOf, claimOk, balancesOk, sumsOk}
+use Rattle.network.specs.declared.Record.{Record}
+use Rattle.network.proofs.Allowed.{asked-least, opening-rule, weight-rule}
+use Rattle.points.specs.Points.{pointOk}
+use Rattle.points.specs.declared.Point.{Point}
+use Rattle.checks.specs.Held.{sumsHeld}
+use Rattle.state.specs.State.{settingHeld, claimHeld, marksHeld, numbersHeld, extendStream, marksAfter, numberMore, repeatMore, stateOf, openChecks, withRead, repeatChecks, withRepeat}
 use Rattle.state.specs.Turns.{turned}
 use Rattle.state.specs.declared.Numbering.{Numbering}
 use Rattle.state.specs.declared.State.{State}
+use Rattle.state.specs.declared.Stream.{Stream}
 use Rattle.state.specs.declared.Turn.{Turn}
 
 -- ---- groups
@@ -65,3 +79,94 @@ module _ (x y : State) (cs : List Check) (n : Numbered cs) (why : ℕ) (found : 
 
   pub turn-accepted : why ≡ 0 → (z : State) → z ≡ y → goes z ≡ turned x cs y
   turn-accepted z w e = ap (λ (u : State). goes u) e ∙ sym (settled (stays x) cs (goes y) (turn-holds z))
+
+-- ---- reading
+
+pub read-done : (x : State) (e : Arc) (m : Stream) → m ≡ extendStream (x .reading .point) (x .reading .list) e
+    → stateOf (x .phase) (record { setting = x .reading .setting; point = x .reading .point; list = m }) (x .numbering) (x .repeating) ≡ withRead x e
+read-done x e m h = λ i. stateOf (x .phase) (record { setting = x .reading .setting; point = x .reading .point; list = h i }) (x .numbering) (x .repeating)
+
+-- ---- numbers that fit eight bits, by the checks that they passed
+
+pub claim-small : (st : Setting) (k : ℕ) → T (claimOk st k) → k ≤ 2
+claim-small st k t = leb→le k 2 (and-right (leb 1 k) (leb k 2) (and-left (leb 1 k && leb k 2) (rulesOf st (claimOf k) .admitted) t))
+
+-- what opening lets pass: s and t are below n, or 0
+pub open-small : (st : Setting) (r : Point) (why : ℕ) → why ≡ firstBroken (openChecks st r) → why ≡ 0 → (st .question ≤ 3) × (st .n ≤ 255) × (st .s ≤ 255) × (st .t ≤ 255)
+open-small st r why found z = let ends = go (asks st) (o .ends) in (asked-least (st .question) (h .0), ends .0, ends .1, ends .2)
+  where
+    h : Hold (openChecks st r)
+    h = none-broken (openChecks st r) (refl, (refl, (refl, (refl, tt)))) (sym found ∙ z)
+
+    o : Opened st
+    o = opening-rule st (hold-left (openingChecks st) (4 unless pointOk r ∷ []) h)
+
+    most : st .n ≤ 255
+    most = o .sized .at-most
+
+    go : (q : Question) → EndsFor q st → (st .n ≤ 255) × (st .s ≤ 255) × (st .t ≤ 255)
+    go shortestPath e = (most, omega (arith, most, e .source-below), omega (arith, most, e .sink-below))
+    go maximumFlow e = (most, omega (arith, most, e .source-below), omega (arith, most, e .sink-below))
+    go assignment e = (most, omega (arith, e .source-zero), omega (arith, e .sink-zero))
+    go unasked e = absurd e
+
+-- ---- what the checks of a repeated arc say of its numbers
+
+pub record Limits (x : State) (arc : Record) (v : ℕ) : Type 0 where
+  pub weight : arc .weight ≤ 32767
+  pub amount : v ≤ 32767
+  pub room : x .repeating .list .count < x .reading .list .count
+
+-- an amount that check 11 lets pass
+amount-small : (q : Question) (c : Claim) (e : Arc) (v : ℕ) → e .weight ≤ 32767 → T (leb v (rulesFor q c .most e)) → v ≤ 32767
+amount-small q c e v h t = le-trans (leb→le v (rulesFor q c .most e) t) (most q c)
+  where
+    most : (q : Question) (c : Claim) → rulesFor q c .most e ≤ 32767
+    most shortestPath ofValue = lit≤ tt
+    most shortestPath ofNone = lit≤ tt
+    most maximumFlow ofValue = h
+    most maximumFlow ofNone = lit≤ tt
+    most assignment ofValue = lit≤ tt
+    most assignment ofNone = lit≤ tt
+    most unasked c = lit≤ tt
+
+pub load-limits : (x : State) (y : ℕ → ℤ) (arc : Record) (v : ℕ) → Hold (repeatChecks x y (loadHeld arc v)) → Limits x arc v
+load-limits x y arc v h =
+    let w = weight-rule (arcHeld arc) (h .1 .1 .1 .1 .0) in
+    record {
+      weight = w;
+      amount = amount-small (asks (settingHeld x)) (claimHeld x) (arcHeld arc) v w (h .1 .1 .1 .1 .1 .0);
+      room = ltb→lt (x .repeating .list .count) (x .reading .list .count) (h .1 .1 .0);
+    }
+
+-- what a unit costs is at most the weight
+pub cost-small : (q : Question) (e : Arc) → e .weight ≤ 32767 → unitCost q e ≤ 32767
+cost-small shortestPath e h = h
+cost-small maximumFlow e h = lit≤ tt
+cost-small assignment e h = h
+cost-small unasked e h = lit≤ tt
+
+-- ---- checks of what was read from the state
+
+-- the amount and the rule of an arc, by the row and the ends that were found
+pub load-read : (x : State) (y : ℕ → ℤ) (arc : Record) (v : ℕ) {rules : Rules} {ends : Ends}
+    → rules ≡ rulesOf (settingHeld x) (claimHeld x) → ends ≡ endsOf y (marksHeld x) (arcHeld arc)
+    → firstBroken (11 unless leb v (rules .most (arcHeld arc)) ∷ 12 unless rules .onArc ends (loadHeld arc v) ∷ [])
+    ≡ firstBroken (11 unless leb v (rulesOf (settingHeld x) (claimHeld x) .most (arcHeld arc)) ∷ 12 unless rulesOf (settingHeld x) (claimHeld x) .onArc (endsOf y (marksHeld x) (arcHeld arc)) (loadHeld arc v) ∷ [])
+load-read x y arc v e f = λ i. firstBroken (11 unless leb v (e i .most (arcHeld arc)) ∷ 12 unless e i .onArc (f i) (loadHeld arc v) ∷ [])
+
+-- the balances and the sums, by the row and the sums that were found
+pub totals-read : (x : State) (ys bs : List ℤ) {rules : Rules} {k c : ℤ}
+    → rules ≡ rulesOf (settingHeld x) (claimHeld x) → k ≡ x .repeating .cost → c ≡ x .repeating .cut
+    → firstBroken (15 unless allTo (x .reading .setting .n) (λ v. rules .onBalance (settingHeld x) v (at bs v)) ∷ 16 unless rules .onSums (settingHeld x) (at ys) (marksHeld x) (sumsHeld bs k c) ∷ [])
+    ≡ firstBroken (15 unless balancesOk (settingHeld x) (claimHeld x) (sumsHeld bs (x .repeating .cost) (x .repeating .cut)) ∷ 16 unless sumsOk (settingHeld x) (numbersHeld x (at ys)) (sumsHeld bs (x .repeating .cost) (x .repeating .cut)) ∷ [])
+totals-read x ys bs e f g = λ i. firstBroken (15 unless allTo (x .reading .setting .n) (λ v. e i .onBalance (settingHeld x) v (at bs v)) ∷ 16 unless e i .onSums (settingHeld x) (at ys) (marksHeld x) (sumsHeld bs (f i) (g i)) ∷ [])
+
+-- ---- one arc more repeated
+
+pub cut-read : {z w : ℤ} {u k : ℕ} {b d : Bool} → z ≡ w → u ≡ k → b ≡ d → boundedSum z (pos (u * indicator b)) ≡ boundedSum w (pos (k * indicator d))
+cut-read e f g = λ i. boundedSum (e i) (pos (f i * indicator (g i)))
+
+pub repeat-done : (x : State) (l : Load) {m : Stream} {k c : ℤ} → m ≡ repeatMore x l .list → k ≡ repeatMore x l .cost → c ≡ repeatMore x l .cut
+    → stateOf (x .phase) (x .reading) (x .numbering) (record { list = m; cost = k; cut = c }) ≡ withRepeat x l
+repeat-done x l e f g = λ i. stateOf (x .phase) (x .reading) (x .numbering) (record { list = e i; cost = f i; cut = g i })

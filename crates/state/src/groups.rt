@@ -28,9 +28,9 @@ fn no_list() -> Stream
     }
 }
 
-// The list with one arc more.
-pub(crate) fn with_arc(point: Point, list: Stream, arc: Record) -> Stream
-    requires { ⌜ list .count < 4294967295 ⌝ }
+// The list with one arc more, which has fewer than `most`.
+pub(crate) fn with_arc(point: Point, list: Stream, most: u32, arc: Record) -> Stream
+    requires { ⌜ list .count < most ⌝ }
     ensures { λ r. ⌜ r ≡ extendStream point list (arcHeld arc) ⌝ }
 {
     let count = list.count;
@@ -52,9 +52,9 @@ pub(crate) fn claimed(claim: u8) -> Numbering
     }
 }
 
-// One node number more.
-pub(crate) fn with_number(mut g: Numbering, y: i32) -> Numbering
-    requires { ⌜ g .given < 255 ⌝ }
+// One node number more, of n.
+pub(crate) fn with_number(mut g: Numbering, n: u8, y: i32) -> Numbering
+    requires { ⌜ g .given < n ⌝ }
     ensures { λ r. ⌜ r ≡ numberMore g y ⌝ }
 {
     let given = g.given;

@@ -145,7 +145,7 @@ impl State {
                 why: why,
             };
         }
-        let next = with_arc(reading.point, list, arc);
+        let next = with_arc(reading.point, list, network::MOST_ARCS, arc);
         reading.list = next;
         self.reading = reading;
         Turn {
@@ -211,7 +211,7 @@ impl State {
                 why: why,
             };
         }
-        self.numbering = with_number(numbering, y);
+        self.numbering = with_number(numbering, reading.setting.n, y);
         Turn {
             state: self,
             why: 0,
@@ -254,7 +254,7 @@ impl State {
 
     // The state with one arc more repeated.
     fn with_repeat(mut self, arc: Record, x: u32) -> State
-        requires { ⌜ self .repeating .list .count < 4294967295 ⌝ }
+        requires { ⌜ self .repeating .list .count < self .reading .list .count ⌝ }
         requires { ⌜ arc .weight ≤ 32767 ⌝ }
         requires { ⌜ x ≤ 32767 ⌝ }
         ensures { λ r. ⌜ r ≡ withRepeat self (loadHeld arc x) ⌝ }
@@ -266,7 +266,7 @@ impl State {
         let marks = numbering.marks;
         let crossing = leads_out(is_marked(marks, arc.tail), is_marked(marks, arc.head));
         let next = Repeating {
-            list: with_arc(reading.point, repeating.list, arc),
+            list: with_arc(reading.point, repeating.list, reading.list.count, arc),
             cost: cost_after(repeating.cost, unit_cost(question, arc), x),
             cut: cut_after(repeating.cut, units_most(question, arc), crossing),
         };

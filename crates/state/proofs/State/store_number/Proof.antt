@@ -1,5 +1,9 @@
 -- `state::State::store_number` meets its contract.
 -- Assumes nothing.
+use mathlib.Core.Path.{_∙_, ap}
+use lib.IntN.{ℤ}
+use lib.ListN.{set}
+use mir.Facts.{toZ-ofZ}
 use borrow.Author.Needs.{needs}
 use Rattle.state.proofs.State.store_number.Statement.{statement}
 use Rattle.state.proofs.State.store_number.Tie as tie
@@ -8,7 +12,7 @@ store-at-requires : tie.Need-store-at-requires
 store-at-requires c κs = search needs
 
 returns : tie.Need-returns
-returns c = c .store-at .ensures
+returns c = c .store-at .ensures ∙ ap (λ (z : ℤ). set (c .before .before .before .args .potentials .now) (c .before .before .before .args .self .numbering .given) z) (toZ-ofZ (c .before .before .before .fits .y))
 
 pub store-number-spec : {M : Type 1} → statement M
 store-number-spec = tie.close (tie.spec store-at-requires returns)
