@@ -1,6 +1,24 @@
 // A checking session: opening and the six steps, by value. Each step takes the session and hands it back with its answer.
+// Each step is thin over a step of the session's state, so that a caller who keeps the two arrays in place copies only the state.
+ghost use mathlib.Core.Path.{_≡_};
+ghost use mathlib.Core.Bool.{false, not, _&&_};
+ghost use lib.Dec.{eqb};
+ghost use lib.ListN.{set};
+ghost use Rattle.prelude.specs.Choice.{pick};
+ghost use Rattle.network.specs.Network.{arcOf, loadOf};
+ghost use Rattle.checks.specs.Held.{handed};
+ghost use Rattle.state.specs.Arrays.{moved};
+ghost use Rattle.state.specs.State.{isClaimed};
+ghost use Rattle.state.specs.declared.Answer.the-variants.{Accepted, Refused};
+ghost use Rattle.session.specs.Session.{zeros, void, refuse};
+ghost use Rattle.session.specs.Steps.{opening, readStep, endStep, claimStep, numberStep, repeatStep, finishStep};
+use checks::Opening;
+use network::Record;
+use points::Point;
 use state::Answer;
 use state::State;
+use state::arrays::move_amount;
+use state::groups::idle;
 
 // The state stands last: so a step that touches nothing else is compiled without a copy of the arrays.
 pub struct Session {
@@ -12,4 +30,235 @@ pub struct Session {
 pub struct Reply {
     pub session: Session,
     pub answer: Answer,
+}
+
+// A void session; an ended one is the same.
+fn ended() -> Session
+    ensures { λ r. ⌜ r ≡ void ⌝ }
+{
+    Session {
+        potentials: [0i32; 255],
+        balances: [0i64; 255],
+        state: idle(),
+    }
+}
+
+// 0 for each vertex where the session is over.
+fn clear_numbers(potentials: &mut [i32; 255], over: bool)
+    ensures { λ _. ⌜ now (potentials .exit) ≡ pick over zeros (now (potentials .entry)) ⌝ }
+{
+    if !over {
+        return;
+    }
+    *potentials = [0i32; 255];
+}
+
+fn clear_balances(balances: &mut [i64; 255], over: bool)
+    ensures { λ _. ⌜ now (balances .exit) ≡ pick over zeros (now (balances .entry)) ⌝ }
+{
+    if !over {
+        return;
+    }
+    *balances = [0i64; 255];
+}
+
+// Does a step that gave this number end the session? 0 is an acceptance.
+fn is_over(state: State, why: u8) -> bool
+    ensures { λ r. ⌜ r ≡ pick (eqb why 0) false (isClaimed state && not (eqb why 5)) ⌝ }
+{
+    if why == 0 {
+        return false;
+    }
+    state.is_ended_by(why)
+}
+
+// What a step says.
+fn answer_to(why: u8) -> Answer
+    ensures { λ r. ⌜ r ≡ pick (eqb why 0) Accepted (Refused why) ⌝ }
+{
+    if why == 0 {
+        return Answer::Accepted;
+    }
+    Answer::Refused(why)
+}
+
+// Stores the node number where it was accepted.
+fn store_accepted(state: State, potentials: &mut [i32; 255], why: u8, y: i32)
+    ensures { λ _. ⌜ now (potentials .exit) ≡ pick (eqb why 0) (set (now (potentials .entry)) (state .numbering .given) y) (now (potentials .entry)) ⌝ }
+{
+    if why != 0 {
+        return;
+    }
+    state.store_number(potentials, y);
+}
+
+// Moves the amount where the arc was accepted.
+fn move_accepted(balances: &mut [i64; 255], why: u8, arc: Record, x: u32)
+    ensures { λ _. ⌜ now (balances .exit) ≡ pick (eqb why 0) (moved (now (balances .entry)) (arc .tail) (arc .head) x) (now (balances .entry)) ⌝ }
+{
+    if why != 0 {
+        return;
+    }
+    move_amount(balances, arc, x);
+}
+
+impl Session {
+    // What a refusal hands back.
+    fn refuse(self, why: u8) -> Reply
+        ensures { λ r. ⌜ r ≡ refuse self why ⌝ }
+    {
+        let state = self.state;
+        if state.is_ended_by(why) {
+            return Reply {
+                session: ended(),
+                answer: Answer::Refused(why),
+            };
+        }
+        Reply {
+            session: self,
+            answer: Answer::Refused(why),
+        }
+    }
+
+    // Opening. A refusal hands back a void session.
+    pub fn open(o: Opening, point: Point) -> Reply
+        ensures { λ r. ⌜ r ≡ opening (handed o) point ⌝ }
+    {
+        let turn = State::open(o, point);
+        let why = turn.why;
+        let state = turn.state;
+        let session = Session {
+            potentials: [0i32; 255],
+            balances: [0i64; 255],
+            state: state,
+        };
+        if why != 0 {
+            return Reply {
+                session: session,
+                answer: Answer::Refused(why),
+            };
+        }
+        Reply {
+            session: session,
+            answer: Answer::Accepted,
+        }
+    }
+
+    // Reading a channel.
+    pub fn read_channel(mut self, a: u32, b: u32, w: u32) -> Reply
+        ensures { λ r. ⌜ r ≡ readStep self (arcOf a b w) ⌝ }
+    {
+        let state = self.state;
+        let turn = state.read_channel(Record {
+            tail: a,
+            head: b,
+            weight: w,
+        });
+        let why = turn.why;
+        if why != 0 {
+            return self.refuse(why);
+        }
+        let next = turn.state;
+        self.state = next;
+        Reply {
+            session: self,
+            answer: Answer::Accepted,
+        }
+    }
+
+    // Ending the reading.
+    pub fn end_reading(mut self) -> Reply
+        ensures { λ r. ⌜ r ≡ endStep self ⌝ }
+    {
+        let state = self.state;
+        let turn = state.end_reading();
+        let why = turn.why;
+        if why != 0 {
+            return self.refuse(why);
+        }
+        let next = turn.state;
+        self.state = next;
+        Reply {
+            session: self,
+            answer: Answer::Accepted,
+        }
+    }
+
+    // The claim.
+    pub fn claim(mut self, claim: u32) -> Reply
+        ensures { λ r. ⌜ r ≡ claimStep self claim ⌝ }
+    {
+        let state = self.state;
+        let turn = state.claim(claim);
+        let why = turn.why;
+        if why != 0 {
+            return self.refuse(why);
+        }
+        let next = turn.state;
+        self.state = next;
+        Reply {
+            session: self,
+            answer: Answer::Accepted,
+        }
+    }
+
+    // A node number. With one way out, so that the session is copied as seldom as can be.
+    pub fn node_number(mut self, y: i32) -> Reply
+        ensures { λ r. ⌜ r ≡ numberStep self y ⌝ }
+    {
+        let state = self.state;
+        let turn = state.node_number(y);
+        let why = turn.why;
+        let over = is_over(state, why);
+        store_accepted(state, &mut self.potentials, why, y);
+        clear_numbers(&mut self.potentials, over);
+        clear_balances(&mut self.balances, over);
+        let next = turn.state;
+        self.state = next.left(over);
+        Reply {
+            session: self,
+            answer: answer_to(why),
+        }
+    }
+
+    // A repeated channel. With one way out, as above.
+    pub fn repeat_channel(mut self, a: u32, b: u32, w: u32, x: u32) -> Reply
+        ensures { λ r. ⌜ r ≡ repeatStep self (loadOf a b w x) ⌝ }
+    {
+        let state = self.state;
+        let arc = Record {
+            tail: a,
+            head: b,
+            weight: w,
+        };
+        let turn = state.repeat_channel(&self.potentials, arc, x);
+        let why = turn.why;
+        let over = is_over(state, why);
+        move_accepted(&mut self.balances, why, arc, x);
+        clear_numbers(&mut self.potentials, over);
+        clear_balances(&mut self.balances, over);
+        let next = turn.state;
+        self.state = next.left(over);
+        Reply {
+            session: self,
+            answer: answer_to(why),
+        }
+    }
+
+    // Finishing.
+    pub fn finish(self) -> Reply
+        ensures { λ r. ⌜ r ≡ finishStep self ⌝ }
+    {
+        let state = self.state;
+        let potentials = self.potentials;
+        let balances = self.balances;
+        let why = state.finish_check(potentials, balances);
+        if why != 0 {
+            return self.refuse(why);
+        }
+        Reply {
+            session: ended(),
+            answer: state.answer(balances),
+        }
+    }
 }

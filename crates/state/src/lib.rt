@@ -1,14 +1,17 @@
 // What a session knows but for the node numbers and the balances of the vertices, and its steps on that alone: a caller who keeps the two arrays in place copies only this.
 ghost use mathlib.Core.Path.{_≡_};
+ghost use mathlib.Core.Bool.{not, _&&_};
 ghost use Prim.Native.Nat.{_≤_, _<_};
+ghost use lib.Dec.{eqb};
 ghost use lib.ListN.{set};
 ghost use Rattle.prelude.specs.Checks.{firstBroken};
+ghost use Rattle.prelude.specs.Choice.{pick};
 ghost use Rattle.prelude.specs.Lists.{at};
 ghost use Rattle.network.specs.Network.{arcHeld, loadHeld};
 ghost use Rattle.network.specs.Tests.{answerOf};
 ghost use Rattle.checks.specs.Held.{handed, rulesHeld, sumsHeld};
 ghost use Rattle.state.specs.Answers.{answered};
-ghost use Rattle.state.specs.State.{settingHeld, claimHeld, withRepeat, repeatChecks, finishChecks};
+ghost use Rattle.state.specs.State.{isClaimed, settingHeld, claimHeld, idle, withRepeat, repeatChecks, finishChecks};
 ghost use Rattle.state.specs.Turns.{openTurn, readTurn, endTurn, claimTurn, numberTurn, repeatTurn};
 use arrays::ends_of;
 use arrays::store_at;
@@ -224,6 +227,27 @@ impl State {
     {
         let numbering = self.numbering;
         store_at(potentials, numbering.given, y);
+    }
+
+    // Does a refusal with this number end the session? Once a claim stands, every one but 5 does.
+    pub fn is_ended_by(self, why: u8) -> bool
+        ensures { λ r. ⌜ r ≡ (isClaimed self && not (eqb why 5)) ⌝ }
+    {
+        let phase = self.phase;
+        if phase != 3 {
+            return false;
+        }
+        why != 5
+    }
+
+    // The state, or that of a void session where the session is over.
+    pub fn left(self, over: bool) -> State
+        ensures { λ r. ⌜ r ≡ pick over idle self ⌝ }
+    {
+        if over {
+            return idle();
+        }
+        self
     }
 
     // 0, or the number of the first check that refuses an arc to be repeated: 5 to 8, 11 or 12.

@@ -1,0 +1,58 @@
+-- `session::Session::node_number` meets its contract.
+-- Assumes nothing.
+use mathlib.Core.Path.{_∙_, ap}
+use Prim.Native.Nat.{ℕ}
+use Rattle.prelude.specs.Choice.{pick}
+use Rattle.session.proofs.TurnsToSteps.{number-handed}
+use borrow.Author.Needs.{needs}
+use lib.Dec.{eqb}
+use lib.IntN.{ℤ}
+use lib.ListN.{set}
+use mir.Facts.{toZ-ofZ}
+use Rattle.state.specs.Turns.{numberTurn}
+use Rattle.session.proofs.Session.node_number.Statement.{statement}
+use Rattle.session.proofs.Session.node_number.Tie as tie
+
+node-number-requires : tie.Need-node-number-requires
+node-number-requires c κs = search needs
+
+is-over-requires : tie.Need-is-over-requires
+is-over-requires c κs = search needs
+
+store-accepted-requires : tie.Need-store-accepted-requires
+store-accepted-requires c κs = search needs
+
+clear-numbers-requires : tie.Need-clear-numbers-requires
+clear-numbers-requires c κs = search needs
+
+clear-balances-requires : tie.Need-clear-balances-requires
+clear-balances-requires c κs = search needs
+
+left-requires : tie.Need-left-requires
+left-requires c κs = search needs
+
+answer-to-requires : tie.Need-answer-to-requires
+answer-to-requires c κs = search needs
+
+returns : tie.Need-returns
+returns c =
+    let s = c .before .before .before .before .before .before .before .before .before .before .before .before .args in
+    let x = s .t1 in
+    let back = toZ-ofZ (c .before .before .before .before .before .before .before .before .before .before .before .before .fits .y) in
+    let turn = c .before .before .before .before .before .before .before .before .before .before .node-number in
+    number-handed x (s .y) (turn .result) (turn .ensures ∙ ap (numberTurn (x .state)) back) (c .before .before .before .before .before .before .before .before .before .is-over .result) (c .before .before .before .before .before .before .before .before .before .is-over .ensures) _
+    (c .before .before .before .before .before .before .before .store-accepted .ensures ∙ ap (λ (z : ℤ). pick (eqb (turn .result .why) 0) (set (x .potentials) (x .state .numbering .given) z) (x .potentials)) back)
+    (c .before .before .before .before .before .clear-numbers .ensures) (c .before .before .before .clear-balances .ensures) (c .before .left .ensures) (c .answer-to .ensures)
+
+pub node-number-spec : {M : Type 1} → statement M
+node-number-spec =
+    tie.close
+    (tie.spec
+    node-number-requires
+    is-over-requires
+    store-accepted-requires
+    clear-numbers-requires
+    clear-balances-requires
+    left-requires
+    answer-to-requires
+    returns)

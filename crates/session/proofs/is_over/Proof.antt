@@ -1,0 +1,14 @@
+-- `session::is_over` meets its contract.
+-- Assumes nothing.
+use borrow.Author.Needs.{needs}
+use Rattle.checks.proofs.Laws.{tested}
+use Rattle.session.proofs.is_over.Statement.{statement}
+use Rattle.session.proofs.is_over.Tie as tie
+
+pub is-over-spec : {M : Type 1} → statement M
+is-over-spec =
+    tie.close
+    (tie.spec
+    (λ c. search tested depth 12)
+    (λ c κs. search needs)
+    (λ c. search tested depth 12))
