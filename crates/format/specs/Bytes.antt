@@ -1,7 +1,7 @@
--- Numbers in bytes, and lists of what is numbered from 0 on. The order of the bytes is that of document 01, Files and the helper.
+-- Numbers in bytes. The order of the bytes is that of document 01, Files and the helper.
 -- Assumes nothing.
 use mathlib.Core.List.{List, [], _∷_, _++_}
-use Prim.Native.Nat.{ℕ, zero, suc, _+_, _-_, _*_, _/_, _%_, _^_}
+use Prim.Native.Nat.{ℕ, suc, _+_, _-_, _*_, _/_, _%_, _^_}
 use lib.Dec.{ltb}
 use lib.IntN.{ℤ, pos, negsuc}
 use lib.ListN.{getD}
@@ -42,8 +42,3 @@ byte32 z = byte16 (patternOf z / 65536) ++ byte16 (patternOf z % 65536)
 
 abbrev pub readSigned : List ℕ → ℕ → ℤ
 readSigned file i = signedOf (read32 file i)
-
--- g 0, …, g (n - 1).
-unfoldable pub listTo : {A : Type 0} → ℕ → (ℕ → A) → List A
-listTo zero g = []
-listTo (suc n) g = listTo n g ++ (g n ∷ [])

@@ -3,7 +3,8 @@
 use Prim.Native.Nat.{_*_}
 use native.Mathlib.Omega.{arith}
 use borrow.Author.Needs.{needs}
-use Rattle.format.specs.Files.{loadHeld, lowLoad, loadBytes}
+use Rattle.network.specs.Network.{loadHeld}
+use Rattle.format.specs.Files.{lowLoad, loadBytes}
 use Rattle.format.proofs.Writing.{sets-past, four-more}
 use Rattle.format.proofs.annotation_file.write_load.Statement.{statement}
 use Rattle.format.proofs.annotation_file.write_load.Tie as tie
