@@ -25,7 +25,10 @@ byte16 v = v / 256 ∷ v % 256 ∷ []
 abbrev pub read16 : List ℕ → ℕ → ℕ
 read16 file i = joined16 (byteAt file i) (byteAt file (i + 1))
 
--- 32 bits, read in the same order.
+-- 32 bits, in the same order.
+abbrev pub bytes32 : ℕ → List ℕ
+bytes32 k = byte16 (k / 65536) ++ byte16 (k % 65536)
+
 abbrev pub read32 : List ℕ → ℕ → ℕ
 read32 file i = joined32 (read16 file i) (read16 file (i + 2))
 
@@ -38,7 +41,7 @@ unfoldable pub signedOf : ℕ → ℤ
 signedOf k = pick (ltb k (2 ^ 31)) (pos k) (negsuc (2 ^ 32 - suc k))
 
 abbrev pub byte32 : ℤ → List ℕ
-byte32 z = byte16 (patternOf z / 65536) ++ byte16 (patternOf z % 65536)
+byte32 z = bytes32 (patternOf z)
 
 abbrev pub readSigned : List ℕ → ℕ → ℤ
 readSigned file i = signedOf (read32 file i)

@@ -54,9 +54,6 @@ annotationFile claim numbers loads = annotationHeader claim (length loads) ++ (f
 abbrev pub lowArc : Arc → Arc
 lowArc a = arcOf (a .tail % 256) (a .head % 256) (a .weight % 65536)
 
-abbrev pub lowLoad : Load → Load
-lowLoad l = record { arc = lowArc (l .arc); amount = l .amount % 65536 }
-
 -- ---- what a file says
 
 -- The header of a network file.

@@ -47,6 +47,10 @@ loadOf a b w x = record { arc = arcOf a b w; amount = x }
 abbrev pub loadHeld : Record → ℕ → Load
 loadHeld r x = record { arc = arcHeld r; amount = x }
 
+-- The load of a number that holds an arc, with the amount x.
+abbrev pub wordLoad : ℕ → ℕ → Load
+wordLoad k x = record { arc = wordArc k; amount = x }
+
 -- The arcs of a list of loads, in order.
 abbrev pub arcs : List Load → List Arc
 arcs f = map (λ l. l .arc) f
