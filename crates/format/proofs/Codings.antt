@@ -9,14 +9,15 @@ use lib.IntN.{ℤ, pos, negsuc}
 use lib.ListN.{length}
 use lib.Seq.{getD-append-add}
 use Rattle.prelude.specs.Lists.{Every}
+use Rattle.prelude.proofs.Lists.{every-append}
 use Rattle.network.specs.Network.{Arc, Load, arcOf, loadOf}
 use Rattle.format.specs.Bytes.{byteAt, joined16, joined32, byte16, read16, patternOf, signedOf, byte32, readSigned}
-use Rattle.format.specs.Files.{arcBytes, loadBytes, lowArc, lowLoad, arcAt, loadAt}
+use Rattle.format.specs.Files.{arcBytes, loadBytes, lowArc, arcAt, loadAt}
 use Rattle.format.specs.Promises.{Byte, ArcFits, LoadFits, Signed32}
 use Rattle.format.proofs.Halves.{whole}
 use Rattle.format.proofs.Reading.{signed-pattern}
 use Rattle.format.proofs.Windows.{arc-exact, load-exact, number-exact}
-use Rattle.format.proofs.Records.{Coding, every-append}
+use Rattle.format.proofs.Records.{Coding}
 
 -- ---- no byte before the index is looked at
 
@@ -43,9 +44,6 @@ module _ (before file : List ℕ) where
 
 pub low-arc : (a : Arc) → ArcFits a → lowArc a ≡ a
 low-arc a w = λ i. arcOf (mod-eq-of-lt (w .tail) i) (mod-eq-of-lt (w .head) i) (mod-eq-of-lt (w .weight) i)
-
-pub low-load : (l : Load) → LoadFits l → lowLoad l ≡ l
-low-load l w = λ i. record { arc = low-arc (l .arc) (w .arc) i; amount = mod-eq-of-lt (w .amount) i }
 
 -- ---- 16 bits, written and read
 

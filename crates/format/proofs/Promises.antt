@@ -8,12 +8,14 @@ use native.Mathlib.Decide.{ℕ-discrete}
 use native.Mathlib.Omega.{arith}
 use lib.ListN.{length, length-append}
 use Rattle.prelude.specs.Checks.{firstBroken}
-use Rattle.format.specs.Bytes.{byteAt, byte32, readSigned, listTo}
+use Rattle.prelude.specs.Lists.{listTo}
+use Rattle.prelude.proofs.Lists.{every-append, listTo-length}
+use Rattle.format.specs.Bytes.{byteAt, byte32, readSigned}
 use Rattle.format.specs.Files.{networkMark, annotationMark, networkSize, annotationSize, networkHeader, annotationHeader, arcBytes, loadBytes, networkFile, annotationFile, arcAt, loadAt, questionIn, nIn, sIn, tIn, countIn, claimIn, annotationCount, arcIn, loadIn, networkLayout, annotationLayout}
 use Rattle.format.specs.Promises.{Byte, ArcFits, LoadFits, Signed32, NetworkRoundTrip, AnnotationRoundTrip, OnlyNetwork, OnlyAnnotation, OneLayout}
 use Rattle.format.proofs.Halves.{whole}
 use Rattle.format.proofs.Windows.{window, window-append, window-all, pair}
-use Rattle.format.proofs.Records.{every-append, listTo-length, flat-length, flat-bytes, read-back, written-back}
+use Rattle.format.proofs.Records.{flat-length, flat-bytes, read-back, written-back}
 use Rattle.format.proofs.Codings.{both-bytes, arcs-coded, loads-coded, numbers-coded}
 use Rattle.format.proofs.Layouts.{holds, length-is, begins, other-mark}
 

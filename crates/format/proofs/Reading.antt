@@ -3,7 +3,7 @@
 use mathlib.Core.Path.{_≡_, refl, sym, ap, ap₂, _∙_, subst}
 use mathlib.Core.Bool.{Bool, true, false, false≢true}
 use mathlib.Core.List.{List}
-use Prim.Native.Nat.{ℕ, suc, _+_, _-_, _*_, _^_, _≤_, _<_}
+use Prim.Native.Nat.{ℕ, suc, _+_, _-_, _*_, _/_, _%_, _^_, _≤_, _<_}
 use native.Mathlib.Omega.{arith}
 use lib.Dec.{T, ltb}
 use lib.IntN.{ℤ, pos, negsuc, natAbs}
@@ -14,8 +14,8 @@ use mir.Val.{Fits, SFits, toZ, ofZ, sel}
 use mir.Facts.{toZ-pos, toZ-ofZ, ofZ-toZ}
 use borrow.Author.Tests.{ltb-true}
 use Rattle.prelude.specs.Choice.{pick}
-use Rattle.network.specs.Network.{Arc, Load, arcOf, loadOf}
-use Rattle.format.specs.Bytes.{byteAt, joined32, read16, read32, patternOf, signedOf, readSigned}
+use Rattle.network.specs.Network.{Arc, Load, arcOf, wordArc, loadOf}
+use Rattle.format.specs.Bytes.{byteAt, joined16, joined32, read16, read32, patternOf, signedOf, readSigned}
 use Rattle.format.specs.Files.{arcAt, loadAt}
 use Rattle.format.specs.Promises.{Byte, ArcFits, LoadFits}
 
@@ -42,12 +42,32 @@ load-past file i h = cc (arc-past file i h, read16-past file (i + 4) (omega arit
 
 -- ---- what is read from bytes fits
 
+taken-apart : (a b w : ℕ) → Byte a → Byte b → w < 65536 → wordArc (joined32 (joined16 a b) w) ≡ arcOf a b w
+taken-apart a b w ha hb hw = λ i. arcOf (first i) (second i) (third i)
+  where
+    first : joined32 (joined16 a b) w / 16777216 % 256 ≡ a
+    first = omega arith
+
+    second : joined32 (joined16 a b) w / 65536 % 256 ≡ b
+    second = omega arith
+
+    third : joined32 (joined16 a b) w % 65536 ≡ w
+    third = omega arith
+
+-- its first byte
+pub first-byte : (k : ℕ) → k < 4294967296 → k / 65536 / 256 ≡ k / 16777216 % 256
+first-byte k h = omega arith
+
 module _ (file : List ℕ) (bytes : (i : ℕ) → Byte (byteAt file i)) where
   pub read16-fits : (i : ℕ) → read16 file i < 65536
   read16-fits i = omega (arith, bytes i, bytes (i + 1))
 
   pub arc-fits : (i : ℕ) {a : Arc} → a ≡ arcAt file i → ArcFits a
   arc-fits i h = subst (λ (a : Arc). ArcFits a) (sym h) (record { tail = bytes i; head = bytes (i + 1); weight = read16-fits (i + 2) })
+
+  -- the four bytes of an arc as one number
+  pub word-arc : (i : ℕ) → wordArc (read32 file i) ≡ arcAt file i
+  word-arc i = taken-apart (byteAt file i) (byteAt file (i + 1)) (read16 file (i + 2)) (bytes i) (bytes (i + 1)) (read16-fits (i + 2))
 
   pub load-fits : (i : ℕ) {l : Load} → l ≡ loadAt file i → LoadFits l
   load-fits i h = subst (λ (l : Load). LoadFits l) (sym h) (record { arc = arc-fits i refl; amount = read16-fits (i + 4) })

@@ -2,50 +2,17 @@
 -- Assumes nothing.
 use mathlib.Core.Path.{_≡_, refl, sym, _∙_, ap, ap₂}
 use mathlib.Core.List.{List, [], _∷_, _++_, flatMap, append-assoc, append-nil}
-use Prim.Native.Nat.{ℕ, zero, suc, _+_, _*_, _≤_, _<_}
+use Prim.Native.Nat.{ℕ, zero, suc, _+_, _*_, _<_}
 use native.Mathlib.Nat.{mul-zero}
-use native.Mathlib.Decide.{ℕ-discrete}
 use native.Mathlib.Omega.{arith}
-use lib.ListN.{length, getD, take, length-append}
-use lib.Seq.{take-suc, take-length}
-use Rattle.prelude.specs.Lists.{Every}
-use Rattle.format.specs.Bytes.{listTo}
+use lib.ListN.{length, getD, length-append}
+use lib.Seq.{take-length}
+use Rattle.prelude.specs.Lists.{Every, listTo}
+use Rattle.prelude.proofs.Lists.{every-append, listTo-take}
 use Rattle.format.specs.Promises.{Byte}
 use Rattle.format.proofs.Windows.{window, window-append}
 
--- ---- lists
-
-pub every-append : {A : Type 0} (P : A → Type 0) (xs ys : List A) → Every P xs → Every P ys → Every P (xs ++ ys)
-every-append P [] ys e f = f
-every-append P (x ∷ xs) ys e f = (e .0, every-append P xs ys (e .1) f)
-
-pub listTo-length : {A : Type 0} (n : ℕ) (g : ℕ → A) → length (listTo n g) ≡ n
-unfolding listTo
-listTo-length zero g = refl
-listTo-length (suc n) g = length-append (listTo n g) (g n ∷ []) ∙ omega (arith, listTo-length n g)
-
--- the entries of a list, listed
-pub listTo-take : {A : Type 0} (d : A) (xs : List A) (g : ℕ → A) → ((e : ℕ) → e < length xs → g e ≡ getD xs e d) → (n : ℕ) → n ≤ length xs → listTo n g ≡ take n xs
-unfolding listTo
-listTo-take d xs g h zero l = refl
-listTo-take d xs g h (suc n) l =
-    ap₂ (λ ys y. ys ++ (y ∷ [])) (listTo-take d xs g h n (omega arith)) (h n (omega arith)) ∙ sym (take-suc xs n d (omega arith))
-
--- the list below m, with the entry of the number e in its place
-pub record Split {A : Type 0} (h : ℕ → A) (e m : ℕ) : Type 0 where
-  pub later : List A
-  pub is : listTo m h ≡ listTo e h ++ (h e ∷ later)
-
-pub split : {A : Type 0} (h : ℕ → A) (e m : ℕ) → e < m → Split h e m
-unfolding listTo
-split h e zero l = absurd (omega arith)
-split {A} h e (suc m) l = go (ℕ-discrete e m) (split h e m)
-  where
-    go : Dec (e ≡ m) → (e < m → Split h e m) → Split h e (suc m)
-    go (yes q) before = record { later = []; is = sym (ap (λ (k : ℕ). listTo k h ++ (h k ∷ [])) q) }
-    go (no q) before =
-        let s = before (omega arith) in
-        record { later = s .later ++ (h m ∷ []); is = ap (λ (k : List A). k ++ (h m ∷ [])) (s .is) ∙ append-assoc (listTo e h) (h e ∷ s .later) (h m ∷ []) }
+-- ---- lists of bytes
 
 module _ {A : Type 0} (write : A → List ℕ) where
   pub flat-append : (xs ys : List A) → flatMap write (xs ++ ys) ≡ flatMap write xs ++ flatMap write ys

@@ -1,7 +1,7 @@
--- Numbers in bytes, and lists of what is numbered from 0 on. The order of the bytes is that of document 01, Files and the helper.
+-- Numbers in bytes. The order of the bytes is that of document 01, Files and the helper.
 -- Assumes nothing.
 use mathlib.Core.List.{List, [], _∷_, _++_}
-use Prim.Native.Nat.{ℕ, zero, suc, _+_, _-_, _*_, _/_, _%_, _^_}
+use Prim.Native.Nat.{ℕ, suc, _+_, _-_, _*_, _/_, _%_, _^_}
 use lib.Dec.{ltb}
 use lib.IntN.{ℤ, pos, negsuc}
 use lib.ListN.{getD}
@@ -25,7 +25,10 @@ byte16 v = v / 256 ∷ v % 256 ∷ []
 abbrev pub read16 : List ℕ → ℕ → ℕ
 read16 file i = joined16 (byteAt file i) (byteAt file (i + 1))
 
--- 32 bits, read in the same order.
+-- 32 bits, in the same order.
+abbrev pub bytes32 : ℕ → List ℕ
+bytes32 k = byte16 (k / 65536) ++ byte16 (k % 65536)
+
 abbrev pub read32 : List ℕ → ℕ → ℕ
 read32 file i = joined32 (read16 file i) (read16 file (i + 2))
 
@@ -38,12 +41,7 @@ unfoldable pub signedOf : ℕ → ℤ
 signedOf k = pick (ltb k (2 ^ 31)) (pos k) (negsuc (2 ^ 32 - suc k))
 
 abbrev pub byte32 : ℤ → List ℕ
-byte32 z = byte16 (patternOf z / 65536) ++ byte16 (patternOf z % 65536)
+byte32 z = bytes32 (patternOf z)
 
 abbrev pub readSigned : List ℕ → ℕ → ℤ
 readSigned file i = signedOf (read32 file i)
-
--- g 0, …, g (n - 1).
-unfoldable pub listTo : {A : Type 0} → ℕ → (ℕ → A) → List A
-listTo zero g = []
-listTo (suc n) g = listTo n g ++ (g n ∷ [])

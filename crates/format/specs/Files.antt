@@ -7,9 +7,9 @@ use lib.Dec.{leb, eqb}
 use lib.IntN.{ℤ}
 use lib.ListN.{length}
 use Rattle.prelude.specs.Checks.{Check, _unless_}
-use Rattle.network.specs.Network.{Arc, Load, arcOf, arcHeld}
-use Rattle.network.specs.declared.Record.{Record}
-use Rattle.format.specs.Bytes.{byteAt, byte16, read16, byte32, readSigned, listTo}
+use Rattle.prelude.specs.Lists.{listTo}
+use Rattle.network.specs.Network.{Arc, Load, arcOf}
+use Rattle.format.specs.Bytes.{byteAt, byte16, read16, byte32, readSigned}
 
 -- ---- what is written
 
@@ -48,18 +48,11 @@ networkFile question n s t arcs = networkHeader question n s t (length arcs) ++ 
 unfoldable pub annotationFile : ℕ → List ℤ → List Load → List ℕ
 annotationFile claim numbers loads = annotationHeader claim (length loads) ++ (flatMap byte32 numbers ++ flatMap loadBytes loads)
 
--- ---- a record in code
-
--- A record that the code holds, with an amount.
-abbrev pub loadHeld : Record → ℕ → Load
-loadHeld r x = record { arc = arcHeld r; amount = x }
+-- ---- a record of any size
 
 -- What a file has room for of a record of any size: the low byte, or the low 16 bits, of each field.
 abbrev pub lowArc : Arc → Arc
 lowArc a = arcOf (a .tail % 256) (a .head % 256) (a .weight % 65536)
-
-abbrev pub lowLoad : Load → Load
-lowLoad l = record { arc = lowArc (l .arc); amount = l .amount % 65536 }
 
 -- ---- what a file says
 

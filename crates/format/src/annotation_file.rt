@@ -3,22 +3,22 @@ ghost use mathlib.Core.Path.{_≡_};
 ghost use Prim.Native.Nat.{_*_};
 ghost use lib.Seq.{sets};
 ghost use Rattle.prelude.specs.Checks.{firstBroken};
+ghost use Rattle.network.specs.Network.{loadHeld, wordLoad};
 ghost use Rattle.format.specs.Bytes.{byte32};
-ghost use Rattle.format.specs.Files.{annotationLayout, claimIn, annotationCount, numberIn, loadIn, annotationHeader, loadHeld, lowLoad, loadBytes};
+ghost use Rattle.format.specs.Files.{annotationLayout, claimIn, annotationCount, numberIn, loadIn, annotationHeader, loadBytes};
 use super::arcs::inner_record;
-use super::arcs::put_record;
 use super::arcs::record_at;
 use super::arcs::record_of;
 use super::bytes::byte;
 use super::bytes::bytes_after;
 use super::bytes::inner16;
 use super::bytes::inner32;
-use super::bytes::low16;
 use super::bytes::number16;
 use super::bytes::number32;
 use super::bytes::put_byte;
 use super::bytes::put16;
 use super::bytes::put32;
+use super::bytes::put_bits32;
 use super::layout::layout_check;
 use super::layout::write_mark;
 use network::Record;
@@ -115,14 +115,14 @@ pub fn write_number(part: &mut [u8], v: usize, z: i32)
     put32(part, 4 * v, z);
 }
 
-// The load number e into the part of a file that holds the loads. Of a field that is too large the low bytes are written.
-pub fn write_load(part: &mut [u8], e: usize, arc: Record, amount: u32)
-    ensures { λ _. ⌜ now (part .exit) ≡ sets (now (part .entry)) (6 * e) (loadBytes (lowLoad (loadHeld arc amount))) ⌝ }
+// The load number e into the part of a file that holds the loads: the word has the four bytes of its arc.
+pub fn write_load(part: &mut [u8], e: usize, word: u32, amount: u16)
+    ensures { λ _. ⌜ now (part .exit) ≡ sets (now (part .entry)) (6 * e) (loadBytes (wordLoad word amount)) ⌝ }
 {
     if part.len() / 6 < e {
         return;
     }
     let at = 6 * e;
-    put_record(part, at, arc);
-    put16(part, at + 4, low16(amount));
+    put_bits32(part, at, word);
+    put16(part, at + 4, amount);
 }

@@ -3,7 +3,7 @@ ghost use mathlib.Core.Path.{_≡_};
 ghost use Prim.Native.Nat.{_+_, _-_, _%_, _≤_};
 ghost use lib.ListN.{length, set};
 ghost use lib.Seq.{sets};
-ghost use Rattle.format.specs.Bytes.{byteAt, joined16, joined32, byte16, read16, read32, patternOf, signedOf, byte32, readSigned};
+ghost use Rattle.format.specs.Bytes.{byteAt, joined16, joined32, byte16, read16, bytes32, read32, patternOf, signedOf, byte32, readSigned};
 
 // ---- reading
 
@@ -78,12 +78,20 @@ pub(crate) fn inner16(file: &[u8], i: usize) -> u16
     joined16(file[i], file[i + 1])
 }
 
+// The 32 bits at i.
+pub(crate) fn inner_bits32(file: &[u8], i: usize) -> u32
+    requires { ⌜ i + 4 ≤ length (now file) ⌝ }
+    ensures { λ r. ⌜ r ≡ read32 (now (file .entry)) i ⌝ }
+{
+    joined32(inner16(file, i), inner16(file, i + 2))
+}
+
 // The number of 32 bits at i.
 pub(crate) fn inner32(file: &[u8], i: usize) -> i32
     requires { ⌜ i + 4 ≤ length (now file) ⌝ }
     ensures { λ r. ⌜ r ≡ readSigned (now (file .entry)) i ⌝ }
 {
-    signed(joined32(inner16(file, i), inner16(file, i + 2)))
+    signed(inner_bits32(file, i))
 }
 
 // How many of size bytes follow the first start.
@@ -141,13 +149,18 @@ pub fn put16(buffer: &mut [u8], i: usize, v: u16)
     put_byte(buffer, i + 1, (v % 256) as u8);
 }
 
-pub fn put32(buffer: &mut [u8], i: usize, z: i32)
-    ensures { λ _. ⌜ now (buffer .exit) ≡ sets (now (buffer .entry)) i (byte32 z) ⌝ }
+pub fn put_bits32(buffer: &mut [u8], i: usize, k: u32)
+    ensures { λ _. ⌜ now (buffer .exit) ≡ sets (now (buffer .entry)) i (bytes32 k) ⌝ }
 {
     if buffer.len() <= i {
         return;
     }
-    let k = pattern(z);
     put16(buffer, i, (k / 65536) as u16);
     put16(buffer, i + 2, (k % 65536) as u16);
+}
+
+pub fn put32(buffer: &mut [u8], i: usize, z: i32)
+    ensures { λ _. ⌜ now (buffer .exit) ≡ sets (now (buffer .entry)) i (byte32 z) ⌝ }
+{
+    put_bits32(buffer, i, pattern(z));
 }

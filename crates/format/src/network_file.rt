@@ -3,14 +3,16 @@ ghost use mathlib.Core.Path.{_≡_};
 ghost use Prim.Native.Nat.{_*_};
 ghost use lib.Seq.{sets};
 ghost use Rattle.prelude.specs.Checks.{firstBroken};
-ghost use Rattle.network.specs.Network.{arcHeld};
+ghost use Rattle.network.specs.Network.{arcHeld, wordArc};
 ghost use Rattle.format.specs.Files.{networkLayout, questionIn, nIn, sIn, tIn, countIn, arcIn, networkHeader, arcBytes, lowArc};
 use super::arcs::inner_record;
 use super::arcs::put_record;
 use super::arcs::record_at;
 use super::arcs::record_of;
+use super::bytes::bits32;
 use super::bytes::byte;
 use super::bytes::bytes_after;
+use super::bytes::inner_bits32;
 use super::bytes::number16;
 use super::bytes::put_byte;
 use super::bytes::put16;
@@ -68,6 +70,20 @@ pub fn arc(file: &[u8], e: usize) -> Record
         return record_of(0, 0, 0);
     }
     record_at(file, 11 + 4 * e)
+}
+
+// The four bytes of the arc number e as one number, 0 past the end.
+pub fn word(file: &[u8], e: usize) -> u32
+    ensures { λ r. ⌜ wordArc r ≡ arcIn (now (file .entry)) e ⌝ }
+{
+    let size = file.len();
+    if e < bytes_after(11, size) / 4 {
+        return inner_bits32(file, 11 + 4 * e);
+    }
+    if size / 4 < e {
+        return 0;
+    }
+    bits32(file, 11 + 4 * e)
 }
 
 // The eleven bytes of the header.

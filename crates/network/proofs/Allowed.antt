@@ -1,19 +1,24 @@
--- The tests of checks 1, 2, 3, 7 and 8 hold exactly where opening and reading allow.
+-- The tests of checks 1, 2, 3, 6, 7 and 8 hold exactly where opening and reading allow.
 -- Assumes nothing.
-use mathlib.Core.Path.{_≡_}
+use mathlib.Core.Path.{_≡_, refl, sym, _∙_, ap}
 use mathlib.Core.Logic.{_≢_}
 use mathlib.Core.Bool.{Bool, not, _&&_}
-use Prim.Native.Nat.{ℕ, _%_, _≤_}
+use mathlib.Core.List.{List, [], _∷_, _++_}
+use Prim.Native.Nat.{ℕ, suc, _+_, _%_, _≤_}
+use native.Mathlib.Nat.{add-zero}
 use native.Mathlib.Omega.{arith}
 use native.Mathlib.Decide.{ℕ-discrete}
 use borrow.Author.Tests.{eq-eqb, ne-eqb}
 use lib.Dec.{T, eqb, leb, ltb, eqb→eq, eqb-refl, leb→le, le→leb, ltb→lt, lt→ltb}
 use Rattle.prelude.proofs.Booleans.{and-left, and-right, both, false→not}
-use Rattle.prelude.specs.Checks.{Hold}
-use Rattle.network.specs.Limits.{mostVertices, mostWeight}
+use lib.ListN.{length}
+use Rattle.prelude.specs.Checks.{Check, Hold}
+use Rattle.prelude.specs.Lists.{Every}
+use Rattle.prelude.proofs.Settle.{hold-append, Numbered, numbered-append}
+use Rattle.network.specs.Limits.{mostVertices, mostArcs, mostWeight}
 use Rattle.network.specs.Network.{Arc}
 use Rattle.network.specs.Question.{Question, shortestPath, maximumFlow, assignment, questionOf, unasked, Setting, asks, pumps, Asked, EvenFor, Sized, TwoVertices, EndsFor, Opened, SidesFor, Joins, WeightWithin, Allowed}
-use Rattle.network.specs.Tests.{isAsked, evenFor, sizeOk, twoVertices, endsFor, endsOk, openingChecks, sidesFor, joinsOk, weightOk, arcChecks}
+use Rattle.network.specs.Tests.{isAsked, evenFor, sizeOk, twoVertices, endsFor, endsOk, openingChecks, sidesFor, joinsOk, weightOk, arcChecks, readingChecks, readingAll}
 
 -- ---- numbers that differ
 
@@ -183,3 +188,40 @@ arc-rule st e h = record { joins = joins-rule st e (h .0); weight-within = weigh
 
 pub arc-test : (st : Setting) (e : Arc) → Allowed st e → Hold (arcChecks st e)
 arc-test st e a = (joins-test st e (a .joins), (weight-test e (a .weight-within), tt))
+
+-- ---- a list of arcs, read one after the other where i are read already
+
+pub reading-append : (st : Setting) (i : ℕ) (xs ys : List Arc) → readingAll st i (xs ++ ys) ≡ readingAll st i xs ++ readingAll st (i + length xs) ys
+unfolding readingAll
+reading-append st i [] ys = ap (λ (k : ℕ). readingAll st k ys) (sym (add-zero i))
+reading-append st i (x ∷ xs) ys =
+    let e : suc i + length xs ≡ i + suc (length xs) = omega arith in
+    ap (λ (l : List Check). readingChecks st i x ++ l) (reading-append st (suc i) xs ys ∙ ap (λ (k : ℕ). readingAll st (suc i) xs ++ readingAll st k ys) e)
+
+pub one-numbered : (st : Setting) (i : ℕ) (e : Arc) → Numbered (readingChecks st i e)
+one-numbered st i e = (refl, (refl, (refl, tt)))
+
+pub reading-numbered : (st : Setting) (i : ℕ) (net : List Arc) → Numbered (readingAll st i net)
+unfolding readingAll
+reading-numbered st i [] = tt
+reading-numbered st i (e ∷ net) = numbered-append (readingChecks st i e) (readingAll st (suc i) net) (one-numbered st i e) (reading-numbered st (suc i) net)
+
+pub opening-numbered : (st : Setting) → Numbered (openingChecks st)
+opening-numbered st = (refl, (refl, (refl, tt)))
+
+-- reading accepts exactly the lists of arcs that are allowed, as many as there is room for
+pub reading-rule : (st : Setting) (i : ℕ) (net : List Arc) → Hold (readingAll st i net) → Every (Allowed st) net
+unfolding readingAll
+reading-rule st i [] h = tt
+reading-rule st i (e ∷ net) h = (arc-rule st e (h .1 .0, (h .1 .1 .0, tt)), reading-rule st (suc i) net (h .1 .1 .1))
+
+pub reading-few : (st : Setting) (i : ℕ) (net : List Arc) → i ≤ mostArcs → Hold (readingAll st i net) → i + length net ≤ mostArcs
+unfolding readingAll
+reading-few st i [] l h = omega arith
+reading-few st i (e ∷ net) l h = omega (arith, reading-few st (suc i) net (ltb→lt i mostArcs (h .0)) (h .1 .1 .1))
+
+pub reading-test : (st : Setting) (i : ℕ) (net : List Arc) → Every (Allowed st) net → i + length net ≤ mostArcs → Hold (readingAll st i net)
+unfolding readingAll
+reading-test st i [] a l = tt
+reading-test st i (e ∷ net) a l =
+    hold-append (readingChecks st i e) (readingAll st (suc i) net) (lt→ltb i mostArcs (omega arith), arc-test st e (a .0)) (reading-test st (suc i) net (a .1) (omega arith))

@@ -2,7 +2,7 @@
 -- Assumes nothing.
 use mathlib.Core.Bool.{Bool, not, _&&_}
 use mathlib.Core.List.{List, [], _∷_, map}
-use Prim.Native.Nat.{ℕ, _+_, _*_}
+use Prim.Native.Nat.{ℕ, _+_, _*_, _/_, _%_}
 use lib.Dec.{eqb}
 use lib.IntN.{ℤ, pos, _-ℤ_}
 use Rattle.prelude.specs.Choice.{indicator}
@@ -22,6 +22,14 @@ arcOf a b w = record { tail = a; head = b; weight = w }
 abbrev pub arcHeld : Record → Arc
 arcHeld r = arcOf (r .tail) (r .head) (r .weight)
 
+-- The arc of the four bytes of a record read as one number: tail × 16777216 + head × 65536 + weight.
+abbrev pub wordArc : ℕ → Arc
+wordArc k = arcOf (k / 16777216 % 256) (k / 65536 % 256) (k % 65536)
+
+-- The arcs of a list of such numbers, in order.
+abbrev pub wordArcs : List ℕ → List Arc
+wordArcs ks = map wordArc ks
+
 -- The key of an arc (The point and the product).
 abbrev pub key : Arc → ℕ
 key e = e .tail * 8388608 + e .head * 32768 + e .weight
@@ -39,9 +47,19 @@ loadOf a b w x = record { arc = arcOf a b w; amount = x }
 abbrev pub loadHeld : Record → ℕ → Load
 loadHeld r x = record { arc = arcHeld r; amount = x }
 
+-- The load of a number that holds an arc, with the amount x.
+abbrev pub wordLoad : ℕ → ℕ → Load
+wordLoad k x = record { arc = wordArc k; amount = x }
+
 -- The arcs of a list of loads, in order.
 abbrev pub arcs : List Load → List Arc
 arcs f = map (λ l. l .arc) f
+
+-- The arcs with their amounts, in order: an arc that has none carries 0.
+unfoldable pub loadsOf : List Arc → List ℕ → List Load
+loadsOf [] xs = []
+loadsOf (e ∷ net) [] = record { arc = e; amount = 0 } ∷ loadsOf net []
+loadsOf (e ∷ net) (x ∷ xs) = record { arc = e; amount = x } ∷ loadsOf net xs
 
 -- 1 where u and v are the same vertex, else 0.
 unfoldable pub delta : ℕ → ℕ → ℕ

@@ -1,4 +1,6 @@
-// What a channel record is in code. All else here is definitions and proofs: what a network is, and why a certificate is right.
+// What a channel record is in code, and the limits. All else here is definitions and proofs: what a network is, and why a certificate is right.
+ghost use mathlib.Core.Path.{_≡_};
+ghost use Rattle.network.specs.Network.{arcHeld, wordArc};
 
 // An arc from its tail to its head with a weight, as it is read from a file or handed to a step: any numbers of 32 bits.
 pub struct Record {
@@ -12,3 +14,14 @@ pub const MOST_VERTICES: u32 = 255;
 pub const MOST_ARCS: u32 = 4096;
 pub const MOST_WEIGHT: u32 = 32767;
 pub const MOST_POTENTIAL: i32 = 8322818;
+
+// The record whose four bytes, read as one number, are the word.
+pub fn arc_in(word: u32) -> Record
+    ensures { λ r. ⌜ arcHeld r ≡ wordArc word ⌝ }
+{
+    Record {
+        tail: word / 16777216 % 256,
+        head: word / 65536 % 256,
+        weight: word % 65536,
+    }
+}

@@ -1,15 +1,17 @@
--- What holds of every element of a list or of one, and a list of different elements without one of them.
+-- What holds of every element of a list or of one, a list of different elements without one of them, and lists of what is numbered from 0 on.
 -- Assumes nothing.
-use mathlib.Core.Path.{_≡_, sym, subst}
+use mathlib.Core.Path.{_≡_, refl, sym, _∙_, ap, ap₂, subst}
 use mathlib.Core.Logic.{inl, inr}
 use mathlib.Core.Bool.{Bool}
-use mathlib.Core.List.{List, [], _∷_, _++_, map}
-use Prim.Native.Nat.{suc, _≤_, suc-le-suc}
+use mathlib.Core.List.{List, [], _∷_, _++_, map, append-assoc}
+use Prim.Native.Nat.{ℕ, zero, suc, _≤_, _<_, suc-le-suc}
 use native.Mathlib.Nat.{le-refl}
+use native.Mathlib.Decide.{ℕ-discrete}
 use native.Mathlib.Omega.{arith}
 use lib.Dec.{T}
-use lib.ListN.{length}
-use Rattle.prelude.specs.Lists.{Every, Member, Distinct, all}
+use lib.ListN.{length, getD, take, length-append}
+use lib.Seq.{take-suc}
+use Rattle.prelude.specs.Lists.{Every, Member, Distinct, all, listTo}
 use Rattle.prelude.proofs.Booleans.{and-left, and-right, both}
 
 pub every-map : {A : Type 0} {P Q : A → Type 0} → ((a : A) → P a → Q a) → (l : List A) → Every P l → Every Q l
@@ -78,3 +80,37 @@ without {A} dec k (x ∷ xs) d = go (dec k x) (without dec k xs (d .1))
 pub every-snoc : {A : Type 0} (P : A → Type 0) (l : List A) (a : A) → Every P l → P a → Every P (l ++ a ∷ [])
 every-snoc P [] a e p = (p, tt)
 every-snoc P (b ∷ l) a e p = (e .0, every-snoc P l a (e .1) p)
+
+pub every-append : {A : Type 0} (P : A → Type 0) (xs ys : List A) → Every P xs → Every P ys → Every P (xs ++ ys)
+every-append P [] ys e f = f
+every-append P (x ∷ xs) ys e f = (e .0, every-append P xs ys (e .1) f)
+
+-- ---- lists of what is numbered from 0 on
+
+pub listTo-length : {A : Type 0} (n : ℕ) (g : ℕ → A) → length (listTo n g) ≡ n
+unfolding listTo
+listTo-length zero g = refl
+listTo-length (suc n) g = length-append (listTo n g) (g n ∷ []) ∙ omega (arith, listTo-length n g)
+
+-- the entries of a list, listed
+pub listTo-take : {A : Type 0} (d : A) (xs : List A) (g : ℕ → A) → ((e : ℕ) → e < length xs → g e ≡ getD xs e d) → (n : ℕ) → n ≤ length xs → listTo n g ≡ take n xs
+unfolding listTo
+listTo-take d xs g h zero l = refl
+listTo-take d xs g h (suc n) l =
+    ap₂ (λ ys y. ys ++ (y ∷ [])) (listTo-take d xs g h n (omega arith)) (h n (omega arith)) ∙ sym (take-suc xs n d (omega arith))
+
+-- the list below m, with the entry of the number e in its place
+pub record Split {A : Type 0} (h : ℕ → A) (e m : ℕ) : Type 0 where
+  pub later : List A
+  pub is : listTo m h ≡ listTo e h ++ (h e ∷ later)
+
+pub split : {A : Type 0} (h : ℕ → A) (e m : ℕ) → e < m → Split h e m
+unfolding listTo
+split h e zero l = absurd (omega arith)
+split {A} h e (suc m) l = go (ℕ-discrete e m) (split h e m)
+  where
+    go : Dec (e ≡ m) → (e < m → Split h e m) → Split h e (suc m)
+    go (yes q) before = record { later = []; is = sym (ap (λ (k : ℕ). listTo k h ++ (h k ∷ [])) q) }
+    go (no q) before =
+        let s = before (omega arith) in
+        record { later = s .later ++ (h m ∷ []); is = ap (λ (k : List A). k ++ (h m ∷ [])) (s .is) ∙ append-assoc (listTo e h) (h e ∷ s .later) (h m ∷ []) }

@@ -54,6 +54,10 @@ abbrev pub Numbered : List Check → Type 0
 Numbered [] = Unit {0}
 Numbered ((k unless b) ∷ cs) = (eqb k 0 ≡ false) × Numbered cs
 
+pub numbered-append : (cs ds : List Check) → Numbered cs → Numbered ds → Numbered (cs ++ ds)
+numbered-append [] ds n m = m
+numbered-append ((k unless b) ∷ cs) ds n m = (n .0, numbered-append cs ds (n .1) m)
+
 pub none-broken : (cs : List Check) → Numbered cs → firstBroken cs ≡ 0 → Hold cs
 none-broken [] n e = tt
 none-broken ((k unless true) ∷ cs) n e = (tt, none-broken cs (n .1) e)

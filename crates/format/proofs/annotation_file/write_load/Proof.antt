@@ -3,7 +3,9 @@
 use Prim.Native.Nat.{_*_}
 use native.Mathlib.Omega.{arith}
 use borrow.Author.Needs.{needs}
-use Rattle.format.specs.Files.{loadHeld, lowLoad, loadBytes}
+use Rattle.network.specs.Network.{wordLoad}
+use Rattle.format.specs.Files.{loadBytes}
+use Rattle.format.proofs.Reading.{first-byte}
 use Rattle.format.proofs.Writing.{sets-past, four-more}
 use Rattle.format.proofs.annotation_file.write_load.Statement.{statement}
 use Rattle.format.proofs.annotation_file.write_load.Tie as tie
@@ -12,11 +14,10 @@ pub write-load-spec : {M : Type 1} → statement M
 write-load-spec =
     tie.close
     (tie.spec
-    (λ c. let a = c .before .before .args in sets-past (a .part .now) (6 * a .e) (loadBytes (lowLoad (loadHeld (a .arc) (a .amount)))) (omega arith))
+    (λ c. let a = c .before .before .args in sets-past (a .part .now) (6 * a .e) (loadBytes (wordLoad (a .word) (a .amount))) (omega arith))
     (λ c. search needs)
     (λ c κs. search needs)
     (λ c. search needs)
     (λ c κs. search needs)
-    (λ c κs. search needs)
     (λ c. search needs)
-    (λ c. let at = 6 * c .before .before .before .before .before .before .before .before .before .before .before .args .e in cc (four-more at)))
+    (λ c. let a = c .before .before .before .before .before .before .before .before .before .before .args in cc (four-more (6 * a .e), first-byte (a .word) (omega arith))))

@@ -1,10 +1,10 @@
 -- `format::bytes::inner32` meets its contract.
 -- Assumes nothing.
-use mathlib.Core.Path.{_∙_, ap, ap₂}
+use mathlib.Core.Path.{_∙_, ap}
 use mir.Syntax.{w32}
 use borrow.Author.Needs.{needs}
 use Rattle.words.proofs.Signs.{back}
-use Rattle.format.specs.Bytes.{joined32, signedOf}
+use Rattle.format.specs.Bytes.{signedOf}
 use Rattle.format.proofs.bytes.inner32.Statement.{statement}
 use Rattle.format.proofs.bytes.inner32.Tie as tie
 
@@ -13,8 +13,5 @@ inner32-spec =
     tie.close
     (tie.spec
     (λ c κs. search needs)
-    (λ c. search needs)
     (λ c κs. search needs)
-    (λ c κs. search needs)
-    (λ c κs. search needs)
-    (λ c. back w32 (c .signed .result) (c .signed .ok) ∙ c .signed .ensures ∙ ap signedOf (c .before .joined32 .ensures ∙ ap₂ joined32 (c .before .before .before .inner16 .ensures) (c .before .before .inner162 .ensures))))
+    (λ c. back w32 (c .signed .result) (c .signed .ok) ∙ c .signed .ensures ∙ ap signedOf (c .before .inner-bits32 .ensures)))
