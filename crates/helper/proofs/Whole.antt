@@ -21,8 +21,8 @@ use Rattle.checks.specs.declared.Setting.{Setting as Header}
 use Rattle.runs.specs.Exchange.{readRule, readRules}
 use Rattle.solver.specs.Certify.{recordArc, recordArcs, recordOk, admissible, Solution, Outcome}
 use Rattle.solver.specs.Instance.{loadsOf}
-use Rattle.solver.proofs.Columns.{loads-arcs}
-use Rattle.solver.proofs.Parts.{zeros, zeros-length, lent-again}
+use Rattle.solver.proofs.ColumnsAndLoads.{loads-arcs}
+use Rattle.engine.proofs.LentParts.{zeros, zeros-length, lent-again}
 use Rattle.format.specs.Bytes.{byte32, readSigned, listTo}
 use Rattle.format.specs.Files.{questionIn, nIn, countIn, arcIn, arcsIn, annotationHeader, annotationFile, loadBytes, loadAt}
 use Rattle.format.specs.Promises.{Signed32, LoadFits}

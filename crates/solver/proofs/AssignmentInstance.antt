@@ -22,10 +22,10 @@ use Rattle.network.specs.Certificate.{marked, ZeroOrOne, NoAmount, Closed, Feas
 use Rattle.network.proofs.Sums.{delta-same, Inside}
 use Rattle.network.proofs.Assignments.{Between, leaves-no-site}
 use Rattle.network.proofs.Sound.{balance-parts}
-use Rattle.solver.specs.Net.{entry, unreached}
-use Rattle.solver.specs.Phase.{Solved, State}
+use Rattle.engine.specs.Residual.{entry, unreached}
+use Rattle.engine.specs.Phase.{Solved, State}
 use Rattle.solver.specs.Instance.{Fits, tails, heads, weights, constant, loadsOf, Filled, atPumps, atSites, Falls, markOf}
-use Rattle.solver.proofs.Columns.{in-list, zeros-at, constant-at, since-none, index, loads-arcs, arcAt, every-arc, every-load, column-len, sumOf-used, paid-cost, weighed, Seen, Unseen, sight, marks-fit, no-cross, leads-on, leads-back, from-left, start-state, weights-low}
+use Rattle.solver.proofs.ColumnsAndLoads.{in-list, zeros-at, constant-at, since-none, index, loads-arcs, arcAt, every-arc, every-load, column-len, sumOf-used, paid-cost, weighed, Seen, Unseen, sight, marks-fit, no-cross, leads-on, leads-back, from-left, start-state, weights-low}
 
 -- the state from which the engine starts
 pub assignment-state : (n : ℕ) (es : List Arc) (pi left need : List ℕ) → Fits n es → Filled n (λ v. 0) pi → length left ≡ n → length need ≡ n

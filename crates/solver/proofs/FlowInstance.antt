@@ -14,10 +14,10 @@ use Rattle.network.specs.Network.{Arc, Load, arcs, sumOf, leaving, entering, to
 use Rattle.network.specs.Question.{Setting, TwoVertices, WeightWithin}
 use Rattle.network.specs.Certificate.{marked, WithinCapacity, FlowCertificate}
 use Rattle.network.proofs.Sound.{balance-parts}
-use Rattle.solver.specs.Net.{entry}
-use Rattle.solver.specs.Phase.{Solved, State}
+use Rattle.engine.specs.Residual.{entry}
+use Rattle.engine.specs.Phase.{Solved, State}
 use Rattle.solver.specs.Instance.{Fits, tails, heads, weights, constant, loadsOf, Filled, single, Falls, markOf}
-use Rattle.solver.proofs.Columns.{in-list, zeros-at, since-none, index, loads-arcs, arcAt, every-load, column-len, leaving-most, fallen, Carried, carried-by, as-much, at-source, elsewhere, Seen, Unseen, seen, unseen, sight, marks-fit, leads-on, leads-back, from-left, start-state}
+use Rattle.solver.proofs.ColumnsAndLoads.{in-list, zeros-at, since-none, index, loads-arcs, arcAt, every-load, column-len, leaving-most, fallen, Carried, carried-by, as-much, at-source, elsewhere, Seen, Unseen, seen, unseen, sight, marks-fit, leads-on, leads-back, from-left, start-state}
 
 -- the state from which the engine starts
 pub flow-state : (n : ℕ) (es : List Arc) (pi left need : List ℕ) → Fits n es → Filled n (λ v. 0) pi → length left ≡ n → length need ≡ n

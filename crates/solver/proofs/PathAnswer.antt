@@ -10,14 +10,14 @@ use lib.IntN.{ℤ}
 use lib.ListN.{length}
 use Rattle.network.specs.Network.{Arc}
 use Rattle.network.specs.Question.{Question, shortestPath, Setting, TwoVertices, EndsFor}
-use Rattle.solver.specs.Net.{entry, unreached, Net, net}
-use Rattle.solver.specs.Arcs.{tailsOf, headsOf, costsOf, capacitiesOf, network, ArcsState, ArcsLinked, ArcsMoved}
-use Rattle.solver.specs.Flow.{Moved}
-use Rattle.solver.specs.Phase.{Found, State}
+use Rattle.engine.specs.Residual.{entry, unreached, Net, net}
+use Rattle.engine.specs.PackedArcs.{tailsOf, headsOf, costsOf, capacitiesOf, network, ArcsState, ArcsLinked, ArcsMoved}
+use Rattle.engine.specs.Push.{Moved}
+use Rattle.engine.specs.Phase.{Found, State}
 use Rattle.solver.specs.Instance.{tails, heads, weights, constant, Filled, single}
 use Rattle.solver.specs.Certify.{recordArcs, Accepted, packedFor, costs, capacities, standingFor, standing, mark, distance, numberOf, Written, Solution}
-use Rattle.solver.proofs.Columns.{near-enough, sight}
-use Rattle.solver.proofs.Phases.{linked}
+use Rattle.solver.proofs.ColumnsAndLoads.{near-enough, sight}
+use Rattle.engine.proofs.PhaseLaws.{linked}
 use Rattle.solver.proofs.PathInstance.{path-state}
 use Rattle.solver.proofs.Solutions.{fits, same-tails, same-heads, same-costs, same-capacities, constant-map, path-solution, no-path-solution}
 

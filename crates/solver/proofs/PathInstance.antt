@@ -19,12 +19,12 @@ use Rattle.network.specs.Certificate.{marked, pathBalance, PathCertificate, NoP
 use Rattle.network.proofs.Sums.{Inside, Compared, compared, delta-same}
 use Rattle.network.proofs.Paths.{walk-above, no-walk}
 use Rattle.network.proofs.Sound.{balance-parts}
-use Rattle.solver.specs.Net.{entry, unreached, net, over, ParentArc}
-use Rattle.solver.specs.Flow.{Moved}
-use Rattle.solver.specs.Phase.{Found, State}
+use Rattle.engine.specs.Residual.{entry, unreached, net, over, ParentArc}
+use Rattle.engine.specs.Push.{Moved}
+use Rattle.engine.specs.Phase.{Found, State}
 use Rattle.solver.specs.Instance.{Fits, tails, heads, weights, constant, loadsOf, Filled, single, distanceOf, potentialOf, markOf, toward}
-use Rattle.solver.proofs.Phases.{opened}
-use Rattle.solver.proofs.Columns.{zeros-at, constant-at, when-delta, weights-low, index-every, since-none, index, loads-arcs, arcAt, every-arc, every-load, column-len, paid-cost, fallen, Carried, carried-by, as-much, Seen, seen, unseen, sight, marks-fit, no-cross, few-arcs, near-enough, leads-on, from-left, start-state}
+use Rattle.engine.proofs.PhaseLaws.{opened}
+use Rattle.solver.proofs.ColumnsAndLoads.{zeros-at, constant-at, when-delta, weights-low, index-every, since-none, index, loads-arcs, arcAt, every-arc, every-load, column-len, paid-cost, fallen, Carried, carried-by, as-much, Seen, seen, unseen, sight, marks-fit, no-cross, few-arcs, near-enough, leads-on, from-left, start-state}
 
 -- the state in which the engine searches
 pub path-state : (n s : ℕ) (es : List Arc) (pi left : List ℕ) → Fits n es → Filled n (λ v. 0) pi → Filled n (single s 1) left

@@ -14,7 +14,7 @@ use Rattle.network.proofs.Promises.{one-answer, certificates-sound}
 use Rattle.solver.specs.Instance.{loadsOf}
 use Rattle.solver.specs.Certify.{recordArcs, Accepted, Solution, Outcome}
 use Rattle.solver.specs.Promises.{Decided, Decides}
-use Rattle.solver.proofs.Columns.{loads-arcs}
+use Rattle.solver.proofs.ColumnsAndLoads.{loads-arcs}
 use Rattle.solver.proofs.Solutions.{accepted}
 
 decided : (st : Setting) (net : List Arc) (ys : List ℤ) (xs : List ℕ) (reply : ℕ) → Accepted st net → Solution st net ys xs reply → Decided st net reply

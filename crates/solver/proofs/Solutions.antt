@@ -22,17 +22,17 @@ use Rattle.network.specs.Certificate.{CertifiedFor, FlowCertificate}
 use Rattle.network.specs.Tests.{openingChecks, arcChecks, Claim, ofValue, ofNone, claimNumber, claimFor}
 use Rattle.network.proofs.Allowed.{size-rule, ends-rule, joins-rule, weight-rule}
 use Rattle.network.proofs.Sums.{Inside}
-use Rattle.solver.specs.Net.{entry, unreached, net}
-use Rattle.solver.specs.Arcs.{tailsOf, headsOf, costsOf, capacitiesOf}
-use Rattle.solver.specs.Flow.{Moved}
-use Rattle.solver.specs.Phase.{Found, Solved}
+use Rattle.engine.specs.Residual.{entry, unreached, net}
+use Rattle.engine.specs.PackedArcs.{tailsOf, headsOf, costsOf, capacitiesOf}
+use Rattle.engine.specs.Push.{Moved}
+use Rattle.engine.specs.Phase.{Found, Solved}
 use Rattle.solver.specs.Instance.{Fits, tails, heads, weights, constant, loadsOf, Filled, single, markOf, toward}
 use Rattle.solver.specs.Certify.{recordArc, recordArcs, recordOk, admissible, Accepted, costFor, capacityFor, packedFor, costs, capacities, standingFor, standing, RunFor, Run, Kind, mark, distance, potential, numberOf, Written, Wanting, toldBy, Told, LengthsFor, Solution}
-use Rattle.solver.proofs.Columns.{loads-arcs, Seen, Unseen, sight}
+use Rattle.solver.proofs.ColumnsAndLoads.{loads-arcs, Seen, Unseen, sight}
 use Rattle.solver.proofs.PathInstance.{path-certificate, no-path-certificate, least-lengths, no-walks, moved-one}
 use Rattle.solver.proofs.FlowInstance.{flow-certificate, total-most}
 use Rattle.solver.proofs.AssignmentInstance.{assignment-certificate, no-assignment-certificate}
-use Rattle.solver.proofs.Agreement.{flow-too, no-path-too, no-assignment-too}
+use Rattle.solver.proofs.AgreeingMarks.{flow-too, no-path-too, no-assignment-too}
 
 -- ---- what is accepted
 

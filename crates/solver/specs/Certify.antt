@@ -14,8 +14,8 @@ use Rattle.network.specs.Network.{Arc, arcOf}
 use Rattle.network.specs.Question.{Question, shortestPath, maximumFlow, assignment, Setting, Opened, Allowed, Answer, value, none, TrueAnswer}
 use Rattle.network.specs.Certificate.{Certified}
 use Rattle.network.specs.Tests.{Claim, ofValue, ofNone, claimNumber, claimFor, openingChecks, arcChecks}
-use Rattle.solver.specs.Net.{entry, unreached}
-use Rattle.solver.specs.Phase.{Solved}
+use Rattle.engine.specs.Residual.{entry, unreached}
+use Rattle.engine.specs.Phase.{Solved}
 use Rattle.solver.specs.Instance.{loadsOf, toward, single, atPumps, atSites, Filled, tails, heads, constant}
 
 -- ---- what is handed over

@@ -11,7 +11,7 @@ use Rattle.prelude.specs.Choice.{pick, indicator}
 use Rattle.prelude.specs.Lists.{Every}
 use Rattle.network.specs.Network.{Arc, Load, delta}
 use Rattle.network.specs.Question.{Setting, pumps, WeightWithin}
-use Rattle.solver.specs.Net.{entry, unreached}
+use Rattle.engine.specs.Residual.{entry, unreached}
 
 -- What reading lets through: a network within the limits, whose arcs join vertices below n.
 pub record Fits (n : ℕ) (es : List Arc) : Type 0 where

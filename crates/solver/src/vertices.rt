@@ -7,7 +7,7 @@ ghost use lib.ListN.{length};
 ghost use Rattle.prelude.specs.Choice.{pick, indicator};
 ghost use Rattle.checks.specs.Setting.{asked};
 ghost use Rattle.solver.specs.Certify.{endFor, standing, kindOf, numberOf, Written, Wanting};
-ghost use Rattle.solver.specs.Net.{entry};
+ghost use Rattle.engine.specs.Residual.{entry};
 ghost use Rattle.solver.specs.Instance.{Filled, single as singleAt};
 use super::engine::UNREACHED;
 use checks::Setting;

@@ -9,13 +9,13 @@ use lib.ListN.{length, take, drop}
 use denote.Ref.{now}
 use Rattle.network.specs.Question.{Setting}
 use Rattle.checks.specs.Setting.{asked}
-use Rattle.solver.specs.Net.{entry}
-use Rattle.solver.specs.Phase.{Found}
-use Rattle.solver.specs.Arcs.{network}
+use Rattle.engine.specs.Residual.{entry}
+use Rattle.engine.specs.Phase.{Found}
+use Rattle.engine.specs.PackedArcs.{network}
 use Rattle.solver.specs.Instance.{Filled}
 use Rattle.solver.specs.Certify.{standing}
-use Rattle.solver.proofs.Parts.{zeros, zeros-length, zeros-filled, lent-again, back-within, back-length}
-use Rattle.solver.proofs.Asking.{few-records, packed-length, mark-low}
+use Rattle.engine.proofs.LentParts.{zeros, zeros-length, zeros-filled, lent-again, back-within, back-length}
+use Rattle.solver.proofs.EngineInputs.{few-records, packed-length, mark-low}
 use Rattle.solver.proofs.PathAnswer.{Given, state, key-length, sink-below, push-linked, distance-low, path-answer, no-path-answer}
 use Rattle.solver.proofs.answers.answer_path.Statement.{statement}
 use Rattle.solver.proofs.answers.answer_path.Tie as tie

@@ -8,7 +8,7 @@ use Rattle.checks.specs.Setting.{asked}
 use Rattle.checks.proofs.Laws.{is-path, is-flow, is-assignment}
 use Rattle.solver.specs.Certify.{recordArcs, Solution}
 use Rattle.solver.proofs.Solutions.{flow-solution, assignment-solution, no-assignment-solution}
-use Rattle.solver.proofs.Asking.{marks-writable, potentials-writable, cleared}
+use Rattle.solver.proofs.EngineInputs.{marks-writable, potentials-writable, cleared}
 use Rattle.solver.proofs.answers.answer_run.Statement.{statement}
 use Rattle.solver.proofs.answers.answer_run.Tie as tie
 

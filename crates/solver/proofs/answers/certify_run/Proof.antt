@@ -1,7 +1,7 @@
 -- `solver::answers::certify_run` meets its contract.
 -- Assumes nothing.
 use borrow.Author.Needs.{needs}
-use Rattle.solver.proofs.Entry.{none-yet, lent}
+use Rattle.solver.proofs.CertifyCases.{none-yet, lent}
 use Rattle.solver.proofs.answers.certify_run.Statement.{statement}
 use Rattle.solver.proofs.answers.certify_run.Tie as tie
 

@@ -7,8 +7,8 @@ use lib.ListN.{length, length-map}
 use lib.Seq.{length-take-le}
 use borrow.Author.Needs.{needs}
 use Rattle.checks.specs.Setting.{asked}
-use Rattle.solver.proofs.Asking.{few-records, solve-ok, run-ok}
-use Rattle.solver.proofs.Parts.{zeros, part-small, back-within, back-length}
+use Rattle.solver.proofs.EngineInputs.{few-records, solve-ok, run-ok}
+use Rattle.engine.proofs.LentParts.{zeros, part-small, back-within, back-length}
 use Rattle.solver.proofs.answers.run.Statement.{statement}
 use Rattle.solver.proofs.answers.run.Tie as tie
 

@@ -3,7 +3,7 @@
 use mathlib.Core.Path.{refl}
 use borrow.Author.Needs.{needs}
 use Rattle.solver.specs.Certify.{mark, distance, potential}
-use Rattle.solver.proofs.ByVertex.{mark-kind, distance-kind, potential-kind, numbered}
+use Rattle.solver.proofs.VertexLists.{mark-kind, distance-kind, potential-kind, numbered}
 use Rattle.solver.proofs.vertices.number_of.Statement.{statement}
 use Rattle.solver.proofs.vertices.number_of.Tie as tie
 

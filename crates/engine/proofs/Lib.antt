@@ -1,0 +1,9 @@
+pub mod FallingKeys
+pub mod ArcColumns
+pub mod PotentialBounds
+pub mod PushedAmounts
+pub mod PhaseLaws
+pub mod LentParts
+pub mod ListLoops
+pub mod LimitTests
+pub mod CallOutcomes

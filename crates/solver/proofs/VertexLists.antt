@@ -1,0 +1,54 @@
+-- Laws of the lists by vertex: what stands at a vertex, and a list that is read from the front.
+-- Assumes nothing.
+use mathlib.Core.Path.{_≡_, sym, ap, _∙_}
+use mathlib.Core.Bool.{Bool}
+use mathlib.Core.List.{List}
+use mathlib.Core.Logic.{_≢_}
+use Prim.Native.Nat.{ℕ, _+_, _<_, _≤_}
+use native.Mathlib.Omega.{arith}
+use native.Mathlib.Decide.{ℕ-discrete, decLt}
+use lib.ListN.{length, List·getD-eq-default}
+use borrow.Author.Tests.{eq-eqb, ne-eqb}
+use Rattle.network.specs.Question.{Question, Setting}
+use Rattle.solver.specs.Certify.{Kind, mark, distance, potential, kindOf, numberOf, standingFor}
+use Rattle.engine.specs.Residual.{entry}
+
+-- ---- what stands, by the question, and kinds by their numbers
+
+pub stands : (q k : Question) (st : Setting) (wanted : Bool) (v r : ℕ) → k ≡ q → r ≡ standingFor q st wanted v → r ≡ standingFor k st wanted v
+stands q k st wanted v r e h = h ∙ ap (λ (z : Question). standingFor z st wanted v) (sym e)
+
+pub mark-kind : (k : ℕ) → k ≡ 0 → kindOf k ≡ mark
+mark-kind k h = rw (eq-eqb k 0 h)
+
+pub distance-kind : (k : ℕ) → k ≢ 0 → k ≡ 1 → kindOf k ≡ distance
+distance-kind k g h = rw (ne-eqb k 0 g, eq-eqb k 1 h)
+
+pub potential-kind : (k : ℕ) → k ≢ 0 → k ≢ 1 → kindOf k ≡ potential
+potential-kind k g h = rw (ne-eqb k 0 g, ne-eqb k 1 h)
+
+pub numbered : (q k : Kind) (x r : ℕ) → k ≡ q → r ≡ numberOf q x → r ≡ numberOf k x
+numbered q k x r e h = h ∙ ap (λ (z : Kind). numberOf z x) (sym e)
+
+-- ---- nothing wanted below v
+
+pub record Clear (need : List ℕ) (v : ℕ) : Type 0 where
+  pub within : v ≤ length need
+  pub below : (j : ℕ) → j < v → entry need j ≡ 0
+
+pub clear-none : (need : List ℕ) → Clear need 0
+clear-none need = record { within = omega arith; below = λ j h. absurd (omega arith) }
+
+pub clear-turn : (need : List ℕ) (v : ℕ) → v < length need → entry need v ≤ 0 → Clear need v → Clear need (v + 1)
+clear-turn need v hv h C = record { within = omega arith; below = λ j hj. go j hj (ℕ-discrete j v) }
+  where
+    go : (j : ℕ) → j < v + 1 → Dec (j ≡ v) → entry need j ≡ 0
+    go j hj (yes e) = ap (entry need) e ∙ omega arith
+    go j hj (no n) = C .below j (omega arith)
+
+pub clear-done : (need : List ℕ) (v : ℕ) → length need ≤ v → Clear need v → (j : ℕ) → entry need j ≡ 0
+clear-done need v h C j = go (decLt j v)
+  where
+    go : Dec (j < v) → entry need j ≡ 0
+    go (yes g) = C .below j g
+    go (no g) = List·getD-eq-default need 0 (omega arith)
