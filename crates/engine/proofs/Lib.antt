@@ -3,6 +3,7 @@ pub mod ArcColumns
 pub mod PotentialBounds
 pub mod PushedAmounts
 pub mod PhaseLaws
+pub mod LastSearch
 pub mod LentParts
 pub mod ListLoops
 pub mod LimitTests

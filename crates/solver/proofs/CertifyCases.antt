@@ -1,4 +1,4 @@
--- What the entry of the solver hands on: zeros lent in part, amounts that were cleared, and the question by its number.
+-- The cases of a call of `certify`: arrays lent in part, the question by its number, and the outcome from the test's result.
 -- Assumes nothing.
 use mathlib.Core.Path.{_≡_, refl, sym, ap, _∙_}
 use mathlib.Core.Bool.{Bool, true, false, not}
@@ -8,23 +8,26 @@ use Prim.Native.Nat.{ℕ}
 use native.Mathlib.Omega.{arith}
 use native.Mathlib.Decide.{ℕ-discrete}
 use lib.IntN.{ℤ}
-use lib.ListN.{length, replicate, take, length-map}
+use lib.ListN.{length, take}
 use Rattle.checks.proofs.Laws.{is-flow, is-assignment, passed, refused as failed}
 use Rattle.network.specs.Network.{Arc}
 use Rattle.network.specs.Question.{shortestPath, Setting, questionNumber}
 use Rattle.network.specs.Tests.{questionOf}
-use Rattle.solver.specs.Certify.{recordArc, recordArcs, admissible, Accepted, Solution, Outcome, refused, solved}
-use Rattle.solver.specs.Instance.{Filled, constant}
+use Rattle.engine.specs.Residual.{zeroList}
+use Rattle.engine.proofs.LentParts.{zero-list-length}
+use Rattle.solver.specs.Certify.{recordArcs, admissible, AcceptedNetwork, Solution, CertifyOutcome, refused, solved}
 use Rattle.solver.proofs.Solutions.{accepted}
-use Rattle.engine.proofs.LentParts.{zeros, zeros-filled}
 
 -- of 255 zeros one is lent for each vertex
-module _ {st : Setting} {es : List Arc} (a : Accepted st es) (i : ℕ) (e : i ≡ st .n) where
-  pub none-yet : Filled (st .n) (λ v. 0) (take i (zeros 255))
-  none-yet = zeros-filled i (st .n) 255 e (a .opened .sized .at-most)
+module _ {st : Setting} {es : List Arc} (a : AcceptedNetwork st es) (i : ℕ) (e : i ≡ st .n) where
+  lent-length : length (take i (zeroList 255)) ≡ i
+  lent-length = zero-list-length i 255 (omega (arith, a .opened .sized .at-most))
 
-  pub lent : i ≡ length (take i (zeros 255))
-  lent = e ∙ sym (none-yet .len)
+  pub lent : i ≡ length (take i (zeroList 255))
+  lent = sym lent-length
+
+  pub one-each : length (take i (zeroList 255)) ≡ st .n
+  one-each = lent-length ∙ e
 
 -- ---- a question that is not a path
 
@@ -38,19 +41,15 @@ not-path k g e = go (ℕ-discrete k 2)
 -- ---- after the test, whose result u the code negates
 
 module _ (q : ℕ) (st : Setting) (rs : List ℕ) where
-  -- i numbers and j amounts were handed over, and xs is the amounts once they are cleared
-  pub begun :
-      (i j : ℕ) (xs : List ℕ) (u : Bool) → not u ≡ false → u ≡ admissible q st rs i j → xs ≡ replicate j 0
-      → Accepted st (recordArcs rs) × (xs ≡ constant (recordArcs rs) 0) × (i ≡ st .n)
-  begun i j xs u h e cleared =
-      let a = accepted q st rs i j (passed (admissible q st rs i j) u h e) in
-      (a .0, cleared ∙ ap (λ (k : ℕ). replicate k 0) (a .2 ∙ sym (length-map rs recordArc)), a .1)
+  -- i numbers and j amounts were handed over
+  pub begun : (i j : ℕ) (u : Bool) → not u ≡ false → u ≡ admissible q st rs i j → AcceptedNetwork st (recordArcs rs) × (j ≡ length rs) × (i ≡ st .n)
+  begun i j u h e = let a = accepted q st rs i j (passed (admissible q st rs i j) u h e) in (a .0, a .2, a .1)
 
   -- ys and xs were handed over, ys' and xs' are handed back
   pub ended :
       (ys : List ℤ) (xs : List ℕ) (ys' : List ℤ) (xs' : List ℕ) (reply : ℕ) (u : Bool) → not u ≡ false → u ≡ admissible q st rs (length ys) (length xs)
-      → length ys' ≡ length ys → length xs' ≡ length xs → Solution st (recordArcs rs) ys' xs' reply → Outcome q st rs ys xs ys' xs' reply
+      → length ys' ≡ length ys → length xs' ≡ length xs → Solution st (recordArcs rs) ys' xs' reply → CertifyOutcome q st rs ys xs ys' xs' reply
   ended ys xs ys' xs' reply u h e = solved (passed (admissible q st rs (length ys) (length xs)) u h e)
 
-  pub turned-away : (ys : List ℤ) (xs : List ℕ) (u : Bool) → not u ≡ true → u ≡ admissible q st rs (length ys) (length xs) → Outcome q st rs ys xs ys xs 0
+  pub turned-away : (ys : List ℤ) (xs : List ℕ) (u : Bool) → not u ≡ true → u ≡ admissible q st rs (length ys) (length xs) → CertifyOutcome q st rs ys xs ys xs 0
   turned-away ys xs u h e = refused (failed (admissible q st rs (length ys) (length xs)) u h e) refl refl refl

@@ -1,4 +1,4 @@
--- The engine's columns and the network's loads: the same sums, facts carried over, and what a state and its last search say of every arc.
+-- The engine's columns and the network's loads: the same sums, facts carried over, sums over loads, and marks.
 -- Assumes nothing.
 use mathlib.Core.Path.{_≡_, refl, sym, _∙_, ap, ap₂}
 use mathlib.Core.Bool.{Bool, true, false, not, _&&_}
@@ -22,25 +22,12 @@ use Rattle.network.specs.Network.{Arc, arcOf, Load, arcs, delta, sumOf, leaving
 use Rattle.network.specs.Question.{Setting, Opened, WeightWithin, Allowed}
 use Rattle.network.specs.Certificate.{InRange, Marks, marked, WithinCapacity}
 use Rattle.network.proofs.Sums.{delta-same, delta-other, Compared, compared, sumTo-at, sumOf-add, Inside, across}
-use Rattle.engine.specs.Residual.{entry, unreached, Net, net}
+use Rattle.engine.specs.Residual.{entry, unreached}
 use Rattle.engine.specs.Push.{flowAt}
-use Rattle.engine.specs.Phase.{Found, State}
-use Rattle.solver.specs.Instance.{Fits, tails, heads, weights, constant, loadsOf, Filled, single, Falls, reached, distanceOf, markOf}
-use Rattle.engine.proofs.PotentialBounds.{few-hops, in-range, closed-forward, closed-backward}
-use Rattle.engine.proofs.PhaseLaws.{sized-key, small-key, roots-zero}
+use Rattle.solver.specs.Instance.{Fits, tails, heads, weights, constant, loadsOf, VertexList, single, Falls, reached, distanceOf, markOf}
+use Rattle.engine.proofs.LentParts.{zero-at}
 
 -- ---- the same sums
-
--- an entry above 0 is in the list
-pub in-list : (l : List ℕ) (v : ℕ) → 0 < entry l v → v < length l
-in-list [] v h = absurd (omega arith)
-in-list (a ∷ l) zero h = omega arith
-in-list (a ∷ l) (suc v) h = omega (arith, in-list l v h)
-
-pub zeros-at : (n e : ℕ) → entry (replicate n 0) e ≡ 0
-zeros-at zero e = refl
-zeros-at (suc n) zero = refl
-zeros-at (suc n) (suc e) = zeros-at n e
 
 pub constant-at : (es : List Arc) (k e : ℕ) → e < length es → entry (constant es k) e ≡ k
 constant-at es k e h = getD-replicate (length es) e k 0 h
@@ -76,8 +63,8 @@ since-none es x w a b h =
       arith,
       flow-sum (λ e. e .tail) es x w,
       flow-sum (λ e. e .head) es x w,
-      flow-none (tails es) (constant es 0) w (zeros-at (length es)),
-      flow-none (heads es) (constant es 0) w (zeros-at (length es)),
+      flow-none (tails es) (constant es 0) w (zero-at (length es)),
+      flow-none (heads es) (constant es 0) w (zero-at (length es)),
     )
 
 -- ---- facts by index, and facts of every arc and load
@@ -89,20 +76,20 @@ loads-arcs (e ∷ es) [] = ap (λ (r : List Arc). e ∷ r) (loads-arcs es [])
 loads-arcs (e ∷ es) (y ∷ x) = ap (λ (r : List Arc). e ∷ r) (loads-arcs es x)
 
 -- the arc of the index e, read from the columns
-abbrev pub arcAt : List Arc → ℕ → Arc
-arcAt es e = arcOf (entry (tails es) e) (entry (heads es) e) (entry (weights es) e)
+abbrev pub columnArc : List Arc → ℕ → Arc
+columnArc es e = arcOf (entry (tails es) e) (entry (heads es) e) (entry (weights es) e)
 
-pub every-arc : (P : Arc → Type 0) (es : List Arc) → Every P es → (e : ℕ) → e < length es → P (arcAt es e)
+pub every-arc : (P : Arc → Type 0) (es : List Arc) → Every P es → (e : ℕ) → e < length es → P (columnArc es e)
 every-arc P [] h e l = absurd (omega arith)
 every-arc P (a ∷ es) h zero l = h .0
 every-arc P (a ∷ es) h (suc e) l = every-arc P es (h .1) e (omega arith)
 
-pub index-every : (P : Arc → Type 0) (es : List Arc) → ((e : ℕ) → e < length es → P (arcAt es e)) → Every P es
+pub index-every : (P : Arc → Type 0) (es : List Arc) → ((e : ℕ) → e < length es → P (columnArc es e)) → Every P es
 index-every P [] h = tt
 index-every P (a ∷ es) h = (h 0 (omega arith), index-every P es (λ e l. h (suc e) (omega arith)))
 
 pub every-load : (P : Load → Type 0) (es : List Arc) (x : List ℕ)
-    → ((e : ℕ) → e < length es → P (record { arc = arcAt es e; amount = entry x e })) → Every P (loadsOf es x)
+    → ((e : ℕ) → e < length es → P (record { arc = columnArc es e; amount = entry x e })) → Every P (loadsOf es x)
 unfolding loadsOf
 every-load P [] x h = tt
 every-load P (a ∷ es) [] h = (h 0 (omega arith), every-load P es [] (λ e l. h (suc e) (omega arith)))
@@ -159,7 +146,7 @@ weighed g n f a b inside h = across g n f (λ v. g v * a v) (λ v. g v * b v) in
 -- ---- one supply and one demand
 
 -- what is left of a supply at one vertex is there
-pub fallen : (n a k : ℕ) (l l' : List ℕ) → Filled n (single k a) l → Falls l l' → (v : ℕ) → v < n → entry l' v ≡ entry l' k * delta k v
+pub fallen : (n a k : ℕ) (l l' : List ℕ) → VertexList n (single k a) l → Falls l l' → (v : ℕ) → v < n → entry l' v ≡ entry l' k * delta k v
 fallen n a k l l' F less v h = go (compared k v)
   where
     go : Compared k v → entry l' v ≡ entry l' k * delta k v
@@ -252,77 +239,3 @@ no-cross key e h = go (sight key (e .tail))
     go : Seen key (e .tail) ⊎ Unseen key (e .tail) → crosses (marked (markOf key)) e ≡ false
     go (inl r) = ap₂ (λ (a b : Bool). a && not b) (r .inside) (seen key (e .head) (h (r .below)) .inside)
     go (inr r) = ap (λ (a : Bool). a && not (marked (markOf key) (e .head))) (r .inside)
-
--- ---- what a state and its last search say of every arc
-
-module _ {from to cost cap x pi left need key par : List ℕ} (S : State from to cost cap x pi left need)
-    (F : Found (net from to cost cap x pi) left key par) where
-  abbrev N : Net
-  N = net from to cost cap x pi
-
-  -- a reached vertex has fewer than 255 arcs on its way, and its distance is in range
-  pub few-arcs : (v : ℕ) → v < length key → entry key v < unreached → entry key v % 256 ≤ 254
-  few-arcs = few-hops N key par (sized-key S F) (S .feasible) (F .tree) (F .done) (small-key S F) (roots-zero S F)
-
-  pub near-enough : (v : ℕ) → v < length key → entry key v < unreached → entry pi v + entry key v / 256 ≤ 8322818
-  near-enough = in-range N key par (sized-key S F) (S .feasible) (F .tree) (F .done) (small-key S F) (roots-zero S F)
-
-  -- an arc with room leads on from a reached vertex, one with an amount back
-  pub leads-on : (e : ℕ) → e < length from → entry x e < entry cap e → entry key (entry from e) < unreached → entry key (entry to e) < unreached
-  leads-on = closed-forward N key par (sized-key S F) (S .feasible) (F .tree) (F .done) (small-key S F) (roots-zero S F)
-
-  pub leads-back : (e : ℕ) → e < length from → 0 < entry x e → entry key (entry to e) < unreached → entry key (entry from e) < unreached
-  leads-back = closed-backward N key par (sized-key S F) (S .feasible) (F .tree) (F .done) (small-key S F) (roots-zero S F)
-
-  -- what is left somewhere was searched from
-  pub from-left : (v : ℕ) → 0 < entry left v → entry key v ≡ 0
-  from-left v h = F .sources v (omega (arith, F .key-len, in-list left v h)) h
-
--- ---- before the first phase
-
--- what is read is within the limits
-pub fits : (st : Setting) (es : List Arc) → Opened st → Every (Allowed st) es → length es ≤ 4096 → Fits (st .n) es
-fits st es o h few = record {
-  small = o .sized .at-most;
-  few = few;
-  inside = every-map (λ e (a : Allowed st e). (a .joins .tail-below, a .joins .head-below)) es h;
-  light = every-map (λ e (a : Allowed st e). a .weight-within) es h;
-}
-
--- the state with no amounts and no potentials
-pub start-state : (n : ℕ) (es : List Arc) (costs caps pi left need : List ℕ)
-    → Fits n es → length costs ≡ length es → length caps ≡ length es → ((e : ℕ) → entry costs e ≤ 32767)
-    → Filled n (λ v. 0) pi → length left ≡ n → length need ≡ n → State (tails es) (heads es) costs caps (constant es 0) pi left need
-start-state n es costs caps pi left need lim cl kl low P ll nl = record {
-  sized = record {
-    few = omega (arith, len, lim .few);
-    to-len = column-len (λ e. e .head) es ∙ sym len;
-    cost-len = cl ∙ sym len;
-    cap-len = kl ∙ sym len;
-    x-len = length-replicate (length es) 0 ∙ sym len;
-    pi-len = P .len ∙ sym ll;
-    tails = λ e h. omega (arith, every-arc (Inside n) es (lim .inside) e (omega (arith, len)) .0);
-    heads = λ e h. omega (arith, every-arc (Inside n) es (lim .inside) e (omega (arith, len)) .1);
-    costs = low;
-    pis = λ v. omega (arith, none v);
-  };
-  feasible = record {
-    forward = λ e h r. omega (arith, none (entry (heads es) e));
-    backward = λ e h r. absurd (omega (arith, zeros-at (length es) e));
-  };
-  within = λ e h. omega (arith, zeros-at (length es) e);
-  need-len = nl ∙ sym ll;
-  small = omega (arith, lim .small);
-  zero = λ v h r. none v;
-  top = λ t v ht hv r. omega (arith, none v);
-}
-  where
-    len : length (tails es) ≡ length es
-    len = column-len (λ e. e .tail) es
-
-    none : (v : ℕ) → entry pi v ≡ 0
-    none v = go (decLt v n)
-      where
-        go : Dec (v < n) → entry pi v ≡ 0
-        go (yes h) = P .entries v h
-        go (no h) = List·getD-eq-default pi 0 (omega (arith, P .len))

@@ -10,25 +10,13 @@ use native.Mathlib.Decide.{ℕ-discrete, decLt}
 use lib.ListN.{length, List·getD-eq-default}
 use borrow.Author.Tests.{eq-eqb, ne-eqb}
 use Rattle.network.specs.Question.{Question, Setting}
-use Rattle.solver.specs.Certify.{Kind, mark, distance, potential, kindOf, numberOf, standingFor}
+use Rattle.solver.specs.Certify.{standingFor}
 use Rattle.engine.specs.Residual.{entry}
 
--- ---- what stands, by the question, and kinds by their numbers
+-- ---- what stands, by the question
 
 pub stands : (q k : Question) (st : Setting) (wanted : Bool) (v r : ℕ) → k ≡ q → r ≡ standingFor q st wanted v → r ≡ standingFor k st wanted v
 stands q k st wanted v r e h = h ∙ ap (λ (z : Question). standingFor z st wanted v) (sym e)
-
-pub mark-kind : (k : ℕ) → k ≡ 0 → kindOf k ≡ mark
-mark-kind k h = rw (eq-eqb k 0 h)
-
-pub distance-kind : (k : ℕ) → k ≢ 0 → k ≡ 1 → kindOf k ≡ distance
-distance-kind k g h = rw (ne-eqb k 0 g, eq-eqb k 1 h)
-
-pub potential-kind : (k : ℕ) → k ≢ 0 → k ≢ 1 → kindOf k ≡ potential
-potential-kind k g h = rw (ne-eqb k 0 g, ne-eqb k 1 h)
-
-pub numbered : (q k : Kind) (x r : ℕ) → k ≡ q → r ≡ numberOf q x → r ≡ numberOf k x
-numbered q k x r e h = h ∙ ap (λ (z : Kind). numberOf z x) (sym e)
 
 -- ---- nothing wanted below v
 

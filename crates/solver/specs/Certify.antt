@@ -16,7 +16,11 @@ use Rattle.network.specs.Certificate.{Certified}
 use Rattle.network.specs.Tests.{Claim, ofValue, ofNone, claimNumber, claimFor, openingChecks, arcChecks}
 use Rattle.engine.specs.Residual.{entry, unreached}
 use Rattle.engine.specs.Phase.{Solved}
-use Rattle.solver.specs.Instance.{loadsOf, toward, single, atPumps, atSites, Filled, tails, heads, constant}
+use Rattle.solver.specs.declared.Finding.{Finding}
+use Rattle.solver.specs.declared.Finding.the-variants.{Value, None, Refused}
+use Rattle.solver.specs.declared.vertices.NumberKind.{NumberKind}
+use Rattle.solver.specs.declared.vertices.NumberKind.the-variants.{Mark, Distance, Potential}
+use Rattle.solver.specs.Instance.{loadsOf, toward, single, atPumps, atSites, VertexList, tails, heads, constant}
 
 -- ---- what is handed over
 
@@ -37,7 +41,7 @@ admissible q st rs numbers amounts =
     eqb (firstBroken (openingChecks q st)) 0 && leb (length rs) 4096 && eqb numbers (st .n) && eqb amounts (length rs) && all (recordOk st) rs
 
 -- What is known of records that are answered.
-pub record Accepted (st : Setting) (net : List Arc) : Type 0 where
+pub record AcceptedNetwork (st : Setting) (net : List Arc) : Type 0 where
   pub opened : Opened st
   pub allowed : Every (Allowed st) net
   pub few : length net ≤ 4096
@@ -81,35 +85,27 @@ abbrev pub capacities : Question → List Arc → List ℕ
 capacities q net = map (λ e. capacityFor q (e .weight)) net
 
 -- The engine was asked the question q: what it gave back, from supplies, demands and potentials of 0.
-pub record RunFor (q : Question) (st : Setting) (net : List Arc) (x' pi' need' key' : List ℕ) : Type 0 where
+pub record EngineRunFor (q : Question) (st : Setting) (net : List Arc) (x' pi' need' key' : List ℕ) : Type 0 where
   pub pi : List ℕ
   pub left : List ℕ
   pub need : List ℕ
   pub left' : List ℕ
   pub par' : List ℕ
-  pub supply : Filled (st .n) (standingFor q st false) left
-  pub demand : Filled (st .n) (standingFor q st true) need
+  pub supply : VertexList (st .n) (standingFor q st false) left
+  pub demand : VertexList (st .n) (standingFor q st true) need
   pub solved : Solved (tails net) (heads net) (costs q net) (capacities q net) (constant net 0) pi left need x' pi' left' need' key' par'
 
-abbrev pub Run : (st : Setting) (net : List Arc) (x' pi' need' key' : List ℕ) → Type 0
-Run st net x' pi' need' key' = RunFor (st .question) st net x' pi' need' key'
+abbrev pub EngineRun : (st : Setting) (net : List Arc) (x' pi' need' key' : List ℕ) → Type 0
+EngineRun st net x' pi' need' key' = EngineRunFor (st .question) st net x' pi' need' key'
 
--- The number written for a vertex: a mark, a distance or a potential, read from k.
-pub data Kind : Type 0 where
-  mark : Kind
-  distance : Kind
-  potential : Kind
-
-abbrev pub kindOf : ℕ → Kind
-kindOf k = pick (eqb k 0) mark (pick (eqb k 1) distance potential)
-
-abbrev pub numberOf : Kind → ℕ → ℕ
-numberOf mark k = indicator (ltb k unreached)
-numberOf distance k = pick (ltb k unreached) (k / 256) 8322818
-numberOf potential k = k
+-- The node number written for a vertex, read from k: a mark or a distance from its key, or a potential as it stands.
+abbrev pub numberOf : NumberKind → ℕ → ℕ
+numberOf Mark k = indicator (ltb k unreached)
+numberOf Distance k = pick (ltb k unreached) (k / 256) 8322818
+numberOf Potential k = k
 
 -- The numbers written for the entries of a list.
-pub record Written (kind : Kind) (from : List ℕ) (ys : List ℤ) : Type 0 where
+pub record NodeNumbers (kind : NumberKind) (from : List ℕ) (ys : List ℤ) : Type 0 where
   pub len : length ys ≡ length from
   pub each : (v : ℕ) → v < length from → at ys v ≡ pos (numberOf kind (entry from v))
 
@@ -133,11 +129,17 @@ pub record Told (st : Setting) (net : List Arc) (c : Claim) (y : ℕ → ℤ) (v
   pub is-true : TrueAnswer (toward st v) net answer
   pub told : y v ≡ toldBy c answer
 
--- "Route: node numbers are the least lengths … marks for none are 1 exactly where a walk from s leads."
+-- For a path every node number tells its vertex's own answer; the other questions ask no more than a certificate.
 abbrev pub LengthsFor : Question → Setting → List Arc → Claim → (ℕ → ℤ) → Type 0
 LengthsFor shortestPath st net c y = (v : ℕ) → v < st .n → Told st net c y v
 LengthsFor maximumFlow st net c y = Unit {0}
 LengthsFor assignment st net c y = Unit {0}
+
+-- The number of the claim that was found; 0 for a refusal.
+abbrev pub findingNumber : Finding → ℕ
+findingNumber Value = 1
+findingNumber None = 2
+findingNumber Refused = 0
 
 -- The annotation ys, xs is a certificate of the answer, and the reply its claim.
 pub record Solution (st : Setting) (net : List Arc) (ys : List ℤ) (xs : List ℕ) (reply : ℕ) : Type 0 where
@@ -147,8 +149,8 @@ pub record Solution (st : Setting) (net : List Arc) (ys : List ℤ) (xs : List �
   pub reply-is : reply ≡ claimNumber (claimFor answer)
 
 -- The outcome: refused, with nothing changed; or a certificate.
-pub data Outcome (q : ℕ) (st : Setting) (rs : List ℕ) (ys : List ℤ) (xs : List ℕ) (ys' : List ℤ) (xs' : List ℕ) (reply : ℕ) : Type 0 where
-  refused : admissible q st rs (length ys) (length xs) ≡ false → ys' ≡ ys → xs' ≡ xs → reply ≡ 0 → Outcome q st rs ys xs ys' xs' reply
+pub data CertifyOutcome (q : ℕ) (st : Setting) (rs : List ℕ) (ys : List ℤ) (xs : List ℕ) (ys' : List ℤ) (xs' : List ℕ) (reply : ℕ) : Type 0 where
+  refused : admissible q st rs (length ys) (length xs) ≡ false → ys' ≡ ys → xs' ≡ xs → reply ≡ 0 → CertifyOutcome q st rs ys xs ys' xs' reply
   solved :
       admissible q st rs (length ys) (length xs) ≡ true → length ys' ≡ length ys → length xs' ≡ length xs
-      → Solution st (recordArcs rs) ys' xs' reply → Outcome q st rs ys xs ys' xs' reply
+      → Solution st (recordArcs rs) ys' xs' reply → CertifyOutcome q st rs ys xs ys' xs' reply

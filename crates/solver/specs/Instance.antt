@@ -45,7 +45,7 @@ loadsOf (e ∷ es) (x ∷ xs) = record { arc = e; amount = x } ∷ loadsOf es xs
 -- ---- by vertex
 
 -- The list has an entry for each of n vertices, f v for the vertex v.
-pub record Filled (n : ℕ) (f : ℕ → ℕ) (l : List ℕ) : Type 0 where
+pub record VertexList (n : ℕ) (f : ℕ → ℕ) (l : List ℕ) : Type 0 where
   pub len : length l ≡ n
   pub entries : (v : ℕ) → v < n → entry l v ≡ f v
 
