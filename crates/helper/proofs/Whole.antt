@@ -22,7 +22,8 @@ use Rattle.runs.specs.Exchange.{readRule, readRules}
 use Rattle.solver.specs.Certify.{recordArc, recordArcs, recordOk, admissible, Solution, CertifyOutcome}
 use Rattle.solver.specs.Instance.{loadsOf}
 use Rattle.solver.proofs.ColumnsAndLoads.{loads-arcs}
-use Rattle.engine.proofs.LentParts.{zeroList, zero-list-length, lent-again}
+use Rattle.engine.specs.Residual.{zeroList}
+use Rattle.engine.proofs.LentParts.{zero-list-length, lent-again}
 use Rattle.format.specs.Bytes.{byte32, readSigned, listTo}
 use Rattle.format.specs.Files.{questionIn, nIn, countIn, arcIn, arcsIn, annotationHeader, annotationFile, loadBytes, loadAt}
 use Rattle.format.specs.Promises.{Signed32, LoadFits}

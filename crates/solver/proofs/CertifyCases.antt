@@ -1,6 +1,6 @@
 -- The cases of a call of `certify`: arrays lent in part, the question by its number, and the outcome from the test's result.
 -- Assumes nothing.
-use mathlib.Core.Path.{_≡_, refl, sym, ap, _∙_}
+use mathlib.Core.Path.{_≡_, refl, sym, ap, subst, _∙_}
 use mathlib.Core.Bool.{Bool, true, false, not}
 use mathlib.Core.List.{List}
 use mathlib.Core.Logic.{_≢_}
@@ -53,3 +53,9 @@ module _ (q : ℕ) (st : Setting) (rs : List ℕ) where
 
   pub turned-away : (ys : List ℤ) (xs : List ℕ) (u : Bool) → not u ≡ true → u ≡ admissible q st rs (length ys) (length xs) → CertifyOutcome q st rs ys xs ys xs 0
   turned-away ys xs u h e = refused (failed (admissible q st rs (length ys) (length xs)) u h e) refl refl refl
+
+-- the outcome with the number r of what was found
+pub by-number :
+    {q : ℕ} {st : Setting} {rs : List ℕ} {ys ys' : List ℤ} {xs xs' : List ℕ} {r k : ℕ} → r ≡ k
+    → CertifyOutcome q st rs ys xs ys' xs' k → CertifyOutcome q st rs ys xs ys' xs' r
+by-number {q} {st} {rs} {ys} {ys'} {xs} {xs'} e o = subst (CertifyOutcome q st rs ys xs ys' xs') (sym e) o

@@ -16,5 +16,5 @@ pub extern "C" fn solver_certify(
     ensures { λ r. ⌜ CertifyOutcome question (settingOf question n s t) (now (records .entry)) (now (numbers .entry)) (now (amounts .entry)) (now (numbers .exit)) (now (amounts .exit)) r ⌝ }
 {
     let st = Setting { question, n, s, t };
-    solver::certify(st, records, numbers, amounts)
+    solver::claim_number(solver::certify(st, records, numbers, amounts))
 }
