@@ -3,16 +3,15 @@
 use mathlib.Core.Path.{_≡_, refl, sym, ap, _∙_, subst}
 use mathlib.Core.Bool.{Bool, true, false, not}
 use mathlib.Core.List.{List}
-use Prim.Native.Nat.{ℕ, _<_, _≤_}
-use native.Mathlib.Omega.{arith}
+use Prim.Native.Nat.{ℕ}
 use lib.ListN.{length, take, length-replicate}
 use Rattle.engine.specs.Residual.{zeroList}
 use Rattle.engine.specs.PackedArcs.{PackedPhaseState, PackedSolved}
 use Rattle.engine.specs.Calls.{solvable, sendable, SolveOutcome, SearchAndPush, SendOutcome}
 use Rattle.engine.specs.declared.Sent.{Sent}
 use Rattle.engine.specs.declared.Sent.the-variants.{Refused}
-use Rattle.engine.proofs.LentParts.{zero-list-length, zero-list-part}
-use Rattle.engine.proofs.LimitTests.{passed, failed, Fitting, Solvable, solvable-facts, Sendable, sendable-facts, start-state}
+use Rattle.engine.proofs.LentParts.{zero-list-part}
+use Rattle.engine.proofs.LimitTests.{passed, failed, Solvable, solvable-facts, Sendable, sendable-facts, start-state}
 
 -- lists that were cleared, as long as there are arcs and vertices
 cleared : {x₁ : List ℕ} {k m : ℕ} → x₁ ≡ zeroList k → k ≡ m → x₁ ≡ zeroList m

@@ -9,7 +9,7 @@ use native.Mathlib.Omega.{arith}
 use native.Mathlib.Decide.{ℕ-discrete}
 use lib.ListN.{length, set, length-set}
 use lib.Seq.{getD-set-same, getD-set-other}
-use Rattle.engine.specs.Residual.{entry, unreached, ResidualNetwork, tail, head, up, down, WithinLimits, keyBeyond, ParentArc, ParentTree, sum, LoweredKeys, LowerOutcome, Progress, RelaxedForward, RelaxedBackward, SearchReady, Relaxation}
+use Rattle.engine.specs.Residual.{entry, unreached, ResidualNetwork, tail, head, raisedCost, headPotential, WithinLimits, keyBeyond, ParentArc, ParentTree, sum, LoweredKeys, LowerOutcome, Progress, RelaxedForward, RelaxedBackward, SearchReady, Relaxation}
 use Rattle.engine.specs.Residual.LowerOutcome.{lowered, kept}
 use Rattle.engine.specs.Residual.Progress.{fell, stayed}
 
@@ -93,20 +93,20 @@ pub forward-step : (N : ResidualNetwork) (e : ℕ) (key par : List ℕ) {key' pa
     → entry (N .x) e < entry (N .cap) e → a ≡ tail N e → b ≡ head N e → w ≡ entry (N .cost) e
     → LowerOutcome a b (w + entry (N .pi) a - entry (N .pi) b) e key par key' par' r → Relaxation N (RelaxedForward N key e) key par key' par' r
 forward-step N e key par {key'} {par'} {r} a b w d he hx ea eb ew t = record {
-  keeps = tried-lower N (tail N e) (head N e) (up N e - down N e) e key par hb (d .par-len) parent t';
-  went = weaken (tried-went N (tail N e) (head N e) (up N e - down N e) e key par hb (d .par-len) parent t');
+  keeps = tried-lower N (tail N e) (head N e) (raisedCost N e - headPotential N e) e key par hb (d .par-len) parent t';
+  went = weaken (tried-went N (tail N e) (head N e) (raisedCost N e - headPotential N e) e key par hb (d .par-len) parent t');
 }
   where
     hb : head N e < length key
     hb = d .sized .heads e he
 
-    parent : (k : List ℕ) → entry k (tail N e) < unreached → keyBeyond (entry k (tail N e)) (up N e - down N e) ≤ entry k (head N e) → ParentArc N k e (head N e)
+    parent : (k : List ℕ) → entry k (tail N e) < unreached → keyBeyond (entry k (tail N e)) (raisedCost N e - headPotential N e) ≤ entry k (head N e) → ParentArc N k e (head N e)
     parent k u o = ParentArc.forward he hx refl u o
 
-    t' : LowerOutcome (tail N e) (head N e) (up N e - down N e) e key par key' par' r
+    t' : LowerOutcome (tail N e) (head N e) (raisedCost N e - headPotential N e) e key par key' par' r
     t' = rw (ea, eb, ew) at t
 
-    weaken : {k₁ p₁ : List ℕ} {q : Bool} → Progress (entry key (tail N e) < unreached → entry key (head N e) ≤ keyBeyond (entry key (tail N e)) (up N e - down N e)) key par k₁ p₁ q → Progress (RelaxedForward N key e) key par k₁ p₁ q
+    weaken : {k₁ p₁ : List ℕ} {q : Bool} → Progress (entry key (tail N e) < unreached → entry key (head N e) ≤ keyBeyond (entry key (tail N e)) (raisedCost N e - headPotential N e)) key par k₁ p₁ q → Progress (RelaxedForward N key e) key par k₁ p₁ q
     weaken (fell h) = fell h
     weaken (stayed ek ep h) = stayed ek ep (λ _. h)
 
@@ -114,20 +114,20 @@ pub backward-step : (N : ResidualNetwork) (e : ℕ) (key par : List ℕ) {key' p
     → 0 < entry (N .x) e → a ≡ tail N e → b ≡ head N e → w ≡ entry (N .cost) e
     → LowerOutcome b a (entry (N .pi) b - (w + entry (N .pi) a)) (4096 + e) key par key' par' r → Relaxation N (RelaxedBackward N key e) key par key' par' r
 backward-step N e key par {key'} {par'} {r} a b w d he hx ea eb ew t = record {
-  keeps = tried-lower N (head N e) (tail N e) (down N e - up N e) (4096 + e) key par ha (d .par-len) parent t';
-  went = weaken (tried-went N (head N e) (tail N e) (down N e - up N e) (4096 + e) key par ha (d .par-len) parent t');
+  keeps = tried-lower N (head N e) (tail N e) (headPotential N e - raisedCost N e) (4096 + e) key par ha (d .par-len) parent t';
+  went = weaken (tried-went N (head N e) (tail N e) (headPotential N e - raisedCost N e) (4096 + e) key par ha (d .par-len) parent t');
 }
   where
     ha : tail N e < length key
     ha = d .sized .tails e he
 
-    parent : (k : List ℕ) → entry k (head N e) < unreached → keyBeyond (entry k (head N e)) (down N e - up N e) ≤ entry k (tail N e) → ParentArc N k (4096 + e) (tail N e)
+    parent : (k : List ℕ) → entry k (head N e) < unreached → keyBeyond (entry k (head N e)) (headPotential N e - raisedCost N e) ≤ entry k (tail N e) → ParentArc N k (4096 + e) (tail N e)
     parent k u o = ParentArc.backward e refl he hx refl u o
 
-    t' : LowerOutcome (head N e) (tail N e) (down N e - up N e) (4096 + e) key par key' par' r
+    t' : LowerOutcome (head N e) (tail N e) (headPotential N e - raisedCost N e) (4096 + e) key par key' par' r
     t' = rw (ea, eb, ew) at t
 
-    weaken : {k₁ p₁ : List ℕ} {q : Bool} → Progress (entry key (head N e) < unreached → entry key (tail N e) ≤ keyBeyond (entry key (head N e)) (down N e - up N e)) key par k₁ p₁ q → Progress (RelaxedBackward N key e) key par k₁ p₁ q
+    weaken : {k₁ p₁ : List ℕ} {q : Bool} → Progress (entry key (head N e) < unreached → entry key (tail N e) ≤ keyBeyond (entry key (head N e)) (headPotential N e - raisedCost N e)) key par k₁ p₁ q → Progress (RelaxedBackward N key e) key par k₁ p₁ q
     weaken (fell h) = fell h
     weaken (stayed ek ep h) = stayed ek ep (λ _. h)
 

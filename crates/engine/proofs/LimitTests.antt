@@ -12,7 +12,7 @@ use borrow.Author.Tests.{not-true, not-false, lt-ltb, le-ltb, le-leb, lt-leb, eq
 use Rattle.prelude.specs.Lists.{all}
 use Rattle.prelude.proofs.Booleans.{and-left, and-right, true→T}
 use Rattle.engine.specs.Residual.{entry, zeroList}
-use Rattle.engine.specs.PackedArcs.{tailOf, headOf, costOf, capacityOf, tailsOf, headsOf, costsOf, capacitiesOf, PackedPhaseState}
+use Rattle.engine.specs.PackedArcs.{tailOf, headOf, costOf, capacityOf, tailsOf, headsOf, costsOf, PackedPhaseState}
 use Rattle.engine.specs.Calls.{arcFits, arcsFit, solvable, sendable}
 use Rattle.engine.proofs.ArcColumns.{columns, tail-at, head-at, cost-at}
 use Rattle.engine.proofs.LentParts.{zero-at}

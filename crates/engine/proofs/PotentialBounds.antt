@@ -12,7 +12,7 @@ use lib.Dec.{leb}
 use borrow.Author.Tests.{le-leb, lt-leb}
 use Rattle.prelude.specs.Choice.{indicator}
 use Rattle.prelude.specs.Sums.{sumTo, count}
-use Rattle.engine.specs.Residual.{entry, unreached, ResidualNetwork, residual, tail, head, up, down, WithinLimits, NonnegativeReducedCosts, keyBeyond, ParentArc, ParentTree, AllRelaxed, RaisedPotentials}
+use Rattle.engine.specs.Residual.{entry, unreached, ResidualNetwork, residual, tail, head, raisedCost, headPotential, WithinLimits, NonnegativeReducedCosts, keyBeyond, ParentArc, ParentTree, AllRelaxed, RaisedPotentials}
 use Rattle.engine.specs.Push.{ParentArcWithin}
 
 -- ---- how many vertices have a key of at most k
@@ -95,7 +95,7 @@ module _ (N : ResidualNetwork) (key par : List ℕ) (sized : WithinLimits N (len
         u = tail N code;
         u-ok = sized .tails code i;
         near = u;
-        len = up N code - down N code;
+        len = raisedCost N code - headPotential N code;
         exact = omega (arith, ap (entry key) t, relaxed code i .forward j u);
         rise = omega (arith, nonnegative .forward code i j, sized .costs code, ap (entry (N .pi)) t);
       }
@@ -103,7 +103,7 @@ module _ (N : ResidualNetwork) (key par : List ℕ) (sized : WithinLimits N (len
         u = head N e;
         u-ok = sized .heads e i;
         near = u;
-        len = down N e - up N e;
+        len = headPotential N e - raisedCost N e;
         exact = omega (arith, ap (entry key) t, relaxed e i .backward j u);
         rise = omega (arith, nonnegative .backward e i j, ap (entry (N .pi)) t);
       }
@@ -152,11 +152,11 @@ module _ (N : ResidualNetwork) (key par : List ℕ) (sized : WithinLimits N (len
 
   pub closed-forward : (e : ℕ) → e < length (N .from) → entry (N .x) e < entry (N .cap) e → entry key (tail N e) < unreached → entry key (head N e) < unreached
   closed-forward e he hx hr =
-      closed (tail N e) (head N e) (up N e - down N e) (sized .tails e he) (sized .heads e he) hr (omega (arith, nonnegative .forward e he hx, sized .costs e)) (relaxed e he .forward hx hr)
+      closed (tail N e) (head N e) (raisedCost N e - headPotential N e) (sized .tails e he) (sized .heads e he) hr (omega (arith, nonnegative .forward e he hx, sized .costs e)) (relaxed e he .forward hx hr)
 
   pub closed-backward : (e : ℕ) → e < length (N .from) → 0 < entry (N .x) e → entry key (head N e) < unreached → entry key (tail N e) < unreached
   closed-backward e he hx hr =
-      closed (head N e) (tail N e) (down N e - up N e) (sized .heads e he) (sized .tails e he) hr (omega (arith, nonnegative .backward e he hx)) (relaxed e he .backward hx hr)
+      closed (head N e) (tail N e) (headPotential N e - raisedCost N e) (sized .heads e he) (sized .tails e he) hr (omega (arith, nonnegative .backward e he hx)) (relaxed e he .backward hx hr)
 
   -- one phase: the target's key is d, and pi' are the raised potentials
   module _ (d : ℕ) (hd : d < unreached) (pi' : List ℕ) (R : RaisedPotentials d key (N .pi) pi') where
@@ -166,41 +166,41 @@ module _ (N : ResidualNetwork) (key par : List ℕ) (sized : WithinLimits N (len
     pub raised-nonnegative : NonnegativeReducedCosts (N' (N .x))
     raised-nonnegative = record { forward = fwd; backward = bwd }
       where
-        fwd : (e : ℕ) → e < length (N .from) → entry (N .x) e < entry (N .cap) e → down (N' (N .x)) e ≤ up (N' (N .x)) e
+        fwd : (e : ℕ) → e < length (N .from) → entry (N .x) e < entry (N .cap) e → headPotential (N' (N .x)) e ≤ raisedCost (N' (N .x)) e
         fwd e he hx = go (decLt (entry key (tail N e)) d)
           where
-            go : Dec (entry key (tail N e) < d) → down (N' (N .x)) e ≤ up (N' (N .x)) e
+            go : Dec (entry key (tail N e) < d) → headPotential (N' (N .x)) e ≤ raisedCost (N' (N .x)) e
             go (yes h) = omega (arith, R .by (tail N e) (sized .tails e he), R .by (head N e) (sized .heads e he), nonnegative .forward e he hx, relaxed e he .forward hx (omega arith), few-hops (tail N e) (sized .tails e he) (omega arith))
             go (no h) = omega (arith, R .by (tail N e) (sized .tails e he), R .by (head N e) (sized .heads e he), nonnegative .forward e he hx)
 
-        bwd : (e : ℕ) → e < length (N .from) → 0 < entry (N .x) e → up (N' (N .x)) e ≤ down (N' (N .x)) e
+        bwd : (e : ℕ) → e < length (N .from) → 0 < entry (N .x) e → raisedCost (N' (N .x)) e ≤ headPotential (N' (N .x)) e
         bwd e he hx = go (decLt (entry key (head N e)) d)
           where
-            go : Dec (entry key (head N e) < d) → up (N' (N .x)) e ≤ down (N' (N .x)) e
+            go : Dec (entry key (head N e) < d) → raisedCost (N' (N .x)) e ≤ headPotential (N' (N .x)) e
             go (yes h) = omega (arith, R .by (tail N e) (sized .tails e he), R .by (head N e) (sized .heads e he), nonnegative .backward e he hx, relaxed e he .backward hx (omega arith), few-hops (head N e) (sized .heads e he) (omega arith))
             go (no h) = omega (arith, R .by (tail N e) (sized .tails e he), R .by (head N e) (sized .heads e he), nonnegative .backward e he hx)
 
     -- parent arcs that are near enough are tight
-    pub tight : (e : ℕ) → e < length (N .from) → ParentArcWithin par key d e → up (N' (N .x)) e ≡ down (N' (N .x)) e
+    pub tight : (e : ℕ) → e < length (N .from) → ParentArcWithin par key d e → raisedCost (N' (N .x)) e ≡ headPotential (N' (N .x)) e
     tight e he u = go (entry par (u .by)) (tree (u .by) (u .by-ok) (u .reached) (u .not-root)) (u .code)
       where
         facts : (w : ℕ) → w < length key → entry key w < unreached → entry key w % 256 ≤ 254
         facts = few-hops
 
-        go : (code : ℕ) → ParentArc N key code (u .by) → ((code ≡ e) ⊎ (code ≡ 4096 + e)) → up (N' (N .x)) e ≡ down (N' (N .x)) e
-        go code (ParentArc.forward i j t r o) (inl c) = subst (λ (z : ℕ). up (N' (N .x)) z ≡ down (N' (N .x)) z) c
+        go : (code : ℕ) → ParentArc N key code (u .by) → ((code ≡ e) ⊎ (code ≡ 4096 + e)) → raisedCost (N' (N .x)) e ≡ headPotential (N' (N .x)) e
+        go code (ParentArc.forward i j t r o) (inl c) = subst (λ (z : ℕ). raisedCost (N' (N .x)) z ≡ headPotential (N' (N .x)) z) c
             (omega (arith, R .by (tail N code) (sized .tails code i), R .by (head N code) (sized .heads code i), nonnegative .forward code i j, relaxed code i .forward j r, ap (entry key) t, u .near, facts (tail N code) (sized .tails code i) r))
         go code (ParentArc.forward i j t r o) (inr c) = absurd (omega (arith, sized .few))
         go code (ParentArc.backward e' ec i j t r o) (inl c) = absurd (omega (arith, sized .few))
-        go code (ParentArc.backward e' ec i j t r o) (inr c) = let q : e' ≡ e = omega arith in subst (λ (z : ℕ). up (N' (N .x)) z ≡ down (N' (N .x)) z) q
+        go code (ParentArc.backward e' ec i j t r o) (inr c) = let q : e' ≡ e = omega arith in subst (λ (z : ℕ). raisedCost (N' (N .x)) z ≡ headPotential (N' (N .x)) z) q
             (omega (arith, R .by (tail N e') (sized .tails e' i), R .by (head N e') (sized .heads e' i), nonnegative .backward e' i j, relaxed e' i .backward j r, ap (entry key) t, u .near, facts (head N e') (sized .heads e' i) r))
 
     -- amounts that changed on such arcs only leave the network feasible
     pub moved-nonnegative : (x' : List ℕ) → ((e : ℕ) → (entry x' e ≡ entry (N .x) e) ⊎ ParentArcWithin par key d e) → NonnegativeReducedCosts (N' x')
     moved-nonnegative x' only = record { forward = fwd; backward = bwd }
       where
-        fwd : (e : ℕ) → e < length (N .from) → entry x' e < entry (N .cap) e → down (N' x') e ≤ up (N' x') e
+        fwd : (e : ℕ) → e < length (N .from) → entry x' e < entry (N .cap) e → headPotential (N' x') e ≤ raisedCost (N' x') e
         fwd e he hx = ⊎-elim (λ q. raised-nonnegative .forward e he (omega arith)) (λ u. omega (arith, tight e he u)) (only e)
 
-        bwd : (e : ℕ) → e < length (N .from) → 0 < entry x' e → up (N' x') e ≤ down (N' x') e
+        bwd : (e : ℕ) → e < length (N .from) → 0 < entry x' e → raisedCost (N' x') e ≤ headPotential (N' x') e
         bwd e he hx = ⊎-elim (λ q. raised-nonnegative .backward e he (omega arith)) (λ u. omega (arith, tight e he u)) (only e)

@@ -14,6 +14,7 @@ use Rattle.engine.specs.Push.{flowAt}
 abbrev pub firstKey : ℕ → ℕ
 firstKey l = pick (ltb 0 l) 0 unreached
 
+-- The keys before the first pass, by the supply left.
 pub record Started (left key : List ℕ) : Type 0 where
   pub len : length key ≡ length left
   pub keys : (v : ℕ) → v < length left → entry key v ≡ firstKey (entry left v)
@@ -33,6 +34,7 @@ pub record NearestSoFar (need key : List ℕ) (v best k : ℕ) : Type 0 where
   pub which : ((best ≡ length key) × (k ≡ unreached)) ⊎ ((best < length key) × (0 < entry need best) × (entry key best ≡ k) × (k < unreached))
   pub least : (j : ℕ) → j < v → 0 < entry need j → k ≤ entry key j
 
+-- best is the vertex with need that is nearest, or the number of vertices where none is reached.
 pub record Nearest (need key : List ℕ) (best : ℕ) : Type 0 where
   pub k : ℕ
   pub best-of : NearestSoFar need key (length key) best k

@@ -1,4 +1,4 @@
--- The residual network of a list of arcs, and what one search over it keeps.
+-- The residual network of a list of arcs, and what one search over it, by relaxing arcs, keeps.
 -- Assumes nothing.
 use mathlib.Core.Path.{_≡_}
 use mathlib.Core.Bool.{Bool, true, false}
@@ -27,21 +27,25 @@ pub record ResidualNetwork : Type 0 where
   pub x : List ℕ
   pub pi : List ℕ
 
+-- The residual network with these columns, amounts and potentials.
 abbrev pub residual : List ℕ → List ℕ → List ℕ → List ℕ → List ℕ → List ℕ → ResidualNetwork
 residual f t c k x p = record { from = f; to = t; cost = c; cap = k; x = x; pi = p }
 
+-- The vertex that the arc e leads from.
 abbrev pub tail : ResidualNetwork → ℕ → ℕ
 tail N e = entry (N .from) e
 
+-- The vertex that the arc e leads to.
 abbrev pub head : ResidualNetwork → ℕ → ℕ
 head N e = entry (N .to) e
 
--- The cost plus the potential of the tail, and the potential of the head.
-abbrev pub up : ResidualNetwork → ℕ → ℕ
-up N e = entry (N .cost) e + entry (N .pi) (tail N e)
+-- The cost plus the potential of the tail.
+abbrev pub raisedCost : ResidualNetwork → ℕ → ℕ
+raisedCost N e = entry (N .cost) e + entry (N .pi) (tail N e)
 
-abbrev pub down : ResidualNetwork → ℕ → ℕ
-down N e = entry (N .pi) (head N e)
+-- The potential of the head. The reduced cost is how much the cost plus the potential of the tail is above it.
+abbrev pub headPotential : ResidualNetwork → ℕ → ℕ
+headPotential N e = entry (N .pi) (head N e)
 
 -- The columns are of one length, and the numbers within the limits, for n vertices.
 pub record WithinLimits (N : ResidualNetwork) (n : ℕ) : Type 0 where
@@ -58,21 +62,23 @@ pub record WithinLimits (N : ResidualNetwork) (n : ℕ) : Type 0 where
 
 -- No residual arc has a negative reduced cost.
 pub record NonnegativeReducedCosts (N : ResidualNetwork) : Type 0 where
-  pub forward : (e : ℕ) → e < length (N .from) → entry (N .x) e < entry (N .cap) e → down N e ≤ up N e
-  pub backward : (e : ℕ) → e < length (N .from) → 0 < entry (N .x) e → up N e ≤ down N e
+  pub forward : (e : ℕ) → e < length (N .from) → entry (N .x) e < entry (N .cap) e → headPotential N e ≤ raisedCost N e
+  pub backward : (e : ℕ) → e < length (N .from) → 0 < entry (N .x) e → raisedCost N e ≤ headPotential N e
 
 -- The key at the end of a residual arc of length len from a vertex with the key k: 256 for each unit, 1 for the arc.
 abbrev pub keyBeyond : ℕ → ℕ → ℕ
 keyBeyond k len = k + len * 256 + 1
 
--- The arc e lowers no key, forward and backward.
+-- The arc e is relaxed forward: where it has room and its tail is reached, it lowers no key.
 abbrev pub RelaxedForward : ResidualNetwork → List ℕ → ℕ → Type 0
 RelaxedForward N key e =
-    entry (N .x) e < entry (N .cap) e → entry key (tail N e) < unreached → entry key (head N e) ≤ keyBeyond (entry key (tail N e)) (up N e - down N e)
+    entry (N .x) e < entry (N .cap) e → entry key (tail N e) < unreached → entry key (head N e) ≤ keyBeyond (entry key (tail N e)) (raisedCost N e - headPotential N e)
 
+-- The arc e is relaxed backward: where it carries something and its head is reached, it lowers no key.
 abbrev pub RelaxedBackward : ResidualNetwork → List ℕ → ℕ → Type 0
-RelaxedBackward N key e = 0 < entry (N .x) e → entry key (head N e) < unreached → entry key (tail N e) ≤ keyBeyond (entry key (head N e)) (down N e - up N e)
+RelaxedBackward N key e = 0 < entry (N .x) e → entry key (head N e) < unreached → entry key (tail N e) ≤ keyBeyond (entry key (head N e)) (headPotential N e - raisedCost N e)
 
+-- The arc e is relaxed both ways.
 pub record RelaxedArc (N : ResidualNetwork) (key : List ℕ) (e : ℕ) : Type 0 where
   pub forward : RelaxedForward N key e
   pub backward : RelaxedBackward N key e
@@ -81,15 +87,16 @@ pub record RelaxedArc (N : ResidualNetwork) (key : List ℕ) (e : ℕ) : Type 0 
 pub data ParentArc (N : ResidualNetwork) (key : List ℕ) (code : ℕ) (v : ℕ) : Type 0 where
   forward :
       code < length (N .from) → entry (N .x) code < entry (N .cap) code → head N code ≡ v → entry key (tail N code) < unreached
-      → keyBeyond (entry key (tail N code)) (up N code - down N code) ≤ entry key v → ParentArc N key code v
+      → keyBeyond (entry key (tail N code)) (raisedCost N code - headPotential N code) ≤ entry key v → ParentArc N key code v
   backward :
       (e : ℕ) → code ≡ 4096 + e → e < length (N .from) → 0 < entry (N .x) e → tail N e ≡ v → entry key (head N e) < unreached
-      → keyBeyond (entry key (head N e)) (down N e - up N e) ≤ entry key v → ParentArc N key code v
+      → keyBeyond (entry key (head N e)) (headPotential N e - raisedCost N e) ≤ entry key v → ParentArc N key code v
 
 -- Every vertex that is reached is a root (key 0) or has a parent arc.
 abbrev pub ParentTree : ResidualNetwork → List ℕ → List ℕ → Type 0
 ParentTree N key par = (v : ℕ) → v < length key → entry key v < unreached → 0 < entry key v → ParentArc N key (entry par v) v
 
+-- The sum of the entries, which falls with each pass but the last.
 unfoldable pub sum : List ℕ → ℕ
 sum [] = 0
 sum (a ∷ l) = a + sum l
@@ -109,26 +116,27 @@ pub data LowerOutcome (u v len code : ℕ) (key par key' par' : List ℕ) : Bool
       → LowerOutcome u v len code key par key' par' true
   kept : (entry key u < unreached → entry key v ≤ keyBeyond (entry key u) len) → key' ≡ key → par' ≡ par → LowerOutcome u v len code key par key' par' false
 
--- The outcome of a step: a lower sum of keys, or nothing changed and P holds.
+-- What came of relaxing: the sum of the keys fell, or nothing changed and P holds.
 pub data Progress (P : Type 0) (key par key' par' : List ℕ) : Bool → Type 0 where
   fell : sum key' < sum key → Progress P key par key' par' true
   stayed : key' ≡ key → par' ≡ par → P → Progress P key par key' par' false
 
--- What a step over the network takes for granted.
+-- What relaxing takes for granted.
 pub record SearchReady (N : ResidualNetwork) (key par : List ℕ) : Type 0 where
   pub sized : WithinLimits N (length key)
   pub nonnegative : NonnegativeReducedCosts N
   pub par-len : length par ≡ length key
 
--- What a step gives back.
+-- What relaxing gives back.
 pub record Relaxation (N : ResidualNetwork) (P : Type 0) (key par key' par' : List ℕ) (r : Bool) : Type 0 where
   pub keeps : LoweredKeys N key par key' par'
   pub went : Progress P key par key' par' r
 
+-- The arcs below n are relaxed.
 abbrev pub AllRelaxed : ResidualNetwork → List ℕ → ℕ → Type 0
 AllRelaxed N key n = (e : ℕ) → e < n → RelaxedArc N key e
 
--- What passes give back that go on until no arc lowers a key.
+-- What passes give back that go on until every arc is relaxed.
 pub record Converged (N : ResidualNetwork) (key par key' par' : List ℕ) : Type 0 where
   pub keeps : LoweredKeys N key par key' par'
   pub relaxed : AllRelaxed N key' (length (N .from))

@@ -72,13 +72,7 @@ pub(crate) fn is_solvable(
 }
 
 // Is this what `send` answers?
-pub(crate) fn is_sendable(
-    arcs: &[u64],
-    t: usize,
-    amounts: usize,
-    n: usize,
-    keys: usize,
-) -> bool
+pub(crate) fn is_sendable(arcs: &[u64], t: usize, amounts: usize, n: usize, keys: usize) -> bool
     ensures { λ r. ⌜ r ≡ sendable (now (arcs .entry)) t amounts n keys ⌝ }
 {
     if n <= t {

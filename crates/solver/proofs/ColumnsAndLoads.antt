@@ -4,27 +4,26 @@ use mathlib.Core.Path.{_≡_, refl, sym, _∙_, ap, ap₂}
 use mathlib.Core.Bool.{Bool, true, false, not, _&&_}
 use mathlib.Core.Logic.{_≢_, _⊎_, inl, inr}
 use mathlib.Core.List.{List, [], _∷_, map}
-use Prim.Native.Nat.{ℕ, zero, suc, _+_, _*_, _/_, _%_, _<_, _≤_}
+use Prim.Native.Nat.{ℕ, zero, suc, _+_, _*_, _/_, _<_, _≤_}
 use native.Mathlib.Nat.{mul-le-mul-left}
 use native.Mathlib.Omega.{arith}
 use native.Mathlib.Decide.{decLt}
 use lib.Dec.{eqb}
 use borrow.Author.Tests.{lt-ltb, le-ltb}
-use lib.ListN.{length, replicate, length-map, length-replicate, getD-replicate, List·getD-eq-default}
+use lib.ListN.{length, length-map, getD-replicate}
 use lib.IntN.{pos}
 use Rattle.prelude.specs.Choice.{indicator}
 use Rattle.prelude.specs.Lists.{Every}
 use Rattle.prelude.specs.Sums.{sumTo}
 use Rattle.prelude.proofs.Integers.{signed}
-use Rattle.prelude.proofs.Lists.{every-map}
 use Rattle.prelude.proofs.Sums.{sumTo-ext, sumTo-add}
 use Rattle.network.specs.Network.{Arc, arcOf, Load, arcs, delta, sumOf, leaving, entering, cost, total, crosses}
-use Rattle.network.specs.Question.{Setting, Opened, WeightWithin, Allowed}
+use Rattle.network.specs.Question.{Setting, WeightWithin}
 use Rattle.network.specs.Certificate.{InRange, Marks, marked, WithinCapacity}
 use Rattle.network.proofs.Sums.{delta-same, delta-other, Compared, compared, sumTo-at, sumOf-add, Inside, across}
 use Rattle.engine.specs.Residual.{entry, unreached}
 use Rattle.engine.specs.Push.{flowAt}
-use Rattle.solver.specs.Instance.{Fits, tails, heads, weights, constant, loadsOf, VertexList, single, Falls, reached, distanceOf, markOf}
+use Rattle.solver.specs.Instance.{tails, heads, weights, constant, loadsOf, VertexList, single, Falls, reached, distanceOf, markOf}
 use Rattle.engine.proofs.LentParts.{zero-at}
 
 -- ---- the same sums

@@ -3,7 +3,7 @@
 use mathlib.Core.Path.{_≡_, refl, sym, _∙_, ap, subst}
 use mathlib.Core.Bool.{Bool, true, false, _&&_, false≢true}
 use mathlib.Core.List.{List, [], _∷_, _++_, map}
-use Prim.Native.Nat.{ℕ, _/_, _%_, _<_, _≤_}
+use Prim.Native.Nat.{ℕ, _%_, _<_, _≤_}
 use native.Mathlib.Omega.{arith}
 use lib.Dec.{eqb, ltb, leb}
 use borrow.Author.Tests.{lt-ltb, le-leb, eq-eqb}
@@ -17,11 +17,11 @@ use Rattle.network.proofs.Sums.{Inside}
 use Rattle.engine.specs.Residual.{entry, unreached, zeroList}
 use Rattle.engine.specs.PackedArcs.{tailOf, headOf, costOf, PackedSolved}
 use Rattle.engine.specs.Calls.{arcFits, arcsFit, solvable, SolveOutcome}
-use Rattle.engine.proofs.LentParts.{lent-again, back-length}
+use Rattle.engine.proofs.LentParts.{lent-again}
 use Rattle.engine.proofs.LimitTests.{both-on}
 use Rattle.solver.specs.declared.vertices.NumberKind.the-variants.{Mark, Potential}
 use Rattle.solver.specs.Instance.{Fits, constant, VertexList}
-use Rattle.solver.specs.Certify.{recordArc, recordArcs, AcceptedNetwork, costFor, packedFor, costs, capacities, standing, EngineRunFor, EngineRun, numberOf}
+use Rattle.solver.specs.Certify.{recordArc, recordArcs, AcceptedNetwork, costFor, packedFor, standing, EngineRunFor, EngineRun, numberOf}
 use Rattle.solver.proofs.Solutions.{fits, cost-low, same-tails, same-heads, same-costs, same-capacities, keys}
 
 -- ---- packed arcs are within the engine's limits

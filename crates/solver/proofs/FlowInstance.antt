@@ -6,7 +6,7 @@ use mathlib.Core.Logic.{_⊎_, inl, inr}
 use mathlib.Core.List.{List, [], _∷_}
 use Prim.Native.Nat.{ℕ, _+_, _-_, _*_, _<_, _≤_}
 use native.Mathlib.Omega.{arith}
-use lib.ListN.{length, length-replicate}
+use lib.ListN.{length}
 use Rattle.prelude.specs.Choice.{indicator}
 use Rattle.prelude.specs.Lists.{Every}
 use Rattle.prelude.proofs.Integers.{signed}
@@ -18,7 +18,6 @@ use Rattle.engine.specs.Residual.{entry}
 use Rattle.engine.specs.Phase.{Solved}
 use Rattle.solver.specs.Instance.{Fits, tails, heads, weights, constant, loadsOf, VertexList, single, Falls, markOf}
 use Rattle.engine.proofs.LastSearch.{in-list, leads-on, leads-back, from-left}
-use Rattle.engine.proofs.LentParts.{zero-at}
 use Rattle.solver.proofs.ColumnsAndLoads.{since-none, index, loads-arcs, columnArc, every-load, leaving-most, fallen, Carried, carried-by, as-much, at-source, elsewhere, Seen, Unseen, seen, unseen, sight, marks-fit}
 
 -- no network that is read holds more than 134213632

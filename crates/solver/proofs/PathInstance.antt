@@ -8,7 +8,7 @@ use Prim.Native.Nat.{ℕ, zero, suc, _+_, _-_, _*_, _/_, _%_, _<_, _≤_}
 use native.Mathlib.Omega.{arith}
 use native.Mathlib.Decide.{ℕ-discrete}
 use borrow.Author.Tests.{eq-eqb, ne-eqb}
-use lib.ListN.{length, length-replicate}
+use lib.ListN.{length}
 use lib.IntN.{pos}
 use Rattle.prelude.specs.Lists.{Every, Member}
 use Rattle.prelude.proofs.Integers.{signed}

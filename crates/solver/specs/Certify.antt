@@ -3,7 +3,7 @@
 use mathlib.Core.Path.{_≡_}
 use mathlib.Core.Bool.{Bool, true, false, _&&_}
 use mathlib.Core.List.{List, map}
-use Prim.Native.Nat.{ℕ, _+_, _*_, _/_, _%_, _<_, _≤_}
+use Prim.Native.Nat.{ℕ, _/_, _%_, _<_, _≤_}
 use lib.Dec.{eqb, ltb, leb}
 use lib.IntN.{ℤ, pos}
 use lib.ListN.{length}
@@ -15,6 +15,7 @@ use Rattle.network.specs.Question.{Question, shortestPath, maximumFlow, assignm
 use Rattle.network.specs.Certificate.{Certified}
 use Rattle.network.specs.Tests.{Claim, ofValue, ofNone, claimNumber, claimFor, openingChecks, arcChecks}
 use Rattle.engine.specs.Residual.{entry, unreached}
+use Rattle.engine.specs.PackedArcs.{packedArc}
 use Rattle.engine.specs.Phase.{Solved}
 use Rattle.solver.specs.declared.Finding.{Finding}
 use Rattle.solver.specs.declared.Finding.the-variants.{Value, None, Refused}
@@ -28,6 +29,7 @@ use Rattle.solver.specs.Instance.{loadsOf, toward, single, atPumps, atSi
 abbrev pub recordArc : ℕ → Arc
 recordArc r = arcOf (r / 16777216 % 256) (r / 65536 % 256) (r % 65536)
 
+-- The arcs of records, in order.
 abbrev pub recordArcs : List ℕ → List Arc
 recordArcs rs = map recordArc rs
 
@@ -48,43 +50,45 @@ pub record AcceptedNetwork (st : Setting) (net : List Arc) : Type 0 where
 
 -- ---- how the engine is asked
 
--- The cost and the capacity of an arc of weight w.
+-- The cost of an arc of weight w.
 abbrev pub costFor : Question → ℕ → ℕ
 costFor shortestPath w = w
 costFor maximumFlow w = 0
 costFor assignment w = w
 
+-- The capacity of an arc of weight w.
 abbrev pub capacityFor : Question → ℕ → ℕ
 capacityFor shortestPath w = 1
 capacityFor maximumFlow w = w
 capacityFor assignment w = 2
 
-abbrev pub packedArc : ℕ → ℕ → ℕ → ℕ → ℕ
-packedArc a b c k = a + 256 * b + 65536 * c + 4294967296 * k
-
+-- The arc of a record, packed for the engine.
 abbrev pub packedFor : Question → ℕ → ℕ
 packedFor q r = packedArc (r / 16777216 % 256) (r / 65536 % 256) (costFor q (r % 65536)) (capacityFor q (r % 65536))
 
--- What stands at the vertex v: the supply, or what is wanted. 134213633 is more than all arcs can carry.
+-- The vertex at which something stands: the supply at the source, what is wanted at the sink.
 abbrev pub endFor : Setting → Bool → ℕ
 endFor st wanted = pick wanted (st .t) (st .s)
 
+-- What stands at the vertex v: the supply, or what is wanted. 134213633 is more than all arcs can carry.
 abbrev pub standingFor : Question → Setting → Bool → ℕ → ℕ
 standingFor shortestPath st wanted v = single (endFor st wanted) 1 v
 standingFor maximumFlow st wanted v = single (endFor st wanted) 134213633 v
 standingFor assignment st wanted v = pick wanted (atSites st v) (atPumps st v)
 
+-- What stands at the vertex v for the question of the setting.
 abbrev pub standing : Setting → Bool → ℕ → ℕ
 standing st wanted v = standingFor (st .question) st wanted v
 
--- The columns of costs and capacities.
+-- The column of costs.
 abbrev pub costs : Question → List Arc → List ℕ
 costs q net = map (λ e. costFor q (e .weight)) net
 
+-- The column of capacities.
 abbrev pub capacities : Question → List Arc → List ℕ
 capacities q net = map (λ e. capacityFor q (e .weight)) net
 
--- The engine was asked the question q: what it gave back, from supplies, demands and potentials of 0.
+-- The engine was asked the question q: what it gave back, from supplies, demands and amounts of 0.
 pub record EngineRunFor (q : Question) (st : Setting) (net : List Arc) (x' pi' need' key' : List ℕ) : Type 0 where
   pub pi : List ℕ
   pub left : List ℕ
@@ -95,6 +99,7 @@ pub record EngineRunFor (q : Question) (st : Setting) (net : List Arc) (x' pi' n
   pub demand : VertexList (st .n) (standingFor q st true) need
   pub solved : Solved (tails net) (heads net) (costs q net) (capacities q net) (constant net 0) pi left need x' pi' left' need' key' par'
 
+-- The engine was asked the question of the setting.
 abbrev pub EngineRun : (st : Setting) (net : List Arc) (x' pi' need' key' : List ℕ) → Type 0
 EngineRun st net x' pi' need' key' = EngineRunFor (st .question) st net x' pi' need' key'
 
@@ -124,6 +129,7 @@ toldBy ofValue none = pos 8322818
 toldBy ofNone (value d) = pos 1
 toldBy ofNone none = pos 0
 
+-- The number of the vertex v tells the true answer for it.
 pub record Told (st : Setting) (net : List Arc) (c : Claim) (y : ℕ → ℤ) (v : ℕ) : Type 0 where
   pub answer : Answer
   pub is-true : TrueAnswer (toward st v) net answer

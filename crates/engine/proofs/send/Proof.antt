@@ -1,6 +1,6 @@
 -- `engine::send` meets its contract.
 -- Assumes nothing.
-use mathlib.Core.Path.{sym, _∙_}
+use mathlib.Core.Path.{sym}
 use denote.Ref.{now}
 use lib.ListN.{length}
 use borrow.Author.Needs.{needs}
@@ -41,12 +41,13 @@ slice-aggregate-search-and-push-2 : tie.Need-slice-aggregate-search-and-push-2
 slice-aggregate-search-and-push-2 c = let t = c .before .before .before .before .before .before .before .before .before in sym (zero-list-length (length (now (Tested t .args .left))) 255 (facts t .fit .small))
 
 search-and-push-requires : tie.Need-search-and-push-requires
-search-and-push-requires c κs = 
+search-and-push-requires c κs =
     let t = c .before .before .before .before .before .before .before .before .before in
     let a = Tested t .args in
-    let f = facts t in
-    ((f .below, f .key-len, zero-list-length (length (now (a .left))) 255 (f .fit .small)),
-    send-starts (now (a .arcs)) (a .t) (a .want) (now (a .x)) (now (a .left)) (now (a .key)) _ (t .before .is-sendable .ensures) (t .if1 .left) (c .before .before .before .before .before .before .before .clear-amounts .ensures))
+    let f = facts t in (
+      (f .below, f .key-len, zero-list-length (length (now (a .left))) 255 (f .fit .small)),
+      send-starts (now (a .arcs)) (a .t) (a .want) (now (a .x)) (now (a .left)) (now (a .key)) _ (t .before .is-sendable .ensures) (t .if1 .left) (c .before .before .before .before .before .before .before .clear-amounts .ensures),
+    )
 
 same-length : tie.Need-same-length
 same-length c = search needs
@@ -58,7 +59,7 @@ same-length-3 : tie.Need-same-length-3
 same-length-3 c = search needs
 
 returns-2 : tie.Need-returns-2
-returns-2 c = 
+returns-2 c =
     let t = c .before .before .before .before .before .before .before .before .before .before .before .before .before .before .before .before .before in
     let a = Tested t .args in
     send-ends (now (a .arcs)) (a .t) (a .want) (now (a .x)) (now (a .left)) (now (a .key)) _ (t .before .is-sendable .ensures) (t .if1 .left)

@@ -1,6 +1,6 @@
 -- `engine::solve` meets its contract.
 -- Assumes nothing.
-use mathlib.Core.Path.{sym, _∙_}
+use mathlib.Core.Path.{sym}
 use denote.Ref.{now}
 use lib.ListN.{length}
 use borrow.Author.Needs.{needs}
@@ -38,13 +38,14 @@ slice-aggregate-run : tie.Need-slice-aggregate-run
 slice-aggregate-run c = let t = c .before .before .before .before .before .before .before .before .before .before .before .before .before .before in sym (zero-list-length (length (now (Tested t .args .left))) 255 (facts t .fit .small))
 
 run-requires : tie.Need-run-requires
-run-requires c κs = 
+run-requires c κs =
     let t = c .before .before .before .before .before .before .before .before .before .before .before .before .before .before in
     let a = Tested t .args in
-    let f = facts t in
-    ((f .key-len, zero-list-length (length (now (a .left))) 255 (f .fit .small)),
-    solve-starts (now (a .arcs)) (now (a .x)) (now (a .pi)) (now (a .left)) (now (a .need)) (now (a .key)) _ (t .before .is-solvable .ensures) (t .if1 .left)
-    (c .before .before .before .before .before .before .before .before .before .before .before .before .clear-amounts .ensures) (c .before .before .before .before .before .before .before .before .clear-potentials .ensures))
+    let f = facts t in (
+      (f .key-len, zero-list-length (length (now (a .left))) 255 (f .fit .small)),
+      solve-starts (now (a .arcs)) (now (a .x)) (now (a .pi)) (now (a .left)) (now (a .need)) (now (a .key)) _ (t .before .is-solvable .ensures) (t .if1 .left)
+          (c .before .before .before .before .before .before .before .before .before .before .before .before .clear-amounts .ensures) (c .before .before .before .before .before .before .before .before .clear-potentials .ensures),
+    )
 
 same-length : tie.Need-same-length
 same-length c = search needs
@@ -62,7 +63,7 @@ same-length-5 : tie.Need-same-length-5
 same-length-5 c = search needs
 
 returns-2 : tie.Need-returns-2
-returns-2 c = 
+returns-2 c =
     let t = c .before .before .before .before .before .before .before .before .before .before .before .before .before .before .before .before .before .before .before .before .before .before .before .before .before .before in
     let a = Tested t .args in
     solve-ends (now (a .arcs)) (now (a .x)) (now (a .pi)) (now (a .left)) (now (a .need)) (now (a .key)) _ (t .before .is-solvable .ensures) (t .if1 .left)

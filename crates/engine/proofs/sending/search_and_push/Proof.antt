@@ -1,6 +1,6 @@
 -- `engine::sending::search_and_push` meets its contract.
 -- Assumes nothing.
-use mathlib.Core.Path.{refl, sym, _∙_}
+use mathlib.Core.Path.{refl}
 use native.Mathlib.Omega.{arith}
 use borrow.Author.Needs.{needs}
 use Rattle.engine.specs.Calls.SearchAndPush.{away, reached}
@@ -18,7 +18,7 @@ slice-read-if1 : tie.Need-slice-read-if1
 slice-read-if1 c = search needs
 
 push-requires : tie.Need-push-requires
-push-requires c κs = 
+push-requires c κs =
     let s = c .before .before .before .before .before .before .before .before .before .before .before .before .before .before .before .before .before .before .before .before .before in
     let found = c .before .before .before .before .before .before .before .before .before .before .search .ensures in
     ((omega (arith, s .pre .0 .0, found .key-len), c .before .before .before .before .if1 .taken), linked (s .pre .1) found)

@@ -15,7 +15,7 @@ use Rattle.engine.proofs.LentParts.{zero-list-length, lent-again, back-within, 
 use Rattle.solver.specs.Instance.{VertexList}
 use Rattle.solver.specs.Certify.{standing}
 use Rattle.solver.proofs.EngineInputs.{few-records, packed-length, mark-low}
-use Rattle.solver.proofs.PathAnswer.{PathInputs, Reach, Miss, Came, came, keys-length, distances-low, path-answer, no-path-answer}
+use Rattle.solver.proofs.PathAnswer.{PathInputs, Came, came, keys-length, distances-low, path-answer, no-path-answer}
 use Rattle.solver.proofs.answers.answer_path.Statement.{statement}
 use Rattle.solver.proofs.answers.answer_path.Tie as tie
 
@@ -94,13 +94,13 @@ slice-aggregate-send : tie.Need-slice-aggregate-send
 slice-aggregate-send c = let p = c .before .before .before .before .before .before in back-length (length (R (first p))) (zeroList 4096) (P p) (packed p)
 
 write-requires : tie.Need-write-requires
-write-requires c κs = 
+write-requires c κs =
     let f = c .before .before .before .before .before .before .before .before .before .before in
     let r = sent-as f _ (c .before .before .enum-told .given .1) in
     (at-start f .pre .1 .0 .1 ∙ sym (keys-length (inputs f) (r .state) (r .found)), distances-low (inputs f) r)
 
 write-requires-2 : tie.Need-write-requires-2
-write-requires-2 c κs = 
+write-requires-2 c κs =
     let f = c .before .before .before .before .before .before .before .before .before .before in
     let r = sent-as f _ (c .before .before .enum-told2 .given .1) in
     (at-start f .pre .1 .0 .1 ∙ sym (keys-length (inputs f) (r .state) (r .found)), λ v h. mark-low (entry (Key' f) v))

@@ -1,6 +1,6 @@
 -- `solver::vertices::number_of` meets its contract.
 -- Assumes nothing.
-use mathlib.Core.Path.{_≡_, sym, ap, _∙_}
+use mathlib.Core.Path.{sym, ap, _∙_}
 use borrow.Author.Needs.{needs}
 use Rattle.solver.specs.declared.vertices.NumberKind.{NumberKind}
 use Rattle.solver.specs.Certify.{numberOf}
