@@ -97,11 +97,6 @@ every-load P (a ∷ es) (y ∷ x) h = (h 0 (omega arith), every-load P es x (λ 
 pub column-len : (end : Arc → ℕ) (es : List Arc) → length (map end es) ≡ length es
 column-len end es = length-map es end
 
-pub weights-low : (es : List Arc) → Every WeightWithin es → (e : ℕ) → entry (weights es) e ≤ 32767
-weights-low [] h e = omega arith
-weights-low (a ∷ es) h zero = h .0
-weights-low (a ∷ es) h (suc e) = weights-low es (h .1) e
-
 pub index : (es : List Arc) (e : ℕ) → e < length es → e < length (tails es)
 index es e h = omega (arith, column-len (λ e. e .tail) es)
 
