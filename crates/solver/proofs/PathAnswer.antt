@@ -101,16 +101,16 @@ module _ {st : Setting} {rs arcs x left key : List ℕ} (g : PathInputs st rs ar
     pub far : unreached ≤ entry key' (st .t)
     pub same-amounts : x' ≡ X
 
-  abbrev pub Came : List ℕ → List ℕ → List ℕ → Sent → Type 0
-  Came x' left' key' (Reached k) = Reach x' left' key' k
-  Came x' left' key' Unreached = Miss x' left' key'
-  Came x' left' key' Refused = ⊥
+  abbrev pub SentCase : List ℕ → List ℕ → List ℕ → Sent → Type 0
+  SentCase x' left' key' (Reached k) = Reach x' left' key' k
+  SentCase x' left' key' Unreached = Miss x' left' key'
+  SentCase x' left' key' Refused = ⊥
 
-  pub came : {x' left' key' : List ℕ} {r : Sent} → SendOutcome arcs (st .t) 1 x left key x' left' key' r → Came x' left' key' r
-  came (SendOutcome.refused off ex el ek) = absurd (false≢true (sym off ∙ may-send))
-  came {x'} {left'} {key'} {r} (SendOutcome.answered ok S a) = go a
+  pub sent-case : {x' left' key' : List ℕ} {r : Sent} → SendOutcome arcs (st .t) 1 x left key x' left' key' r → SentCase x' left' key' r
+  sent-case (SendOutcome.refused off ex el ek) = absurd (false≢true (sym off ∙ may-send))
+  sent-case {x'} {left'} {key'} {r} (SendOutcome.answered ok S a) = go a
     where
-      go : {q : Sent} → SearchAndPush arcs X Pi left x' left' key' (st .t) 1 q → Came x' left' key' q
+      go : {q : Sent} → SearchAndPush arcs X Pi left x' left' key' (st .t) 1 q → SentCase x' left' key' q
       go (SearchAndPush.away par F far ex el) = record { par = par; state = S; found = F; far = far; same-amounts = ex }
       go (SearchAndPush.reached par F near k M) = record { par = par; state = S; found = F; near = near; moved = M }
 

@@ -15,7 +15,7 @@ use Rattle.engine.proofs.LentParts.{zero-list-length, lent-again, back-within, 
 use Rattle.solver.specs.Instance.{VertexList}
 use Rattle.solver.specs.Certify.{standing}
 use Rattle.solver.proofs.EngineInputs.{few-records, packed-length, mark-low}
-use Rattle.solver.proofs.PathAnswer.{PathInputs, Came, came, keys-length, distances-low, path-answer, no-path-answer}
+use Rattle.solver.proofs.PathAnswer.{PathInputs, SentCase, sent-case, keys-length, distances-low, path-answer, no-path-answer}
 use Rattle.solver.proofs.answers.answer_path.Statement.{statement}
 use Rattle.solver.proofs.answers.answer_path.Tie as tie
 
@@ -75,8 +75,8 @@ Left' c = c .send .last .1 .1 .1 .1 .0
 abbrev Key' : tie.After-send → List ℕ
 Key' c = c .send .last .1 .1 .1 .1 .1 .0
 
-sent-as : (c : tie.After-send) (v : Sent) → c .send .result ≡ v → Came (inputs c) (X' c) (Left' c) (Key' c) v
-sent-as c v e = subst (Came (inputs c) (X' c) (Left' c) (Key' c)) e (came (inputs c) (c .send .ensures))
+sent-as : (c : tie.After-send) (v : Sent) → c .send .result ≡ v → SentCase (inputs c) (X' c) (Left' c) (Key' c) v
+sent-as c v e = subst (SentCase (inputs c) (X' c) (Left' c) (Key' c)) e (sent-case (inputs c) (c .send .ensures))
 
 array-borrow-prefix-arcs : tie.Need-array-borrow-prefix-arcs
 array-borrow-prefix-arcs c = few (c .before .before .before .before .before)
