@@ -1,4 +1,4 @@
--- The columns of packed arcs, and what a step over one arc reads.
+-- The columns of packed arcs, and what relaxing one arc reads.
 -- Assumes nothing.
 use mathlib.Core.Path.{_≡_, sym, _∙_}
 use mathlib.Core.Bool.{Bool}

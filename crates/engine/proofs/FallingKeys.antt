@@ -1,4 +1,4 @@
--- Laws of keys that fall.
+-- Keys that fall: lowering by one arc, relaxing arcs one after the other, passes, and potentials raised by keys.
 -- Assumes nothing.
 use mathlib.Core.Path.{_≡_, refl, sym, ap, subst, _∙_}
 use mathlib.Core.Bool.{Bool, true, false}

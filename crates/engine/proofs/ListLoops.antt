@@ -1,4 +1,4 @@
--- What the loops over records reach: a list that was written from its front, and the test of every record.
+-- What loops over a list reach: a list that was written from its front, and the test of every entry.
 -- Assumes nothing.
 use mathlib.Core.Path.{_≡_, sym, _∙_, ap}
 use mathlib.Core.Bool.{Bool, true, false, _&&_}
@@ -18,10 +18,10 @@ pub filled-as : (g : ℕ → ℕ) (d : ℕ) (l₀ l m : List ℕ) (e : ℕ) → 
 filled-as g d l₀ l m e h k by F =
     ext-getD d l m (F .len ∙ sym k) (λ i b. F .below i (omega (arith, F .len)) ∙ sym (by i (omega (arith, F .len))))
 
--- ---- the test of every record
+-- ---- the test of every entry
 
 module _ (p : ℕ → Bool) (l : List ℕ) where
-  -- the records from e on decide
+  -- the entries from e on decide
   abbrev pub Undecided : ℕ → Type 0
   Undecided e = all p (drop e l) ≡ all p l
 

@@ -1,4 +1,4 @@
--- Laws of the parts of a phase.
+-- The parts of a phase: first keys and what a search from them found, the nearest vertex with need, the state after a delivery, and what holds between phases.
 -- Assumes nothing.
 use mathlib.Core.Path.{_≡_, refl, sym, ap, subst, _∙_}
 use mathlib.Core.List.{List}

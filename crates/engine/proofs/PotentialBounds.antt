@@ -1,4 +1,4 @@
--- At a fixpoint: keys count the arcs of their paths, potentials stay in range, and the raised potentials are feasible.
+-- Once every arc is relaxed: keys count the arcs of their paths, potentials stay in range, and raised potentials leave no reduced cost negative.
 -- Assumes nothing.
 use mathlib.Core.Path.{_≡_, ap, subst}
 use mathlib.Core.Bool.{Bool, true, false}
@@ -195,7 +195,7 @@ module _ (N : ResidualNetwork) (key par : List ℕ) (sized : WithinLimits N (len
         go code (ParentArc.backward e' ec i j t r o) (inr c) = let q : e' ≡ e = omega arith in subst (λ (z : ℕ). raisedCost (N' (N .x)) z ≡ headPotential (N' (N .x)) z) q
             (omega (arith, R .by (tail N e') (sized .tails e' i), R .by (head N e') (sized .heads e' i), nonnegative .backward e' i j, relaxed e' i .backward j r, ap (entry key) t, u .near, facts (head N e') (sized .heads e' i) r))
 
-    -- amounts that changed on such arcs only leave the network feasible
+    -- amounts that changed on such arcs only leave no reduced cost negative
     pub moved-nonnegative : (x' : List ℕ) → ((e : ℕ) → (entry x' e ≡ entry (N .x) e) ⊎ ParentArcWithin par key d e) → NonnegativeReducedCosts (N' x')
     moved-nonnegative x' only = record { forward = fwd; backward = bwd }
       where

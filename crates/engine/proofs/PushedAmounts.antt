@@ -1,4 +1,4 @@
--- Laws of an amount that moves along parent arcs.
+-- An amount that moves along parent arcs: balances, room and supply after each arc.
 -- Assumes nothing.
 use mathlib.Core.Path.{_≡_, refl, sym, ap, subst, _∙_}
 use mathlib.Core.Bool.{Bool, true, false}
