@@ -1,5 +1,6 @@
 -- `engine::limits::arc_fits` meets its contract.
 -- Assumes nothing.
+use native.Mathlib.Omega.{arith}
 use borrow.Author.Needs.{needs}
 use Rattle.engine.proofs.LimitTests.{tail-beyond, head-beyond, cost-decides}
 use Rattle.engine.proofs.limits.arc_fits.Statement.{statement}
@@ -9,7 +10,7 @@ returns : tie.Need-returns
 returns c =
     let tail = c .before .tail-of in
     let a = c .before .before .args in
-    tail-beyond (a .n) (a .arc) (tail .result) 0 0 (tail .ensures) (c .if1 .taken)
+    tail-beyond (a .n) (a .arc) (tail .result) 0 0 (tail .ensures) (omega (arith, c .if1 .taken))
 
 returns-2 : tie.Need-returns-2
 returns-2 c =
@@ -17,7 +18,7 @@ returns-2 c =
     let test = c .before .before in
     let tail = test .before .tail-of in
     let a = test .before .before .args in
-    head-beyond (a .n) (a .arc) (tail .result) (head .result) 0 (tail .ensures) (test .if1 .left) (head .ensures) (c .if2 .taken)
+    head-beyond (a .n) (a .arc) (tail .result) (head .result) 0 (tail .ensures) (omega (arith, test .if1 .left)) (head .ensures) (omega (arith, c .if2 .taken))
 
 returns-3 : tie.Need-returns-3
 returns-3 c =
@@ -27,7 +28,7 @@ returns-3 c =
     let test = test2 .before .before in
     let tail = test .before .tail-of in
     let a = test .before .before .args in
-    cost-decides (a .n) (a .arc) (tail .result) (head .result) (cost .result) (tail .ensures) (test .if1 .left) (head .ensures) (test2 .if2 .left) (cost .ensures)
+    cost-decides (a .n) (a .arc) (tail .result) (head .result) (cost .result) (tail .ensures) (omega (arith, test .if1 .left)) (head .ensures) (omega (arith, test2 .if2 .left)) (cost .ensures)
 
 pub arc-fits-spec : {M : Type 1} → statement M
 arc-fits-spec = tie.close (tie.spec (λ c κs. search needs) returns (λ c κs. search needs) returns-2 (λ c κs. search needs) returns-3)
