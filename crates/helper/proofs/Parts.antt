@@ -14,7 +14,7 @@ use Rattle.prelude.specs.Lists.{at}
 use Rattle.network.specs.Network.{Arc, Load}
 use Rattle.solver.specs.Certify.{recordArc, recordArcs}
 use Rattle.solver.specs.Instance.{loadsOf}
-use Rattle.solver.proofs.Columns.{loads-arcs}
+use Rattle.solver.proofs.ColumnsAndLoads.{loads-arcs}
 use Rattle.format.specs.Bytes.{byte32, readSigned, listTo}
 use Rattle.format.specs.Files.{loadBytes, loadAt}
 use Rattle.format.specs.Promises.{Signed32, LoadFits}

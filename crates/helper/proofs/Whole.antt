@@ -19,10 +19,11 @@ use Rattle.network.specs.Tests.{openingChecks, arcChecks, claimNumber, claimFor
 use Rattle.checks.specs.Setting.{asked}
 use Rattle.checks.specs.declared.Setting.{Setting as Header}
 use Rattle.runs.specs.Exchange.{readRule, readRules}
-use Rattle.solver.specs.Certify.{recordArc, recordArcs, recordOk, admissible, Solution, Outcome}
+use Rattle.solver.specs.Certify.{recordArc, recordArcs, recordOk, admissible, Solution, CertifyOutcome}
 use Rattle.solver.specs.Instance.{loadsOf}
-use Rattle.solver.proofs.Columns.{loads-arcs}
-use Rattle.solver.proofs.Parts.{zeros, zeros-length, lent-again}
+use Rattle.solver.proofs.ColumnsAndLoads.{loads-arcs}
+use Rattle.engine.specs.Residual.{zeroList}
+use Rattle.engine.proofs.LentParts.{zero-list-length, lent-again}
 use Rattle.format.specs.Bytes.{byte32, readSigned, listTo}
 use Rattle.format.specs.Files.{questionIn, nIn, countIn, arcIn, arcsIn, annotationHeader, annotationFile, loadBytes, loadAt}
 use Rattle.format.specs.Promises.{Signed32, LoadFits}
@@ -72,25 +73,25 @@ pub record Came (st : Setting) (net : List Arc) (ys ys' : List ℤ) (xs xs' : Li
   pub solution : Solution st net ys' xs' reply
 
 pub solved : (q : ℕ) (st : Setting) (rs : List ℕ) (ys ys' : List ℤ) (xs xs' : List ℕ) (reply : ℕ) → admissible q st rs (length ys) (length xs) ≡ true
-    → Outcome q st rs ys xs ys' xs' reply → Came st (recordArcs rs) ys ys' xs xs' reply
-solved q st rs ys ys' xs xs' reply ok (Outcome.refused n p r k) = absurd (false≢true (sym n ∙ ok))
-solved q st rs ys ys' xs xs' reply ok (Outcome.solved o p r s) = record { numbers-len = p; amounts-len = r; solution = s }
+    → CertifyOutcome q st rs ys xs ys' xs' reply → Came st (recordArcs rs) ys ys' xs xs' reply
+solved q st rs ys ys' xs xs' reply ok (CertifyOutcome.refused n p r k) = absurd (false≢true (sym n ∙ ok))
+solved q st rs ys ys' xs xs' reply ok (CertifyOutcome.solved o p r s) = record { numbers-len = p; amounts-len = r; solution = s }
 
 -- the same, of the records of an accepted file
 pub solved-file : (net : List ℕ) → AcceptedFile net → (st : Header) → st ≡ headerIn net → (rs : List ℕ) (ys ys' : List ℤ) (xs xs' : List ℕ) (reply : ℕ)
-    → recordArcs rs ≡ arcsIn net → length ys ≡ nIn net → length xs ≡ countIn net → Outcome (st .question) (asked st) rs ys xs ys' xs' reply
+    → recordArcs rs ≡ arcsIn net → length ys ≡ nIn net → length xs ≡ countIn net → CertifyOutcome (st .question) (asked st) rs ys xs ys' xs' reply
     → Came (settingIn net) (arcsIn net) ys ys' xs xs' reply
 solved-file net h st filed rs ys ys' xs xs' reply e p q o =
     subst (λ (l : List Arc). Came (settingIn net) l ys ys' xs xs' reply) e
     (solved (questionIn net) (settingIn net) rs ys ys' xs xs' reply (gathered-admissible net h rs (length ys) (length xs) e p q)
-    (subst (λ (k : Header). Outcome (k .question) (asked k) rs ys xs ys' xs' reply) filed o))
+    (subst (λ (k : Header). CertifyOutcome (k .question) (asked k) rs ys xs ys' xs' reply) filed o))
 
 -- the records that were gathered from m zeros, lent again
-pub gathered-again : (net ws : List ℕ) (m k : ℕ) → m ≤ k → m ≡ countIn net → recordArcs ws ≡ listTo (length (take m (zeros k))) (arcIn net)
-    → (length ws ≡ m) × (recordArcs (take m (ws ++ drop m (zeros k))) ≡ arcsIn net)
+pub gathered-again : (net ws : List ℕ) (m k : ℕ) → m ≤ k → m ≡ countIn net → recordArcs ws ≡ listTo (length (take m (zeroList k))) (arcIn net)
+    → (length ws ≡ m) × (recordArcs (take m (ws ++ drop m (zeroList k))) ≡ arcsIn net)
 gathered-again net ws m k h c e =
-    let n = sym (length-map ws recordArc) ∙ ap length e ∙ listTo-length (length (take m (zeros k))) (arcIn net) ∙ zeros-length m k h in
-    (n, ap recordArcs (lent-again m (zeros k) ws n) ∙ e ∙ ap (λ (j : ℕ). listTo j (arcIn net)) (zeros-length m k h ∙ c))
+    let n = sym (length-map ws recordArc) ∙ ap length e ∙ listTo-length (length (take m (zeroList k))) (arcIn net) ∙ zero-list-length m k h in
+    (n, ap recordArcs (lent-again m (zeroList k) ws n) ∙ e ∙ ap (λ (j : ℕ). listTo j (arcIn net)) (zero-list-length m k h ∙ c))
 
 -- ---- what stands in the buffer
 

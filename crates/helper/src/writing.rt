@@ -91,7 +91,7 @@ fn write_solution(
     ensures { λ _. ⌜ Filled (now (net .entry)) (now (buffer .entry)) (now (buffer .exit)) ⌝ }
 {
     let st = setting(net);
-    let claim = solver::certify(st, records, numbers, amounts);
+    let claim = solver::claim_number(solver::certify(st, records, numbers, amounts));
     write_file(buffer, net, claim, numbers, amounts);
 }
 

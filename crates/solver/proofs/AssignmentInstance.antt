@@ -8,7 +8,7 @@ use Prim.Native.Nat.{ℕ, zero, suc, _+_, _*_, _%_, _<_, _≤_}
 use native.Mathlib.Omega.{arith}
 use native.Mathlib.Decide.{decLt}
 use borrow.Author.Tests.{lt-ltb, le-ltb}
-use lib.ListN.{length, length-replicate}
+use lib.ListN.{length}
 use lib.IntN.{pos}
 use Rattle.prelude.specs.Choice.{indicator}
 use Rattle.prelude.specs.Lists.{Every}
@@ -22,16 +22,12 @@ use Rattle.network.specs.Certificate.{marked, ZeroOrOne, NoAmount, Closed, Feas
 use Rattle.network.proofs.Sums.{delta-same, Inside}
 use Rattle.network.proofs.Assignments.{Between, leaves-no-site}
 use Rattle.network.proofs.Sound.{balance-parts}
-use Rattle.solver.specs.Net.{entry, unreached}
-use Rattle.solver.specs.Phase.{Solved, State}
-use Rattle.solver.specs.Instance.{Fits, tails, heads, weights, constant, loadsOf, Filled, atPumps, atSites, Falls, markOf}
-use Rattle.solver.proofs.Columns.{in-list, zeros-at, constant-at, since-none, index, loads-arcs, arcAt, every-arc, every-load, column-len, sumOf-used, paid-cost, weighed, Seen, Unseen, sight, marks-fit, no-cross, leads-on, leads-back, from-left, start-state, weights-low}
-
--- the state from which the engine starts
-pub assignment-state : (n : ℕ) (es : List Arc) (pi left need : List ℕ) → Fits n es → Filled n (λ v. 0) pi → length left ≡ n → length need ≡ n
-    → State (tails es) (heads es) (weights es) (constant es 2) (constant es 0) pi left need
-assignment-state n es pi left need lim none ll nl =
-    start-state n es (weights es) (constant es 2) pi left need lim (column-len (λ e. e .weight) es) (length-replicate (length es) 2) (weights-low es (lim .light)) none ll nl
+use Rattle.engine.specs.Residual.{entry, unreached}
+use Rattle.engine.specs.Phase.{Solved}
+use Rattle.solver.specs.Instance.{Fits, tails, heads, weights, constant, loadsOf, VertexList, atPumps, atSites, Falls, markOf}
+use Rattle.engine.proofs.LastSearch.{in-list, leads-on, leads-back, from-left}
+use Rattle.engine.proofs.LentParts.{zero-at}
+use Rattle.solver.proofs.ColumnsAndLoads.{constant-at, since-none, index, loads-arcs, columnArc, every-arc, every-load, sumOf-used, paid-cost, weighed, Seen, Unseen, sight, marks-fit, no-cross}
 
 -- ---- sums over vertices
 
@@ -59,7 +55,7 @@ amount-enters (a ∷ es) (y ∷ x) (suc e) h = omega (arith, amount-enters es x 
 
 module _ (st : Setting) (es : List Arc) (fits : Fits (st .n) es) (even : st .n % 2 ≡ 0) (sides : Every (PumpToSite st) es)
     {pi left need x' pi' left' need' key' par' : List ℕ}
-    (supply : Filled (st .n) (atPumps st) left) (demand : Filled (st .n) (atSites st) need)
+    (supply : VertexList (st .n) (atPumps st) left) (demand : VertexList (st .n) (atSites st) need)
     (r : Solved (tails es) (heads es) (weights es) (constant es 2) (constant es 0) pi left need x' pi' left' need' key' par') where
   abbrev f : List Load
   f = loadsOf es x'
@@ -166,14 +162,14 @@ module _ (st : Setting) (es : List Arc) (fits : Fits (st .n) es) (even : st .n %
     room e h = omega (arith, at-most-one e h, constant-at es 2 e h)
 
     tight : (e : ℕ) → e < length es → 0 < entry x' e → entry pi' (entry (heads es) e) ≡ entry pi' (entry (tails es) e) + entry (weights es) e
-    tight e h p = omega (arith, r .state .feasible .forward e (index es e h) (room e h), r .state .feasible .backward e (index es e h) p)
+    tight e h p = omega (arith, r .state .nonnegative .forward e (index es e h) (room e h), r .state .nonnegative .backward e (index es e h) p)
 
     pub assignment-certificate : AssignmentCertificate st (λ v. pos (entry pi' v)) f (cost f)
     assignment-certificate = record {
       potentials = λ v h. record { above = omega signed; below = omega (signed, r .state .sized .pis v) };
       amounts = every-load ZeroOrOne es x' at-most-one;
       feasible = every-load (Feasible (λ v. pos (entry pi' v))) es x'
-          (λ e h. omega (signed, r .state .feasible .forward e (index es e h) (room e h)));
+          (λ e h. omega (signed, r .state .nonnegative .forward e (index es e h) (room e h)));
       balances = assigned;
       sums = omega (
         signed,
@@ -232,8 +228,8 @@ module _ (st : Setting) (es : List Arc) (fits : Fits (st .n) es) (even : st .n %
     pub no-assignment-certificate : NoAssignmentCertificate st (markOf key') (loadsOf es (constant es 0))
     no-assignment-certificate = record {
       marks = marks-fit st key';
-      amounts = every-load NoAmount es (constant es 0) (λ e h. zeros-at (length es) e);
-      closed = every-load (Closed (markOf key')) es (constant es 0) (λ e h. no-cross key' (arcAt es e) (on e h));
+      amounts = every-load NoAmount es (constant es 0) (λ e h. zero-at (length es) e);
+      closed = every-load (Closed (markOf key')) es (constant es 0) (λ e h. no-cross key' (columnArc es e) (on e h));
       more-pumps = omega (
         arith,
         summed (λ v. indicator (m v)),

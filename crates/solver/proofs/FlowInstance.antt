@@ -6,7 +6,7 @@ use mathlib.Core.Logic.{_⊎_, inl, inr}
 use mathlib.Core.List.{List, [], _∷_}
 use Prim.Native.Nat.{ℕ, _+_, _-_, _*_, _<_, _≤_}
 use native.Mathlib.Omega.{arith}
-use lib.ListN.{length, length-replicate}
+use lib.ListN.{length}
 use Rattle.prelude.specs.Choice.{indicator}
 use Rattle.prelude.specs.Lists.{Every}
 use Rattle.prelude.proofs.Integers.{signed}
@@ -14,16 +14,11 @@ use Rattle.network.specs.Network.{Arc, Load, arcs, sumOf, leaving, entering, to
 use Rattle.network.specs.Question.{Setting, TwoVertices, WeightWithin}
 use Rattle.network.specs.Certificate.{marked, WithinCapacity, FlowCertificate}
 use Rattle.network.proofs.Sound.{balance-parts}
-use Rattle.solver.specs.Net.{entry}
-use Rattle.solver.specs.Phase.{Solved, State}
-use Rattle.solver.specs.Instance.{Fits, tails, heads, weights, constant, loadsOf, Filled, single, Falls, markOf}
-use Rattle.solver.proofs.Columns.{in-list, zeros-at, since-none, index, loads-arcs, arcAt, every-load, column-len, leaving-most, fallen, Carried, carried-by, as-much, at-source, elsewhere, Seen, Unseen, seen, unseen, sight, marks-fit, leads-on, leads-back, from-left, start-state}
-
--- the state from which the engine starts
-pub flow-state : (n : ℕ) (es : List Arc) (pi left need : List ℕ) → Fits n es → Filled n (λ v. 0) pi → length left ≡ n → length need ≡ n
-    → State (tails es) (heads es) (constant es 0) (weights es) (constant es 0) pi left need
-flow-state n es pi left need lim none ll nl =
-    start-state n es (constant es 0) (weights es) pi left need lim (length-replicate (length es) 0) (column-len (λ e. e .weight) es) (λ e. omega (arith, zeros-at (length es) e)) none ll nl
+use Rattle.engine.specs.Residual.{entry}
+use Rattle.engine.specs.Phase.{Solved}
+use Rattle.solver.specs.Instance.{Fits, tails, heads, weights, constant, loadsOf, VertexList, single, Falls, markOf}
+use Rattle.engine.proofs.LastSearch.{in-list, leads-on, leads-back, from-left}
+use Rattle.solver.proofs.ColumnsAndLoads.{since-none, index, loads-arcs, columnArc, every-load, leaving-most, fallen, Carried, carried-by, as-much, at-source, elsewhere, Seen, Unseen, seen, unseen, sight, marks-fit}
 
 -- no network that is read holds more than 134213632
 total-below : (es : List Arc) → Every WeightWithin es → total es ≤ 32767 * length es
@@ -48,7 +43,7 @@ weigh x w i j h = rw (i, j) h
 
 module _ (st : Setting) (es : List Arc) (S : ℕ) (ends : TwoVertices st) (fits : Fits (st .n) es) (enough : total es < S)
     {pi left need x' pi' left' need' key' par' : List ℕ}
-    (supply : Filled (st .n) (single (st .s) S) left) (demand : Filled (st .n) (single (st .t) S) need)
+    (supply : VertexList (st .n) (single (st .s) S) left) (demand : VertexList (st .n) (single (st .t) S) need)
     (less : Falls left left') (fewer : Falls need need')
     (r : Solved (tails es) (heads es) (constant es 0) (weights es) (constant es 0) pi left need x' pi' left' need' key' par') where
   abbrev f : List Load
@@ -90,7 +85,7 @@ module _ (st : Setting) (es : List Arc) (S : ℕ) (ends : TwoVertices st) (fits 
   full = every-load _ es x' (λ e h. go e (index es e h) (sight key' (entry (tails es) e)) (sight key' (entry (heads es) e)))
     where
       go : (e : ℕ) → e < length (tails es) → Seen key' (entry (tails es) e) ⊎ Unseen key' (entry (tails es) e) → Seen key' (entry (heads es) e) ⊎ Unseen key' (entry (heads es) e)
-          → entry x' e * indicator (m (entry (tails es) e)) ≡ entry x' e * indicator (m (entry (heads es) e)) + entry (weights es) e * indicator (crosses m (arcAt es e))
+          → entry x' e * indicator (m (entry (tails es) e)) ≡ entry x' e * indicator (m (entry (heads es) e)) + entry (weights es) e * indicator (crosses m (columnArc es e))
       go e h (inl a) (inl b) = weigh (entry x' e) (entry (weights es) e) (a .inside) (b .inside) (omega arith)
       go e h (inl a) (inr b) =
           let no-room : entry x' e < entry (weights es) e → ⊥ = λ q. omega (arith, leads-on (r .state) (r .found) e h q (a .below), b .above) in

@@ -1,80 +1,129 @@
--- The answer for a path: what is known when the engine searches, what a search and a push then give.
+-- The answer for a path: what is known when the engine is asked to send, and what it then gives.
 -- Assumes nothing.
 use mathlib.Core.Path.{_≡_, sym, _∙_, ap, subst}
+use mathlib.Core.Bool.{true, false, _&&_, false≢true}
 use mathlib.Core.List.{List, map}
 use mathlib.Core.Logic.{⊎-elim}
-use mathlib.Core.Bool.{false}
 use Prim.Native.Nat.{ℕ, _<_, _≤_}
 use native.Mathlib.Omega.{arith}
+use lib.Dec.{eqb, ltb}
 use lib.IntN.{ℤ}
-use lib.ListN.{length}
+use lib.ListN.{length, length-map, length-replicate}
+use borrow.Author.Tests.{lt-ltb, eq-eqb}
 use Rattle.network.specs.Network.{Arc}
 use Rattle.network.specs.Question.{Question, shortestPath, Setting, TwoVertices, EndsFor}
-use Rattle.solver.specs.Net.{entry, unreached, Net, net}
-use Rattle.solver.specs.Arcs.{tailsOf, headsOf, costsOf, capacitiesOf, network, ArcsState, ArcsLinked, ArcsMoved}
-use Rattle.solver.specs.Flow.{Moved}
-use Rattle.solver.specs.Phase.{Found, State}
-use Rattle.solver.specs.Instance.{tails, heads, weights, constant, Filled, single}
-use Rattle.solver.specs.Certify.{recordArcs, Accepted, packedFor, costs, capacities, standingFor, standing, mark, distance, numberOf, Written, Solution}
-use Rattle.solver.proofs.Columns.{near-enough, sight}
-use Rattle.solver.proofs.Phases.{linked}
-use Rattle.solver.proofs.PathInstance.{path-state}
-use Rattle.solver.proofs.Solutions.{fits, same-tails, same-heads, same-costs, same-capacities, constant-map, path-solution, no-path-solution}
+use Rattle.engine.specs.Residual.{entry, unreached, zeroList, ResidualNetwork, residual}
+use Rattle.engine.specs.PackedArcs.{tailsOf, headsOf, costsOf, capacitiesOf, residualOf, PackedPhaseState, PackedMoved}
+use Rattle.engine.specs.Push.{Moved}
+use Rattle.engine.specs.Phase.{SearchResult, PhaseState}
+use Rattle.engine.specs.Calls.{arcsFit, sendable, SearchAndPush, SendOutcome}
+use Rattle.engine.specs.declared.Sent.{Sent}
+use Rattle.engine.specs.declared.Sent.the-variants.{Reached, Unreached, Refused}
+use Rattle.engine.proofs.LastSearch.{near-enough}
+use Rattle.engine.proofs.LentParts.{zero-at}
+use Rattle.engine.proofs.LimitTests.{both-on}
+use Rattle.solver.specs.declared.vertices.NumberKind.the-variants.{Mark, Distance}
+use Rattle.solver.specs.Instance.{tails, heads, constant, VertexList}
+use Rattle.solver.specs.Certify.{recordArc, recordArcs, AcceptedNetwork, packedFor, costs, capacities, standing, numberOf, NodeNumbers, Solution}
+use Rattle.solver.proofs.ColumnsAndLoads.{sight}
+use Rattle.solver.proofs.EngineInputs.{packed-length, packed-fit}
+use Rattle.solver.proofs.Solutions.{fits, same-tails, same-heads, same-costs, same-capacities, path-solution, no-path-solution}
 
--- ---- what is known when the engine searches
+-- ---- what is known when the engine is asked
 
-pub record Given (st : Setting) (rs arcs x pi left : List ℕ) : Type 0 where
-  pub accepted : Accepted st (recordArcs rs)
+pub record PathInputs (st : Setting) (rs arcs x left key : List ℕ) : Type 0 where
+  pub accepted : AcceptedNetwork st (recordArcs rs)
   pub path : st .question ≡ shortestPath
   pub packs : arcs ≡ map (packedFor (st .question)) rs
-  pub amounts : x ≡ constant (recordArcs rs) 0
-  pub none : Filled (st .n) (λ v. 0) pi
-  pub stands : Filled (st .n) (standing st false) left
+  pub amounts : length x ≡ length rs
+  pub stands : VertexList (st .n) (standing st false) left
+  pub key-len : length key ≡ st .n
 
-module _ {st : Setting} {rs arcs x pi left : List ℕ} (g : Given st rs arcs x pi left) where
+module _ {st : Setting} {rs arcs x left key : List ℕ} (g : PathInputs st rs arcs x left key) where
   abbrev es : List Arc
   es = recordArcs rs
 
-  same : network arcs x pi ≡ net (tails es) (heads es) (costs (st .question) es) (capacities (st .question) es) (constant es 0) pi
-  same = λ i. net ((ap tailsOf (g .packs) ∙ same-tails (st .question) rs) i) ((ap headsOf (g .packs) ∙ same-heads (st .question) rs) i)
-      ((ap costsOf (g .packs) ∙ same-costs (st .question) rs) i) ((ap capacitiesOf (g .packs) ∙ same-capacities (st .question) rs) i) (g .amounts i) pi
+  -- the amounts and the potentials that the engine starts with
+  abbrev X : List ℕ
+  X = zeroList (length arcs)
 
-  supply : Filled (st .n) (single (st .s) 1) left
-  supply = subst (λ (q : Question). Filled (st .n) (standingFor q st false) left) (g .path) (g .stands)
+  abbrev Pi : List ℕ
+  Pi = zeroList (length left)
 
-  -- as for the network, with the columns of the packed arcs
-  pub state : ArcsState arcs x pi left pi
-  state =
-      subst (λ (N : Net). State (N .from) (N .to) (N .cost) (N .cap) (N .x) pi left pi) (sym same)
-      (subst (λ (q : Question). State (tails es) (heads es) (costs q es) (capacities q es) (constant es 0) pi left pi) (sym (g .path))
-      (subst (λ (c : List ℕ). State (tails es) (heads es) (weights es) c (constant es 0) pi left pi) (sym (constant-map 1 es))
-      (path-state (st .n) (st .s) es pi left (fits (g .accepted)) (g .none) supply)))
+  none-yet : VertexList (st .n) (λ v. 0) Pi
+  none-yet = record { len = length-replicate (length left) 0 ∙ g .stands .len; entries = λ v h. zero-at (length left) v }
 
-  -- ---- after the search
+  no-amounts : X ≡ constant es 0
+  no-amounts = ap zeroList (packed-length (st .question) rs arcs (g .packs) ∙ sym (length-map rs recordArc))
 
-  module _ {key par : List ℕ} (F : Found (network arcs x pi) left key par) where
-    pub key-length : length key ≡ st .n
-    key-length = F .key-len ∙ g .stands .len
+  two : TwoVertices st
+  two = subst (λ (q : Question). EndsFor q st) (g .path) (g .accepted .opened .ends)
 
-    pub sink-below : st .t < length key
-    sink-below = let two : TwoVertices st = subst (λ (q : Question). EndsFor q st) (g .path) (g .accepted .opened .ends) in omega (arith, key-length, two .sink-below)
+  may-send : sendable arcs (st .t) (length x) (length left) (length key) ≡ true
+  may-send =
+      both-on (ltb (st .t) (length left) && eqb (length key) (length left)) (arcsFit arcs (length x) (length left)) true
+      (both-on (ltb (st .t) (length left)) (eqb (length key) (length left)) true
+      (lt-ltb (st .t) (length left) (omega (arith, two .sink-below, g .stands .len))) (eq-eqb (length key) (length left) (g .key-len ∙ sym (g .stands .len))))
+      (subst (λ (j : ℕ). arcsFit arcs (length x) j ≡ true) (sym (g .stands .len))
+      (packed-fit (st .question) (st .n) (length x) rs arcs (fits (g .accepted)) (g .packs) (g .amounts)))
 
-    pub push-linked : ArcsLinked arcs par key x left
-    push-linked = linked state F
+  same : residualOf arcs X Pi ≡ residual (tails es) (heads es) (costs (st .question) es) (capacities (st .question) es) (constant es 0) Pi
+  same = λ i. residual ((ap tailsOf (g .packs) ∙ same-tails (st .question) rs) i) ((ap headsOf (g .packs) ∙ same-heads (st .question) rs) i)
+      ((ap costsOf (g .packs) ∙ same-costs (st .question) rs) i) ((ap capacitiesOf (g .packs) ∙ same-capacities (st .question) rs) i) (no-amounts i) Pi
 
-    pub distance-low : (v : ℕ) → v < length key → numberOf distance (entry key v) ≤ 8388607
-    distance-low v h = ⊎-elim (λ r. omega (arith, r .distance, near-enough state F v h (r .below))) (λ r. omega (arith, r .distance)) (sight key v)
+  -- ---- what it gives
 
-    found : Found (net (tails es) (heads es) (costs (st .question) es) (capacities (st .question) es) (constant es 0) pi) left key par
-    found = subst (λ (N : Net). Found N left key par) same F
+  module _ {key' par : List ℕ} (S : PackedPhaseState arcs X Pi left Pi) (F : SearchResult (residualOf arcs X Pi) left key' par) where
+    state : PhaseState (tails es) (heads es) (costs (st .question) es) (capacities (st .question) es) (constant es 0) Pi left Pi
+    state = subst (λ (N : ResidualNetwork). PhaseState (N .from) (N .to) (N .cost) (N .cap) (N .x) Pi left Pi) same S
 
-    pub path-answer : {x' left' : List ℕ} {ys : List ℤ} {k : ℕ} → entry key (st .t) < unreached → ArcsMoved arcs par key x left x' left' (st .t) 1 k → Written distance key ys
-        → Solution st (recordArcs rs) ys x' 1
-    path-answer {x'} {left'} {ys} {k} near M w =
-        path-solution (g .accepted) (g .path) (g .none) (g .stands) found near
-        (subst (λ (N : Net). Moved (N .from) (N .to) (N .cap) par key (N .x) left x' left' (st .t) 1 k) same M) w
+    found : SearchResult (residual (tails es) (heads es) (costs (st .question) es) (capacities (st .question) es) (constant es 0) Pi) left key' par
+    found = subst (λ (N : ResidualNetwork). SearchResult N left key' par) same F
 
-    pub no-path-answer : {ys : List ℤ} → unreached ≤ entry key (st .t) → Written mark key ys → Solution st (recordArcs rs) ys x 2
-    no-path-answer {ys} far w =
-        subst (λ (l : List ℕ). Solution st (recordArcs rs) ys l 2) (sym (g .amounts))
-        (no-path-solution (g .accepted) (g .path) (g .none) (g .stands) found far w)
+    pub keys-length : length key' ≡ st .n
+    keys-length = F .key-len ∙ g .stands .len
+
+    low : (v : ℕ) → v < length key' → numberOf Distance (entry key' v) ≤ 8388607
+    low v h = ⊎-elim (λ r. omega (arith, r .distance, near-enough S F v h (r .below))) (λ r. omega (arith, r .distance)) (sight key' v)
+
+  -- the outcome of the call, taken apart
+  pub record Reach (x' left' key' : List ℕ) (k : ℕ) : Type 0 where
+    pub par : List ℕ
+    pub state : PackedPhaseState arcs X Pi left Pi
+    pub found : SearchResult (residualOf arcs X Pi) left key' par
+    pub near : entry key' (st .t) < unreached
+    pub moved : PackedMoved arcs par key' X left x' left' (st .t) 1 k
+
+  pub record Miss (x' left' key' : List ℕ) : Type 0 where
+    pub par : List ℕ
+    pub state : PackedPhaseState arcs X Pi left Pi
+    pub found : SearchResult (residualOf arcs X Pi) left key' par
+    pub far : unreached ≤ entry key' (st .t)
+    pub same-amounts : x' ≡ X
+
+  abbrev pub SentCase : List ℕ → List ℕ → List ℕ → Sent → Type 0
+  SentCase x' left' key' (Reached k) = Reach x' left' key' k
+  SentCase x' left' key' Unreached = Miss x' left' key'
+  SentCase x' left' key' Refused = ⊥
+
+  pub sent-case : {x' left' key' : List ℕ} {r : Sent} → SendOutcome arcs (st .t) 1 x left key x' left' key' r → SentCase x' left' key' r
+  sent-case (SendOutcome.refused off ex el ek) = absurd (false≢true (sym off ∙ may-send))
+  sent-case {x'} {left'} {key'} {r} (SendOutcome.answered ok S a) = go a
+    where
+      go : {q : Sent} → SearchAndPush arcs X Pi left x' left' key' (st .t) 1 q → SentCase x' left' key' q
+      go (SearchAndPush.away par F far ex el) = record { par = par; state = S; found = F; far = far; same-amounts = ex }
+      go (SearchAndPush.reached par F near k M) = record { par = par; state = S; found = F; near = near; moved = M }
+
+  pub path-answer : {x' left' key' : List ℕ} {ys : List ℤ} {k : ℕ} → Reach x' left' key' k → NodeNumbers Distance key' ys → Solution st (recordArcs rs) ys x' 1
+  path-answer {x'} {left'} {key'} {ys} {k} r w =
+      path-solution (g .accepted) (g .path) none-yet (g .stands) (state (r .state) (r .found)) (found (r .state) (r .found)) (r .near)
+      (subst (λ (N : ResidualNetwork). Moved (N .from) (N .to) (N .cap) (r .par) key' (N .x) left x' left' (st .t) 1 k) same (r .moved)) w
+
+  pub no-path-answer : {x' left' key' : List ℕ} {ys : List ℤ} → Miss x' left' key' → NodeNumbers Mark key' ys → Solution st (recordArcs rs) ys x' 2
+  no-path-answer {x'} {left'} {key'} {ys} r w =
+      subst (λ (l : List ℕ). Solution st (recordArcs rs) ys l 2) (sym (r .same-amounts ∙ no-amounts))
+      (no-path-solution (g .accepted) (g .path) none-yet (g .stands) (state (r .state) (r .found)) (found (r .state) (r .found)) (r .far) w)
+
+  -- the distances can be written
+  pub distances-low : {x' left' key' : List ℕ} {k : ℕ} → Reach x' left' key' k → (v : ℕ) → v < length key' → numberOf Distance (entry key' v) ≤ 8388607
+  distances-low r = low (r .state) (r .found)

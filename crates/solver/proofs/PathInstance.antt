@@ -8,7 +8,7 @@ use Prim.Native.Nat.{ℕ, zero, suc, _+_, _-_, _*_, _/_, _%_, _<_, _≤_}
 use native.Mathlib.Omega.{arith}
 use native.Mathlib.Decide.{ℕ-discrete}
 use borrow.Author.Tests.{eq-eqb, ne-eqb}
-use lib.ListN.{length, length-replicate}
+use lib.ListN.{length}
 use lib.IntN.{pos}
 use Rattle.prelude.specs.Lists.{Every, Member}
 use Rattle.prelude.proofs.Integers.{signed}
@@ -19,22 +19,18 @@ use Rattle.network.specs.Certificate.{marked, pathBalance, PathCertificate, NoP
 use Rattle.network.proofs.Sums.{Inside, Compared, compared, delta-same}
 use Rattle.network.proofs.Paths.{walk-above, no-walk}
 use Rattle.network.proofs.Sound.{balance-parts}
-use Rattle.solver.specs.Net.{entry, unreached, net, over, ParentArc}
-use Rattle.solver.specs.Flow.{Moved}
-use Rattle.solver.specs.Phase.{Found, State}
-use Rattle.solver.specs.Instance.{Fits, tails, heads, weights, constant, loadsOf, Filled, single, distanceOf, potentialOf, markOf, toward}
-use Rattle.solver.proofs.Phases.{opened}
-use Rattle.solver.proofs.Columns.{zeros-at, constant-at, when-delta, weights-low, index-every, since-none, index, loads-arcs, arcAt, every-arc, every-load, column-len, paid-cost, fallen, Carried, carried-by, as-much, Seen, seen, unseen, sight, marks-fit, no-cross, few-arcs, near-enough, leads-on, from-left, start-state}
-
--- the state in which the engine searches
-pub path-state : (n s : ℕ) (es : List Arc) (pi left : List ℕ) → Fits n es → Filled n (λ v. 0) pi → Filled n (single s 1) left
-    → State (tails es) (heads es) (weights es) (constant es 1) (constant es 0) pi left pi
-path-state n s es pi left fits none supply =
-    start-state n es (weights es) (constant es 1) pi left pi fits (column-len (λ e. e .weight) es) (length-replicate (length es) 1) (weights-low es (fits .light)) none (supply .len) (none .len)
+use Rattle.engine.specs.Residual.{entry, unreached, residual, keyBeyond, ParentArc}
+use Rattle.engine.specs.Push.{Moved}
+use Rattle.engine.specs.Phase.{SearchResult, PhaseState}
+use Rattle.solver.specs.Instance.{Fits, tails, heads, weights, constant, loadsOf, VertexList, single, distanceOf, potentialOf, markOf, toward}
+use Rattle.engine.proofs.PhaseLaws.{opened}
+use Rattle.engine.proofs.LastSearch.{few-arcs, near-enough, leads-on, from-left}
+use Rattle.engine.proofs.LentParts.{zero-at}
+use Rattle.solver.proofs.ColumnsAndLoads.{constant-at, when-delta, index-every, since-none, index, loads-arcs, columnArc, every-arc, every-load, column-len, paid-cost, fallen, Carried, carried-by, as-much, Seen, seen, unseen, sight, marks-fit, no-cross}
 
 -- ---- walks
 
-member-at : (es : List Arc) (e : ℕ) → e < length es → Member (arcAt es e) es
+member-at : (es : List Arc) (e : ℕ) → e < length es → Member (columnArc es e) es
 member-at [] e h = absurd (omega arith)
 member-at (a ∷ es) zero h = inl refl
 member-at (a ∷ es) (suc e) h = inr (member-at es e (omega arith))
@@ -69,17 +65,15 @@ go-on es s d e m w = record {
   length-is = omega (arith, total-snoc (w .path) e, w .length-is);
 }
 
-module _ (st : Setting) (es : List Arc) (fits : Fits (st .n) es) (hs : st .s < st .n) {pi left key par : List ℕ}
-    (none : Filled (st .n) (λ v. 0) pi) (supply : Filled (st .n) (single (st .s) 1) left)
-    (F : Found (net (tails es) (heads es) (weights es) (constant es 1) (constant es 0) pi) left key par) where
-  state : State (tails es) (heads es) (weights es) (constant es 1) (constant es 0) pi left pi
-  state = path-state (st .n) (st .s) es pi left fits none supply
-
+module _ (st : Setting) (es : List Arc) (fits : Fits (st .n) es) (hs : st .s < st .n) {pi left need key par : List ℕ}
+    (none : VertexList (st .n) (λ v. 0) pi) (supply : VertexList (st .n) (single (st .s) 1) left)
+    (state : PhaseState (tails es) (heads es) (weights es) (constant es 1) (constant es 0) pi left need)
+    (F : SearchResult (residual (tails es) (heads es) (weights es) (constant es 1) (constant es 0) pi) left key par) where
   vertex : (v : ℕ) → v < st .n → v < length key
   vertex v h = omega (arith, F .key-len, supply .len)
 
   room : (e : ℕ) → e < length es → entry (constant es 0) e < entry (constant es 1) e
-  room e h = omega (arith, zeros-at (length es) e, constant-at es 1 e h)
+  room e h = omega (arith, zero-at (length es) e, constant-at es 1 e h)
 
   -- the ends of an arc have no potentials
   flat : (e : ℕ) → e < length es → (entry pi (entry (tails es) e) ≡ 0) × (entry pi (entry (heads es) e) ≡ 0)
@@ -99,15 +93,15 @@ module _ (st : Setting) (es : List Arc) (fits : Fits (st .n) es) (hs : st .s < s
   -- and its head is no further than its tail and its weight
   arc-feasible : (e : ℕ) → e < length es → distanceOf key (entry (heads es) e) ≤ distanceOf key (entry (tails es) e) + entry (weights es) e
   arc-feasible e h = ⊎-elim
-      (λ r. omega (arith, r .distance, seen key (entry (heads es) e) (arc-on e h (r .below)) .distance, F .done e (index es e h) .forward (room e h) (r .below), flat e h, counted e h (r .below)))
+      (λ r. omega (arith, r .distance, seen key (entry (heads es) e) (arc-on e h (r .below)) .distance, F .relaxed e (index es e h) .forward (room e h) (r .below), flat e h, counted e h (r .below)))
       (λ r. omega (arith, r .distance, in-reach (entry (heads es) e) (every-arc (Inside (st .n)) es (fits .inside) e h .1)))
       (sight key (entry (tails es) e))
 
   -- the arc by which a vertex was reached is as long as the difference
   arc-by : (e : ℕ) → e < length es → entry key (entry (tails es) e) < unreached → entry key (entry (heads es) e) < unreached
-      → over (entry key (entry (tails es) e)) (entry (weights es) e + entry pi (entry (tails es) e) - entry pi (entry (heads es) e)) ≤ entry key (entry (heads es) e)
+      → keyBeyond (entry key (entry (tails es) e)) (entry (weights es) e + entry pi (entry (tails es) e) - entry pi (entry (heads es) e)) ≤ entry key (entry (heads es) e)
       → entry key (entry (heads es) e) / 256 ≡ entry key (entry (tails es) e) / 256 + entry (weights es) e
-  arc-by e h r q o = omega (arith, F .done e (index es e h) .forward (room e h) r, flat e h, counted e h r)
+  arc-by e h r q o = omega (arith, F .relaxed e (index es e h) .forward (room e h) r, flat e h, counted e h r)
 
   -- the source is reached
   source-zero : entry key (st .s) ≡ 0
@@ -121,8 +115,8 @@ module _ (st : Setting) (es : List Arc) (fits : Fits (st .n) es) (hs : st .s < s
     marks = marks-fit st key;
     source = source-seen .mark;
     sink = unseen key (st .t) far .mark;
-    amounts = every-load NoAmount es (constant es 0) (λ e h. zeros-at (length es) e);
-    closed = every-load (Closed (markOf key)) es (constant es 0) (λ e h. no-cross key (arcAt es e) (arc-on e h));
+    amounts = every-load NoAmount es (constant es 0) (λ e h. zero-at (length es) e);
+    closed = every-load (Closed (markOf key)) es (constant es 0) (λ e h. no-cross key (columnArc es e) (arc-on e h));
   }
 
   -- a push of 1 moves 1
@@ -144,9 +138,9 @@ module _ (st : Setting) (es : List Arc) (fits : Fits (st .n) es) (hs : st .s < s
     }
 
     arc-tight : (e : ℕ) → e < length es → 0 < entry x' e → distanceOf key (entry (heads es) e) ≡ distanceOf key (entry (tails es) e) + entry (weights es) e
-    arc-tight e h p = ⊎-elim (λ q. absurd (omega (arith, zeros-at (length es) e))) (λ u. go (entry par (u .by)) (u .by) (u .reached) (F .tree (u .by) (u .by-ok) (u .reached) (u .not-root)) (u .code)) (M .only e)
+    arc-tight e h p = ⊎-elim (λ q. absurd (omega (arith, zero-at (length es) e))) (λ u. go (entry par (u .by)) (u .by) (u .reached) (F .tree (u .by) (u .by-ok) (u .reached) (u .not-root)) (u .code)) (M .only e)
       where
-        go : (code v : ℕ) → entry key v < unreached → ParentArc (net (tails es) (heads es) (weights es) (constant es 1) (constant es 0) pi) key code v → ((code ≡ e) ⊎ (code ≡ 4096 + e))
+        go : (code v : ℕ) → entry key v < unreached → ParentArc (residual (tails es) (heads es) (weights es) (constant es 1) (constant es 0) pi) key code v → ((code ≡ e) ⊎ (code ≡ 4096 + e))
             → distanceOf key (entry (heads es) e) ≡ distanceOf key (entry (tails es) e) + entry (weights es) e
         go code v k (ParentArc.forward i j t r o) (inl c) =
             subst (λ (z : ℕ). distanceOf key (entry (heads es) z) ≡ distanceOf key (entry (tails es) z) + entry (weights es) z) c
@@ -154,7 +148,7 @@ module _ (st : Setting) (es : List Arc) (fits : Fits (st .n) es) (hs : st .s < s
             let kc : entry key (entry (heads es) code) < unreached = omega (arith, ap (entry key) t) in
             omega (arith, seen key (entry (tails es) code) r .distance, seen key (entry (heads es) code) kc .distance, arc-by code hc r kc (omega (arith, ap (entry key) t))))
         go code v k (ParentArc.forward i j t r o) (inr c) = absurd (omega (arith, fits .few, column-len (λ e. e .tail) es))
-        go code v k (ParentArc.backward e' ec i j t r o) c = absurd (omega (arith, zeros-at (length es) e'))
+        go code v k (ParentArc.backward e' ec i j t r o) c = absurd (omega (arith, zero-at (length es) e'))
 
     balanced : PathBalances st f
     balanced v h = go (compared (st .s) v) (compared (st .t) v)
@@ -198,15 +192,15 @@ module _ (st : Setting) (es : List Arc) (fits : Fits (st .n) es) (hs : st .s < s
           root (inr (e, i)) = absurd (omega (arith, F .roots v (vertex v h) z, supply .entries v h))
       step (no z) ih = go (entry par v) (F .tree v (vertex v h) r (omega arith))
         where
-          go : (code : ℕ) → ParentArc (net (tails es) (heads es) (weights es) (constant es 1) (constant es 0) pi) key code v → Reached es (st .s) v (entry key v / 256)
+          go : (code : ℕ) → ParentArc (residual (tails es) (heads es) (weights es) (constant es 1) (constant es 0) pi) key code v → Reached es (st .s) v (entry key v / 256)
           go code (ParentArc.forward i j t q o) =
               let hc : code < length es = omega (arith, column-len (λ e. e .tail) es) in
               let kc : entry key (entry (heads es) code) < unreached = omega (arith, ap (entry key) t) in
               subst (λ (z : ℕ). Reached es (st .s) z (entry key z / 256)) t
               (subst (Reached es (st .s) (entry (heads es) code)) (sym (arc-by code hc q kc (omega (arith, ap (entry key) t))))
-              (go-on es (st .s) (entry key (entry (tails es) code) / 256) (arcAt es code) (member-at es code hc)
+              (go-on es (st .s) (entry key (entry (tails es) code) / 256) (columnArc es code) (member-at es code hc)
               (ih (entry (tails es) code) (every-arc (Inside (st .n)) es (fits .inside) code hc .0) q (omega arith))))
-          go code (ParentArc.backward e' ec i j t q o) = absurd (omega (arith, zeros-at (length es) e'))
+          go code (ParentArc.backward e' ec i j t q o) = absurd (omega (arith, zero-at (length es) e'))
 
   pub least-lengths : (v : ℕ) → v < st .n → entry key v < unreached → ShortestPath (toward st v) es (entry key v / 256)
   least-lengths v h near =
@@ -226,4 +220,4 @@ module _ (st : Setting) (es : List Arc) (fits : Fits (st .n) es) (hs : st .s < s
 
   pub no-walks : (v : ℕ) → unreached ≤ entry key v → NoWalk (toward st v) es
   no-walks v far = no-walk (toward st v) (marked (markOf key)) es (source-seen .inside) (unseen key v far .inside)
-      (index-every (λ e. crosses (marked (markOf key)) e ≡ false) es (λ e h. no-cross key (arcAt es e) (arc-on e h)))
+      (index-every (λ e. crosses (marked (markOf key)) e ≡ false) es (λ e h. no-cross key (columnArc es e) (arc-on e h)))

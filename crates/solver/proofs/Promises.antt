@@ -12,12 +12,12 @@ use Rattle.network.specs.Network.{Arc}
 use Rattle.network.specs.Question.{Setting, TrueAnswer}
 use Rattle.network.proofs.Promises.{one-answer, certificates-sound}
 use Rattle.solver.specs.Instance.{loadsOf}
-use Rattle.solver.specs.Certify.{recordArcs, Accepted, Solution, Outcome}
+use Rattle.solver.specs.Certify.{recordArcs, AcceptedNetwork, Solution, CertifyOutcome}
 use Rattle.solver.specs.Promises.{Decided, Decides}
-use Rattle.solver.proofs.Columns.{loads-arcs}
+use Rattle.solver.proofs.ColumnsAndLoads.{loads-arcs}
 use Rattle.solver.proofs.Solutions.{accepted}
 
-decided : (st : Setting) (net : List Arc) (ys : List ℤ) (xs : List ℕ) (reply : ℕ) → Accepted st net → Solution st net ys xs reply → Decided st net reply
+decided : (st : Setting) (net : List Arc) (ys : List ℤ) (xs : List ℕ) (reply : ℕ) → AcceptedNetwork st net → Solution st net ys xs reply → Decided st net reply
 decided st net ys xs reply a s = record { answer = s .answer; is-true = truth; only = λ b h. one-answer st net b (s .answer) h truth; reply-is = s .reply-is }
   where
     truth : TrueAnswer st net (s .answer)
@@ -26,6 +26,6 @@ decided st net ys xs reply a s = record { answer = s .answer; is-true = truth; o
         (subst (λ (l : List Arc). Perm l net) (sym (loads-arcs net xs)) (perm-refl net)) (s .certified)
 
 pub decides : Decides
-decides q st rs ys ys' xs xs' reply ok (Outcome.refused n p r k) = absurd (false≢true (sym n ∙ ok))
-decides q st rs ys ys' xs xs' reply ok (Outcome.solved o p r s) =
+decides q st rs ys ys' xs xs' reply ok (CertifyOutcome.refused n p r k) = absurd (false≢true (sym n ∙ ok))
+decides q st rs ys ys' xs xs' reply ok (CertifyOutcome.solved o p r s) =
     decided st (recordArcs rs) ys' xs' reply (accepted q st rs (length ys) (length xs) ok .0) s

@@ -22,17 +22,19 @@ use Rattle.network.specs.Certificate.{CertifiedFor, FlowCertificate}
 use Rattle.network.specs.Tests.{openingChecks, arcChecks, Claim, ofValue, ofNone, claimNumber, claimFor}
 use Rattle.network.proofs.Allowed.{size-rule, ends-rule, joins-rule, weight-rule}
 use Rattle.network.proofs.Sums.{Inside}
-use Rattle.solver.specs.Net.{entry, unreached, net}
-use Rattle.solver.specs.Arcs.{tailsOf, headsOf, costsOf, capacitiesOf}
-use Rattle.solver.specs.Flow.{Moved}
-use Rattle.solver.specs.Phase.{Found, Solved}
-use Rattle.solver.specs.Instance.{Fits, tails, heads, weights, constant, loadsOf, Filled, single, markOf, toward}
-use Rattle.solver.specs.Certify.{recordArc, recordArcs, recordOk, admissible, Accepted, costFor, capacityFor, packedFor, costs, capacities, standingFor, standing, RunFor, Run, Kind, mark, distance, potential, numberOf, Written, Wanting, toldBy, Told, LengthsFor, Solution}
-use Rattle.solver.proofs.Columns.{loads-arcs, Seen, Unseen, sight}
+use Rattle.engine.specs.Residual.{entry, unreached, residual}
+use Rattle.engine.specs.PackedArcs.{tailsOf, headsOf, costsOf, capacitiesOf}
+use Rattle.engine.specs.Push.{Moved}
+use Rattle.engine.specs.Phase.{SearchResult, PhaseState, Solved}
+use Rattle.solver.specs.Instance.{Fits, tails, heads, weights, constant, loadsOf, VertexList, single, markOf, toward}
+use Rattle.solver.specs.Certify.{recordArc, recordArcs, recordOk, admissible, AcceptedNetwork, costFor, capacityFor, packedFor, costs, capacities, standingFor, standing, EngineRunFor, EngineRun, numberOf, NodeNumbers, Wanting, toldBy, Told, LengthsFor, Solution}
+use Rattle.solver.specs.declared.vertices.NumberKind.{NumberKind}
+use Rattle.solver.specs.declared.vertices.NumberKind.the-variants.{Mark, Distance, Potential}
+use Rattle.solver.proofs.ColumnsAndLoads.{loads-arcs, Seen, Unseen, sight}
 use Rattle.solver.proofs.PathInstance.{path-certificate, no-path-certificate, least-lengths, no-walks, moved-one}
 use Rattle.solver.proofs.FlowInstance.{flow-certificate, total-most}
 use Rattle.solver.proofs.AssignmentInstance.{assignment-certificate, no-assignment-certificate}
-use Rattle.solver.proofs.Agreement.{flow-too, no-path-too, no-assignment-too}
+use Rattle.solver.proofs.AgreeingMarks.{flow-too, no-path-too, no-assignment-too}
 
 -- ---- what is accepted
 
@@ -47,7 +49,7 @@ parts true true false d e t = absurd t
 parts true false c d e t = absurd t
 parts false b c d e t = absurd t
 
-pub accepted : (q : ℕ) (st : Setting) (rs : List ℕ) (i j : ℕ) → admissible q st rs i j ≡ true → Accepted st (recordArcs rs) × (i ≡ st .n) × (j ≡ length rs)
+pub accepted : (q : ℕ) (st : Setting) (rs : List ℕ) (i j : ℕ) → admissible q st rs i j ≡ true → AcceptedNetwork st (recordArcs rs) × (i ≡ st .n) × (j ≡ length rs)
 accepted q st rs i j e =
     let a : T (all-of (eqb (firstBroken (openingChecks q st)) 0) (leb (length rs) 4096) (eqb i (st .n)) (eqb j (length rs)) (all (recordOk st) rs)) = true→T (admissible q st rs i j) e in
     let h = parts (eqb (firstBroken (openingChecks q st)) 0) (leb (length rs) 4096) (eqb i (st .n)) (eqb j (length rs)) (all (recordOk st) rs) a in
@@ -66,7 +68,7 @@ accepted q st rs i j e =
         let h = none-broken (arcChecks st (recordArc r)) (refl, (refl, tt)) (eqb→eq (firstBroken (arcChecks st (recordArc r))) 0 t) in
         record { joins = joins-rule st (recordArc r) (h .0); weight-within = weight-rule (recordArc r) (h .1 .0) }
 
-module _ {st : Setting} {es : List Arc} (a : Accepted st es) where
+module _ {st : Setting} {es : List Arc} (a : AcceptedNetwork st es) where
   inside : Every (Inside (st .n)) es
   inside = every-map (λ e (h : Allowed st e). (h .joins .tail-below, h .joins .head-below)) es (a .allowed)
 
@@ -92,7 +94,7 @@ same-heads q [] = refl
 same-heads q (r ∷ rs) = ap₂ (λ (k : ℕ) (l : List ℕ). k ∷ l) (omega arith) (same-heads q rs)
 
 -- costs and capacities stay below 65536
-cost-low : (q : Question) (w : ℕ) → w < 65536 → costFor q w < 65536
+pub cost-low : (q : Question) (w : ℕ) → w < 65536 → costFor q w < 65536
 cost-low shortestPath w h = h
 cost-low maximumFlow w h = omega arith
 cost-low assignment w h = h
@@ -120,7 +122,7 @@ constant-map k (e ∷ es) = ap (λ (l : List ℕ). k ∷ l) (constant-map k es)
 
 -- ---- what was written
 
-pub written-at : (kind : Kind) (from : List ℕ) (ys : List ℤ) → numberOf kind 0 ≡ 0 → Written kind from ys → at ys ≡ (λ v. pos (numberOf kind (entry from v)))
+pub written-at : (kind : NumberKind) (from : List ℕ) (ys : List ℤ) → numberOf kind 0 ≡ 0 → NodeNumbers kind from ys → at ys ≡ (λ v. pos (numberOf kind (entry from v)))
 written-at kind from ys z w = fun-ext (λ v. go v (decLt v (length from)))
   where
     go : (v : ℕ) → Dec (v < length from) → at ys v ≡ pos (numberOf kind (entry from v))
@@ -142,20 +144,20 @@ module _ (st : Setting) (es : List Arc) where
   }
 
 -- one key for each vertex
-pub keys : {q : Question} {st : Setting} {es : List Arc} {x' pi' need' key' : List ℕ} → RunFor q st es x' pi' need' key' → length key' ≡ st .n
+pub keys : {q : Question} {st : Setting} {es : List Arc} {x' pi' need' key' : List ℕ} → EngineRunFor q st es x' pi' need' key' → length key' ≡ st .n
 keys r = r .solved .found .key-len ∙ r .solved .left-len ∙ r .supply .len
 
-module _ {st : Setting} {es : List Arc} (a : Accepted st es) where
+module _ {st : Setting} {es : List Arc} (a : AcceptedNetwork st es) where
   -- ---- maximum flow
 
-  pub flow-solution : {x' pi' need' key' : List ℕ} {ys : List ℤ} → st .question ≡ maximumFlow → Run st es x' pi' need' key' → Written mark key' ys → Solution st es ys x' 1
+  pub flow-solution : {x' pi' need' key' : List ℕ} {ys : List ℤ} → st .question ≡ maximumFlow → EngineRun st es x' pi' need' key' → NodeNumbers Mark key' ys → Solution st es ys x' 1
   flow-solution {x'} {pi'} {need'} {key'} {ys} e run w = solution st es maximumFlow e ys x' (value _) (flow-too st (markOf key') (at ys) same (loadsOf es x') _ (ends .source-below) (ends .sink-below) (loads-inside a x') certificate) tt
     where
       ends : TwoVertices st
       ends = subst (λ (q : Question). EndsFor q st) e (a .opened .ends)
 
-      r : RunFor maximumFlow st es x' pi' need' key'
-      r = subst (λ (q : Question). RunFor q st es x' pi' need' key') e run
+      r : EngineRunFor maximumFlow st es x' pi' need' key'
+      r = subst (λ (q : Question). EngineRunFor q st es x' pi' need' key') e run
 
       same : (v : ℕ) → v < st .n → markOf key' v ≡ at ys v
       same v h = sym (w .each v (omega (arith, keys r)))
@@ -167,9 +169,9 @@ module _ {st : Setting} {es : List Arc} (a : Accepted st es) where
 
   -- ---- assignment
 
-  module _ {x' pi' need' key' : List ℕ} (e : st .question ≡ assignment) (run : Run st es x' pi' need' key') where
-    r : RunFor assignment st es x' pi' need' key'
-    r = subst (λ (q : Question). RunFor q st es x' pi' need' key') e run
+  module _ {x' pi' need' key' : List ℕ} (e : st .question ≡ assignment) (run : EngineRun st es x' pi' need' key') where
+    r : EngineRunFor assignment st es x' pi' need' key'
+    r = subst (λ (q : Question). EngineRunFor q st es x' pi' need' key') e run
 
     even : st .n % 2 ≡ 0
     even = subst (λ (q : Question). EvenFor q (st .n)) e (a .opened .sized .even)
@@ -180,14 +182,14 @@ module _ {st : Setting} {es : List Arc} (a : Accepted st es) where
     asked : Solved (tails es) (heads es) (weights es) (constant es 2) (constant es 0) (r .pi) (r .left) (r .need) x' pi' (r .left') need' key' (r .par')
     asked = subst (λ (c : List ℕ). Solved (tails es) (heads es) (weights es) c (constant es 0) (r .pi) (r .left) (r .need) x' pi' (r .left') need' key' (r .par')) (constant-map 2 es) (r .solved)
 
-    pub assignment-solution : {ys : List ℤ} → ((v : ℕ) → entry need' v ≡ 0) → Written potential pi' ys → Solution st es ys x' 1
+    pub assignment-solution : {ys : List ℤ} → ((v : ℕ) → entry need' v ≡ 0) → NodeNumbers Potential pi' ys → Solution st es ys x' 1
     assignment-solution {ys} met w =
         solution st es assignment e ys x' (value (cost (loadsOf es x')))
-        (subst (λ (y : ℕ → ℤ). CertifiedFor assignment st y (loadsOf es x') (value (cost (loadsOf es x')))) (sym (written-at potential pi' ys refl w))
+        (subst (λ (y : ℕ → ℤ). CertifiedFor assignment st y (loadsOf es x') (value (cost (loadsOf es x')))) (sym (written-at Potential pi' ys refl w))
         (assignment-certificate st es (fits a) even sides (r .supply) (r .demand) asked (λ v h. met v)))
         tt
 
-    pub no-assignment-solution : {ys : List ℤ} → Wanting need' → Written mark key' ys → Solution st es ys (constant es 0) 2
+    pub no-assignment-solution : {ys : List ℤ} → Wanting need' → NodeNumbers Mark key' ys → Solution st es ys (constant es 0) 2
     no-assignment-solution {ys} u w =
         solution st es assignment e ys (constant es 0) none
         (no-assignment-too st (markOf key') (at ys) (λ v h. sym (w .each v (omega (arith, keys r)))) (loadsOf es (constant es 0)) (loads-inside a (constant es 0))
@@ -196,18 +198,23 @@ module _ {st : Setting} {es : List Arc} (a : Accepted st es) where
 
   -- ---- shortest path
 
-  module _ {pi left key par : List ℕ} (e : st .question ≡ shortestPath)
-      (none-yet : Filled (st .n) (λ v. 0) pi) (stands : Filled (st .n) (standing st false) left)
-      (found : Found (net (tails es) (heads es) (costs (st .question) es) (capacities (st .question) es) (constant es 0) pi) left key par) where
+  module _ {pi left need key par : List ℕ} (e : st .question ≡ shortestPath)
+      (none-yet : VertexList (st .n) (λ v. 0) pi) (stands : VertexList (st .n) (standing st false) left)
+      (state : PhaseState (tails es) (heads es) (costs (st .question) es) (capacities (st .question) es) (constant es 0) pi left need)
+      (found : SearchResult (residual (tails es) (heads es) (costs (st .question) es) (capacities (st .question) es) (constant es 0) pi) left key par) where
     two : TwoVertices st
     two = subst (λ (q : Question). EndsFor q st) e (a .opened .ends)
 
-    supply : Filled (st .n) (single (st .s) 1) left
-    supply = subst (λ (q : Question). Filled (st .n) (standingFor q st false) left) e stands
+    supply : VertexList (st .n) (single (st .s) 1) left
+    supply = subst (λ (q : Question). VertexList (st .n) (standingFor q st false) left) e stands
 
-    F : Found (net (tails es) (heads es) (weights es) (constant es 1) (constant es 0) pi) left key par
-    F = subst (λ (c : List ℕ). Found (net (tails es) (heads es) (weights es) c (constant es 0) pi) left key par) (constant-map 1 es)
-        (subst (λ (q : Question). Found (net (tails es) (heads es) (costs q es) (capacities q es) (constant es 0) pi) left key par) e found)
+    F : SearchResult (residual (tails es) (heads es) (weights es) (constant es 1) (constant es 0) pi) left key par
+    F = subst (λ (c : List ℕ). SearchResult (residual (tails es) (heads es) (weights es) c (constant es 0) pi) left key par) (constant-map 1 es)
+        (subst (λ (q : Question). SearchResult (residual (tails es) (heads es) (costs q es) (capacities q es) (constant es 0) pi) left key par) e found)
+
+    S : PhaseState (tails es) (heads es) (weights es) (constant es 1) (constant es 0) pi left need
+    S = subst (λ (c : List ℕ). PhaseState (tails es) (heads es) (weights es) c (constant es 0) pi left need) (constant-map 1 es)
+        (subst (λ (q : Question). PhaseState (tails es) (heads es) (costs q es) (capacities q es) (constant es 0) pi left need) e state)
 
     n-keys : length key ≡ st .n
     n-keys = F .key-len ∙ supply .len
@@ -216,7 +223,7 @@ module _ {st : Setting} {es : List Arc} (a : Accepted st es) where
     true-at v b = subst (λ (q : Question). TrueFor q (toward st v) es b) (sym e)
 
     -- what the number of a key tells, where it is told in both cases
-    tells : (kind : Kind) (c : Claim) {ys : List ℤ} → Written kind key ys
+    tells : (kind : NumberKind) (c : Claim) {ys : List ℤ} → NodeNumbers kind key ys
         → ((k : ℕ) → k < unreached → pos (numberOf kind k) ≡ toldBy c (value (k / 256)))
         → ((k : ℕ) → unreached ≤ k → pos (numberOf kind k) ≡ toldBy c none) → (v : ℕ) → v < st .n → Told st es c (at ys) v
     tells kind c {ys} w near far v h = go (sight key v)
@@ -224,23 +231,23 @@ module _ {st : Setting} {es : List Arc} (a : Accepted st es) where
         go : Seen key v ⊎ Unseen key v → Told st es c (at ys) v
         go (inl r) = record {
           answer = value (entry key v / 256);
-          is-true = true-at v (value (entry key v / 256)) (least-lengths st es (fits a) (two .source-below) none-yet supply F v h (r .below));
+          is-true = true-at v (value (entry key v / 256)) (least-lengths st es (fits a) (two .source-below) none-yet supply S F v h (r .below));
           told = w .each v (omega (arith, n-keys)) ∙ near (entry key v) (r .below);
         }
         go (inr r) = record {
           answer = none;
-          is-true = true-at v none (no-walks st es (fits a) (two .source-below) none-yet supply F v (r .above));
+          is-true = true-at v none (no-walks st es (fits a) (two .source-below) none-yet supply S F v (r .above));
           told = w .each v (omega (arith, n-keys)) ∙ far (entry key v) (r .above);
         }
 
     pub path-solution : {x' left' : List ℕ} {ys : List ℤ} {g : ℕ} → entry key (st .t) < unreached
-        → Moved (tails es) (heads es) (capacities (st .question) es) par key (constant es 0) left x' left' (st .t) 1 g → Written distance key ys
+        → Moved (tails es) (heads es) (capacities (st .question) es) par key (constant es 0) left x' left' (st .t) 1 g → NodeNumbers Distance key ys
         → Solution st es ys x' 1
     path-solution {x'} {left'} {ys} {g} near moved w =
         solution st es shortestPath e ys x' (value (entry key (st .t) / 256))
-        (subst (λ (y : ℕ → ℤ). CertifiedFor shortestPath st y (loadsOf es x') (value (entry key (st .t) / 256))) (sym (written-at distance key ys refl w))
-        (path-certificate st es (fits a) (two .source-below) none-yet supply F (two .sink-below) (two .apart) near one))
-        (tells distance ofValue w (λ k h. rw (lt-ltb k unreached h)) (λ k h. rw (le-ltb k unreached h)))
+        (subst (λ (y : ℕ → ℤ). CertifiedFor shortestPath st y (loadsOf es x') (value (entry key (st .t) / 256))) (sym (written-at Distance key ys refl w))
+        (path-certificate st es (fits a) (two .source-below) none-yet supply S F (two .sink-below) (two .apart) near one))
+        (tells Distance ofValue w (λ k h. rw (lt-ltb k unreached h)) (λ k h. rw (le-ltb k unreached h)))
       where
         some : Moved (tails es) (heads es) (constant es 1) par key (constant es 0) left x' left' (st .t) 1 g
         some = subst (λ (c : List ℕ). Moved (tails es) (heads es) c par key (constant es 0) left x' left' (st .t) 1 g) (constant-map 1 es)
@@ -248,11 +255,11 @@ module _ {st : Setting} {es : List Arc} (a : Accepted st es) where
 
         one : Moved (tails es) (heads es) (constant es 1) par key (constant es 0) left x' left' (st .t) 1 1
         one = subst (Moved (tails es) (heads es) (constant es 1) par key (constant es 0) left x' left' (st .t) 1)
-            (moved-one st es (fits a) (two .source-below) none-yet supply F some) some
+            (moved-one st es (fits a) (two .source-below) none-yet supply S F some) some
 
-    pub no-path-solution : {ys : List ℤ} → unreached ≤ entry key (st .t) → Written mark key ys → Solution st es ys (constant es 0) 2
+    pub no-path-solution : {ys : List ℤ} → unreached ≤ entry key (st .t) → NodeNumbers Mark key ys → Solution st es ys (constant es 0) 2
     no-path-solution {ys} far w =
         solution st es shortestPath e ys (constant es 0) none
         (no-path-too st (markOf key) (at ys) (λ v h. sym (w .each v (omega (arith, n-keys)))) (loadsOf es (constant es 0)) (two .source-below) (two .sink-below) (loads-inside a (constant es 0))
-        (no-path-certificate st es (fits a) (two .source-below) none-yet supply F far))
-        (tells mark ofNone w (λ k h. rw (lt-ltb k unreached h)) (λ k h. rw (le-ltb k unreached h)))
+        (no-path-certificate st es (fits a) (two .source-below) none-yet supply S F far))
+        (tells Mark ofNone w (λ k h. rw (lt-ltb k unreached h)) (λ k h. rw (le-ltb k unreached h)))

@@ -3,7 +3,7 @@
 use mathlib.Core.Path.{_≡_}
 use mathlib.Core.Bool.{Bool, true, false, _&&_}
 use mathlib.Core.List.{List, map}
-use Prim.Native.Nat.{ℕ, _+_, _*_, _/_, _%_, _<_, _≤_}
+use Prim.Native.Nat.{ℕ, _/_, _%_, _<_, _≤_}
 use lib.Dec.{eqb, ltb, leb}
 use lib.IntN.{ℤ, pos}
 use lib.ListN.{length}
@@ -14,9 +14,14 @@ use Rattle.network.specs.Network.{Arc, arcOf}
 use Rattle.network.specs.Question.{Question, shortestPath, maximumFlow, assignment, Setting, Opened, Allowed, Answer, value, none, TrueAnswer}
 use Rattle.network.specs.Certificate.{Certified}
 use Rattle.network.specs.Tests.{Claim, ofValue, ofNone, claimNumber, claimFor, openingChecks, arcChecks}
-use Rattle.solver.specs.Net.{entry, unreached}
-use Rattle.solver.specs.Phase.{Solved}
-use Rattle.solver.specs.Instance.{loadsOf, toward, single, atPumps, atSites, Filled, tails, heads, constant}
+use Rattle.engine.specs.Residual.{entry, unreached}
+use Rattle.engine.specs.PackedArcs.{packedArc}
+use Rattle.engine.specs.Phase.{Solved}
+use Rattle.solver.specs.declared.Finding.{Finding}
+use Rattle.solver.specs.declared.Finding.the-variants.{Value, None, Refused}
+use Rattle.solver.specs.declared.vertices.NumberKind.{NumberKind}
+use Rattle.solver.specs.declared.vertices.NumberKind.the-variants.{Mark, Distance, Potential}
+use Rattle.solver.specs.Instance.{loadsOf, toward, single, atPumps, atSites, VertexList, tails, heads, constant}
 
 -- ---- what is handed over
 
@@ -24,6 +29,7 @@ use Rattle.solver.specs.Instance.{loadsOf, toward, single, atPumps, atSi
 abbrev pub recordArc : ℕ → Arc
 recordArc r = arcOf (r / 16777216 % 256) (r / 65536 % 256) (r % 65536)
 
+-- The arcs of records, in order.
 abbrev pub recordArcs : List ℕ → List Arc
 recordArcs rs = map recordArc rs
 
@@ -37,79 +43,74 @@ admissible q st rs numbers amounts =
     eqb (firstBroken (openingChecks q st)) 0 && leb (length rs) 4096 && eqb numbers (st .n) && eqb amounts (length rs) && all (recordOk st) rs
 
 -- What is known of records that are answered.
-pub record Accepted (st : Setting) (net : List Arc) : Type 0 where
+pub record AcceptedNetwork (st : Setting) (net : List Arc) : Type 0 where
   pub opened : Opened st
   pub allowed : Every (Allowed st) net
   pub few : length net ≤ 4096
 
 -- ---- how the engine is asked
 
--- The cost and the capacity of an arc of weight w.
+-- The cost of an arc of weight w.
 abbrev pub costFor : Question → ℕ → ℕ
 costFor shortestPath w = w
 costFor maximumFlow w = 0
 costFor assignment w = w
 
+-- The capacity of an arc of weight w.
 abbrev pub capacityFor : Question → ℕ → ℕ
 capacityFor shortestPath w = 1
 capacityFor maximumFlow w = w
 capacityFor assignment w = 2
 
-abbrev pub packedArc : ℕ → ℕ → ℕ → ℕ → ℕ
-packedArc a b c k = a + 256 * b + 65536 * c + 4294967296 * k
-
+-- The arc of a record, packed for the engine.
 abbrev pub packedFor : Question → ℕ → ℕ
 packedFor q r = packedArc (r / 16777216 % 256) (r / 65536 % 256) (costFor q (r % 65536)) (capacityFor q (r % 65536))
 
--- What stands at the vertex v: the supply, or what is wanted. 134213633 is more than all arcs can carry.
+-- The vertex at which something stands: the supply at the source, what is wanted at the sink.
 abbrev pub endFor : Setting → Bool → ℕ
 endFor st wanted = pick wanted (st .t) (st .s)
 
+-- What stands at the vertex v: the supply, or what is wanted. 134213633 is more than all arcs can carry.
 abbrev pub standingFor : Question → Setting → Bool → ℕ → ℕ
 standingFor shortestPath st wanted v = single (endFor st wanted) 1 v
 standingFor maximumFlow st wanted v = single (endFor st wanted) 134213633 v
 standingFor assignment st wanted v = pick wanted (atSites st v) (atPumps st v)
 
+-- What stands at the vertex v for the question of the setting.
 abbrev pub standing : Setting → Bool → ℕ → ℕ
 standing st wanted v = standingFor (st .question) st wanted v
 
--- The columns of costs and capacities.
+-- The column of costs.
 abbrev pub costs : Question → List Arc → List ℕ
 costs q net = map (λ e. costFor q (e .weight)) net
 
+-- The column of capacities.
 abbrev pub capacities : Question → List Arc → List ℕ
 capacities q net = map (λ e. capacityFor q (e .weight)) net
 
--- The engine was asked the question q: what it gave back, from supplies, demands and potentials of 0.
-pub record RunFor (q : Question) (st : Setting) (net : List Arc) (x' pi' need' key' : List ℕ) : Type 0 where
+-- The engine was asked the question q: what it gave back, from supplies, demands and amounts of 0.
+pub record EngineRunFor (q : Question) (st : Setting) (net : List Arc) (x' pi' need' key' : List ℕ) : Type 0 where
   pub pi : List ℕ
   pub left : List ℕ
   pub need : List ℕ
   pub left' : List ℕ
   pub par' : List ℕ
-  pub supply : Filled (st .n) (standingFor q st false) left
-  pub demand : Filled (st .n) (standingFor q st true) need
+  pub supply : VertexList (st .n) (standingFor q st false) left
+  pub demand : VertexList (st .n) (standingFor q st true) need
   pub solved : Solved (tails net) (heads net) (costs q net) (capacities q net) (constant net 0) pi left need x' pi' left' need' key' par'
 
-abbrev pub Run : (st : Setting) (net : List Arc) (x' pi' need' key' : List ℕ) → Type 0
-Run st net x' pi' need' key' = RunFor (st .question) st net x' pi' need' key'
+-- The engine was asked the question of the setting.
+abbrev pub EngineRun : (st : Setting) (net : List Arc) (x' pi' need' key' : List ℕ) → Type 0
+EngineRun st net x' pi' need' key' = EngineRunFor (st .question) st net x' pi' need' key'
 
--- The number written for a vertex: a mark, a distance or a potential, read from k.
-pub data Kind : Type 0 where
-  mark : Kind
-  distance : Kind
-  potential : Kind
-
-abbrev pub kindOf : ℕ → Kind
-kindOf k = pick (eqb k 0) mark (pick (eqb k 1) distance potential)
-
-abbrev pub numberOf : Kind → ℕ → ℕ
-numberOf mark k = indicator (ltb k unreached)
-numberOf distance k = pick (ltb k unreached) (k / 256) 8322818
-numberOf potential k = k
+-- The node number written for a vertex, read from k: a mark or a distance from its key, or a potential as it stands.
+abbrev pub numberOf : NumberKind → ℕ → ℕ
+numberOf Mark k = indicator (ltb k unreached)
+numberOf Distance k = pick (ltb k unreached) (k / 256) 8322818
+numberOf Potential k = k
 
 -- The numbers written for the entries of a list.
-pub record Written (kind : Kind) (from : List ℕ) (ys : List ℤ) : Type 0 where
+pub record NodeNumbers (kind : NumberKind) (from : List ℕ) (ys : List ℤ) : Type 0 where
   pub len : length ys ≡ length from
   pub each : (v : ℕ) → v < length from → at ys v ≡ pos (numberOf kind (entry from v))
 
@@ -128,16 +129,23 @@ toldBy ofValue none = pos 8322818
 toldBy ofNone (value d) = pos 1
 toldBy ofNone none = pos 0
 
+-- The number of the vertex v tells the true answer for it.
 pub record Told (st : Setting) (net : List Arc) (c : Claim) (y : ℕ → ℤ) (v : ℕ) : Type 0 where
   pub answer : Answer
   pub is-true : TrueAnswer (toward st v) net answer
   pub told : y v ≡ toldBy c answer
 
--- "Route: node numbers are the least lengths … marks for none are 1 exactly where a walk from s leads."
+-- For a path every node number tells its vertex's own answer; the other questions ask no more than a certificate.
 abbrev pub LengthsFor : Question → Setting → List Arc → Claim → (ℕ → ℤ) → Type 0
 LengthsFor shortestPath st net c y = (v : ℕ) → v < st .n → Told st net c y v
 LengthsFor maximumFlow st net c y = Unit {0}
 LengthsFor assignment st net c y = Unit {0}
+
+-- The number of the claim that was found; 0 for a refusal.
+abbrev pub findingNumber : Finding → ℕ
+findingNumber Value = 1
+findingNumber None = 2
+findingNumber Refused = 0
 
 -- The annotation ys, xs is a certificate of the answer, and the reply its claim.
 pub record Solution (st : Setting) (net : List Arc) (ys : List ℤ) (xs : List ℕ) (reply : ℕ) : Type 0 where
@@ -147,8 +155,8 @@ pub record Solution (st : Setting) (net : List Arc) (ys : List ℤ) (xs : List �
   pub reply-is : reply ≡ claimNumber (claimFor answer)
 
 -- The outcome: refused, with nothing changed; or a certificate.
-pub data Outcome (q : ℕ) (st : Setting) (rs : List ℕ) (ys : List ℤ) (xs : List ℕ) (ys' : List ℤ) (xs' : List ℕ) (reply : ℕ) : Type 0 where
-  refused : admissible q st rs (length ys) (length xs) ≡ false → ys' ≡ ys → xs' ≡ xs → reply ≡ 0 → Outcome q st rs ys xs ys' xs' reply
+pub data CertifyOutcome (q : ℕ) (st : Setting) (rs : List ℕ) (ys : List ℤ) (xs : List ℕ) (ys' : List ℤ) (xs' : List ℕ) (reply : ℕ) : Type 0 where
+  refused : admissible q st rs (length ys) (length xs) ≡ false → ys' ≡ ys → xs' ≡ xs → reply ≡ 0 → CertifyOutcome q st rs ys xs ys' xs' reply
   solved :
       admissible q st rs (length ys) (length xs) ≡ true → length ys' ≡ length ys → length xs' ≡ length xs
-      → Solution st (recordArcs rs) ys' xs' reply → Outcome q st rs ys xs ys' xs' reply
+      → Solution st (recordArcs rs) ys' xs' reply → CertifyOutcome q st rs ys xs ys' xs' reply

@@ -11,7 +11,7 @@ use Rattle.prelude.specs.Choice.{pick, indicator}
 use Rattle.prelude.specs.Lists.{Every}
 use Rattle.network.specs.Network.{Arc, Load, delta}
 use Rattle.network.specs.Question.{Setting, pumps, WeightWithin}
-use Rattle.solver.specs.Net.{entry, unreached}
+use Rattle.engine.specs.Residual.{entry, unreached}
 
 -- What reading lets through: a network within the limits, whose arcs join vertices below n.
 pub record Fits (n : ℕ) (es : List Arc) : Type 0 where
@@ -22,13 +22,15 @@ pub record Fits (n : ℕ) (es : List Arc) : Type 0 where
 
 -- ---- by arc
 
--- The columns of a network: the tails, the heads and the weights of its arcs, in order.
+-- The tails of the arcs of a network, in order.
 abbrev pub tails : List Arc → List ℕ
 tails es = map (λ e. e .tail) es
 
+-- The heads of the arcs of a network, in order.
 abbrev pub heads : List Arc → List ℕ
 heads es = map (λ e. e .head) es
 
+-- Their weights.
 abbrev pub weights : List Arc → List ℕ
 weights es = map (λ e. e .weight) es
 
@@ -45,17 +47,19 @@ loadsOf (e ∷ es) (x ∷ xs) = record { arc = e; amount = x } ∷ loadsOf es xs
 -- ---- by vertex
 
 -- The list has an entry for each of n vertices, f v for the vertex v.
-pub record Filled (n : ℕ) (f : ℕ → ℕ) (l : List ℕ) : Type 0 where
+pub record VertexList (n : ℕ) (f : ℕ → ℕ) (l : List ℕ) : Type 0 where
   pub len : length l ≡ n
   pub entries : (v : ℕ) → v < n → entry l v ≡ f v
 
--- What the vertices have, by the question: a at the vertex k; 1 at every pump; 1 at every site; and 0 elsewhere.
+-- a at the vertex k, 0 elsewhere.
 abbrev pub single : ℕ → ℕ → ℕ → ℕ
 single k a v = a * delta k v
 
+-- 1 at every pump, 0 elsewhere.
 abbrev pub atPumps : Setting → ℕ → ℕ
 atPumps st v = indicator (ltb v (pumps st))
 
+-- 1 at every site, 0 elsewhere.
 abbrev pub atSites : Setting → ℕ → ℕ
 atSites st v = indicator (not (ltb v (pumps st)))
 

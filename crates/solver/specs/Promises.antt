@@ -9,7 +9,7 @@ use lib.ListN.{length}
 use Rattle.network.specs.Network.{Arc}
 use Rattle.network.specs.Question.{Setting, Answer, TrueAnswer}
 use Rattle.network.specs.Tests.{claimNumber, claimFor}
-use Rattle.solver.specs.Certify.{recordArcs, admissible, Outcome}
+use Rattle.solver.specs.Certify.{recordArcs, admissible, CertifyOutcome}
 
 -- There is a true answer, no other one is true, and the reply is its claim: a value exactly where a value is true.
 pub record Decided (st : Setting) (net : List Arc) (reply : ℕ) : Type 0 where
@@ -18,8 +18,8 @@ pub record Decided (st : Setting) (net : List Arc) (reply : ℕ) : Type 0 where
   pub only : (a : Answer) → TrueAnswer st net a → a ≡ answer
   pub reply-is : reply ≡ claimNumber (claimFor answer)
 
--- "A value claim exactly where a value exists", for all that is admissible.
+-- Whatever is admissible is decided: a value is claimed exactly where there is one.
 abbrev pub Decides : Type 0
 Decides =
     (q : ℕ) (st : Setting) (rs : List ℕ) (ys ys' : List ℤ) (xs xs' : List ℕ) (reply : ℕ)
-    → admissible q st rs (length ys) (length xs) ≡ true → Outcome q st rs ys xs ys' xs' reply → Decided st (recordArcs rs) reply
+    → admissible q st rs (length ys) (length xs) ≡ true → CertifyOutcome q st rs ys xs ys' xs' reply → Decided st (recordArcs rs) reply

@@ -1,21 +1,19 @@
-// Certificates for the three questions: a search and a push for a path, the engine for a flow and for an assignment.
+// Certificates for the three questions: a path that the engine sends along for a path, its phases for a flow and for an assignment.
 ghost use mathlib.Core.Path.{_≡_};
 ghost use mathlib.Core.Logic.{_≢_};
 ghost use lib.ListN.{length};
 ghost use Rattle.network.specs.Question.{shortestPath};
 ghost use Rattle.checks.specs.Setting.{asked};
-ghost use Rattle.solver.specs.Certify.{recordArcs, Accepted, Run, Solution};
-ghost use Rattle.solver.specs.Instance.{Filled, constant};
-use super::engine::UNREACHED;
-use super::engine::push;
-use super::engine::search;
-use super::engine::solve;
-use super::records::clear;
+ghost use Rattle.solver.specs.Certify.{recordArcs, findingNumber, AcceptedNetwork, EngineRun, Solution};
+use super::Finding;
 use super::records::pack;
+use super::vertices::NumberKind;
 use super::vertices::met;
 use super::vertices::stand;
 use super::vertices::write;
 use checks::Setting;
+use engine::Sent;
+use engine::clearing::clear_amounts;
 
 // Asks the engine the question of the setting: supplies, demands, packed records.
 fn run(
@@ -26,23 +24,21 @@ fn run(
     need: &mut [u32],
     key: &mut [u32],
 )
-    requires { ⌜ Accepted (asked st) (recordArcs (now records)) ⌝ }
-    requires { ⌜ now x ≡ constant (recordArcs (now records)) 0 ⌝ }
-    requires { ⌜ Filled (st .n) (λ v. 0) (now pi) × (length (now need) ≡ st .n) × (length (now key) ≡ st .n) ⌝ }
-    ensures { λ _. ⌜ Run (asked st) (recordArcs (now (records .entry))) (now (x .exit)) (now (pi .exit)) (now (need .exit)) (now (key .exit)) ⌝ }
+    requires { ⌜ AcceptedNetwork (asked st) (recordArcs (now records)) ⌝ }
+    requires { ⌜ (length (now x) ≡ length (now records)) × (length (now pi) ≡ st .n) × (length (now need) ≡ st .n) × (length (now key) ≡ st .n) ⌝ }
+    ensures { λ _. ⌜ EngineRun (asked st) (recordArcs (now (records .entry))) (now (x .exit)) (now (pi .exit)) (now (need .exit)) (now (key .exit)) ⌝ }
 {
     let n = key.len();
     let m = records.len();
     let mut arcs = [0u64; 4096];
     let mut left = [0u32; 255];
-    let mut par = [0u16; 255];
     pack(st.question, records, &mut arcs[..m]);
     stand(st, false, &mut left[..n]);
     stand(st, true, need);
-    solve(&arcs[..m], x, pi, &mut left[..n], need, key, &mut par[..n]);
+    engine::solve(&arcs[..m], x, pi, &mut left[..n], need, key);
 }
 
-// The claim, and numbers and amounts that certify it, for a flow or an assignment.
+// What is found, and numbers and amounts that certify it, for a flow or an assignment.
 fn answer_run(
     st: Setting,
     records: &[u32],
@@ -51,25 +47,25 @@ fn answer_run(
     key: &mut [u32],
     numbers: &mut [i32],
     amounts: &mut [u16],
-) -> u8
-    requires { ⌜ Accepted (asked st) (recordArcs (now records)) × ((asked st) .question ≢ shortestPath) ⌝ }
-    requires { ⌜ (now amounts ≡ constant (recordArcs (now records)) 0) × (length (now numbers) ≡ st .n) ⌝ }
-    requires { ⌜ Filled (st .n) (λ v. 0) (now pi) × (length (now need) ≡ st .n) × (length (now key) ≡ st .n) ⌝ }
-    ensures { λ r. ⌜ Solution (asked st) (recordArcs (now (records .entry))) (now (numbers .exit)) (now (amounts .exit)) r ⌝ }
+) -> Finding
+    requires { ⌜ AcceptedNetwork (asked st) (recordArcs (now records)) × ((asked st) .question ≢ shortestPath) ⌝ }
+    requires { ⌜ (length (now amounts) ≡ length (now records)) × (length (now numbers) ≡ st .n) ⌝ }
+    requires { ⌜ (length (now pi) ≡ st .n) × (length (now need) ≡ st .n) × (length (now key) ≡ st .n) ⌝ }
+    ensures { λ r. ⌜ Solution (asked st) (recordArcs (now (records .entry))) (now (numbers .exit)) (now (amounts .exit)) (findingNumber r) ⌝ }
 {
     let question = st.question;
     run(st, records, amounts, pi, need, key);
     if question == 2 {
-        write(0, key, numbers);
-        return 1;
+        write(NumberKind::Mark, key, numbers);
+        return Finding::Value;
     }
     if met(need) {
-        write(2, pi, numbers);
-        return 1;
+        write(NumberKind::Potential, pi, numbers);
+        return Finding::Value;
     }
-    write(0, key, numbers);
-    clear(amounts);
-    2
+    write(NumberKind::Mark, key, numbers);
+    clear_amounts(amounts);
+    Finding::None
 }
 
 pub(crate) fn certify_run(
@@ -77,10 +73,10 @@ pub(crate) fn certify_run(
     records: &[u32],
     numbers: &mut [i32],
     amounts: &mut [u16],
-) -> u8
-    requires { ⌜ Accepted (asked st) (recordArcs (now records)) × ((asked st) .question ≢ shortestPath) ⌝ }
-    requires { ⌜ (now amounts ≡ constant (recordArcs (now records)) 0) × (length (now numbers) ≡ st .n) ⌝ }
-    ensures { λ r. ⌜ Solution (asked st) (recordArcs (now (records .entry))) (now (numbers .exit)) (now (amounts .exit)) r ⌝ }
+) -> Finding
+    requires { ⌜ AcceptedNetwork (asked st) (recordArcs (now records)) × ((asked st) .question ≢ shortestPath) ⌝ }
+    requires { ⌜ (length (now amounts) ≡ length (now records)) × (length (now numbers) ≡ st .n) ⌝ }
+    ensures { λ r. ⌜ Solution (asked st) (recordArcs (now (records .entry))) (now (numbers .exit)) (now (amounts .exit)) (findingNumber r) ⌝ }
 {
     let n = numbers.len();
     let mut pi = [0u32; 255];
@@ -97,7 +93,7 @@ pub(crate) fn certify_run(
     )
 }
 
-// The claim, and numbers and amounts that certify it, for a path.
+// What is found, and numbers and amounts that certify it, for a path.
 fn answer_path(
     st: Setting,
     records: &[u32],
@@ -105,28 +101,29 @@ fn answer_path(
     key: &mut [u32],
     numbers: &mut [i32],
     amounts: &mut [u16],
-) -> u8
-    requires { ⌜ Accepted (asked st) (recordArcs (now records)) × ((asked st) .question ≡ shortestPath) ⌝ }
-    requires { ⌜ (now amounts ≡ constant (recordArcs (now records)) 0) × (length (now numbers) ≡ st .n) ⌝ }
+) -> Finding
+    requires { ⌜ AcceptedNetwork (asked st) (recordArcs (now records)) × ((asked st) .question ≡ shortestPath) ⌝ }
+    requires { ⌜ (length (now amounts) ≡ length (now records)) × (length (now numbers) ≡ st .n) ⌝ }
     requires { ⌜ (length (now left) ≡ st .n) × (length (now key) ≡ st .n) ⌝ }
-    ensures { λ r. ⌜ Solution (asked st) (recordArcs (now (records .entry))) (now (numbers .exit)) (now (amounts .exit)) r ⌝ }
+    ensures { λ r. ⌜ Solution (asked st) (recordArcs (now (records .entry))) (now (numbers .exit)) (now (amounts .exit)) (findingNumber r) ⌝ }
 {
     let t = st.t as usize;
-    let n = key.len();
     let m = records.len();
     let mut arcs = [0u64; 4096];
-    let pi = [0u32; 255];
-    let mut par = [0u16; 255];
     pack(st.question, records, &mut arcs[..m]);
     stand(st, false, left);
-    search(&arcs[..m], amounts, &pi[..n], left, key, &mut par[..n]);
-    if key[t] < UNREACHED {
-        push(t, 1, &arcs[..m], &par[..n], key, amounts, left);
-        write(1, key, numbers);
-        return 1;
+    let sent = engine::send(&arcs[..m], t, 1, amounts, left, key);
+    match sent {
+        Sent::Reached(_) => {
+            write(NumberKind::Distance, key, numbers);
+            Finding::Value
+        }
+        Sent::Unreached => {
+            write(NumberKind::Mark, key, numbers);
+            Finding::None
+        }
+        Sent::Refused => Finding::Refused,
     }
-    write(0, key, numbers);
-    2
 }
 
 pub(crate) fn certify_path(
@@ -134,10 +131,10 @@ pub(crate) fn certify_path(
     records: &[u32],
     numbers: &mut [i32],
     amounts: &mut [u16],
-) -> u8
-    requires { ⌜ Accepted (asked st) (recordArcs (now records)) × ((asked st) .question ≡ shortestPath) ⌝ }
-    requires { ⌜ (now amounts ≡ constant (recordArcs (now records)) 0) × (length (now numbers) ≡ st .n) ⌝ }
-    ensures { λ r. ⌜ Solution (asked st) (recordArcs (now (records .entry))) (now (numbers .exit)) (now (amounts .exit)) r ⌝ }
+) -> Finding
+    requires { ⌜ AcceptedNetwork (asked st) (recordArcs (now records)) × ((asked st) .question ≡ shortestPath) ⌝ }
+    requires { ⌜ (length (now amounts) ≡ length (now records)) × (length (now numbers) ≡ st .n) ⌝ }
+    ensures { λ r. ⌜ Solution (asked st) (recordArcs (now (records .entry))) (now (numbers .exit)) (now (amounts .exit)) (findingNumber r) ⌝ }
 {
     let n = numbers.len();
     let mut left = [0u32; 255];

@@ -1,26 +1,42 @@
 // Finds a certificate for every network that a session accepts.
+ghost use mathlib.Core.Path.{_≡_};
 ghost use Rattle.checks.specs.Setting.{asked};
-ghost use Rattle.solver.specs.Certify.{Outcome};
+ghost use Rattle.solver.specs.Certify.{findingNumber, CertifyOutcome};
 use answers::certify_path;
 use answers::certify_run;
 use checks::Setting;
-use records::clear;
 use records::is_admissible;
 
 mod answers;
-mod engine;
 mod records;
 mod vertices;
 
-// A certificate for the network of the records: the claim, 1 for a value and 2 for none, with node numbers and amounts; 0 where the input is not admissible, and nothing is changed.
-pub fn certify(st: Setting, records: &[u32], numbers: &mut [i32], amounts: &mut [u16]) -> u8
-    ensures { λ r. ⌜ Outcome (st .question) (asked st) (now (records .entry)) (now (numbers .entry)) (now (amounts .entry)) (now (numbers .exit)) (now (amounts .exit)) r ⌝ }
+// What a network is certified to have: a value, or none; or the input is not admissible.
+pub enum Finding {
+    Value,
+    None,
+    Refused,
+}
+
+// The number of the claim: 1 for a value, 2 for none; 0 for a refusal.
+pub fn claim_number(finding: Finding) -> u8
+    ensures { λ r. ⌜ r ≡ findingNumber finding ⌝ }
+{
+    match finding {
+        Finding::Value => 1,
+        Finding::None => 2,
+        Finding::Refused => 0,
+    }
+}
+
+// A certificate for the network of the records: what is claimed, with node numbers and amounts. Where the input is not admissible nothing is changed.
+pub fn certify(st: Setting, records: &[u32], numbers: &mut [i32], amounts: &mut [u16]) -> Finding
+    ensures { λ r. ⌜ CertifyOutcome (st .question) (asked st) (now (records .entry)) (now (numbers .entry)) (now (amounts .entry)) (now (numbers .exit)) (now (amounts .exit)) (findingNumber r) ⌝ }
 {
     let question = st.question;
     if !is_admissible(st, records, numbers.len(), amounts.len()) {
-        return 0;
+        return Finding::Refused;
     }
-    clear(amounts);
     if question == 1 {
         return certify_path(st, records, numbers, amounts);
     }

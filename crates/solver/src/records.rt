@@ -1,7 +1,7 @@
 // Records of arcs: whether the solver answers them, and how they are packed for the engine.
 ghost use mathlib.Core.Path.{_≡_};
 ghost use mathlib.Core.List.{map};
-ghost use lib.ListN.{length, replicate};
+ghost use lib.ListN.{length};
 ghost use Rattle.prelude.specs.Lists.{all};
 ghost use Rattle.network.specs.Tests.{questionOf};
 ghost use Rattle.checks.specs.Setting.{asked};
@@ -26,6 +26,7 @@ fn packed_arc(question: u8, word: u32) -> u64
     ends + 65536 * w + 8589934592
 }
 
+// The packed arcs of the records, in order.
 pub(crate) fn pack(question: u8, records: &[u32], arcs: &mut [u64])
     requires { ⌜ length (now arcs) ≡ length (now records) ⌝ }
     ensures { λ _. ⌜ now (arcs .exit) ≡ map (packedFor (questionOf question)) (now (records .entry)) ⌝ }
@@ -47,6 +48,7 @@ fn record_ok(st: Setting, word: u32) -> bool
     opening::arc_check(st, a, b, w) == 0
 }
 
+// Do they let every record through?
 fn records_ok(st: Setting, records: &[u32]) -> bool
     ensures { λ r. ⌜ r ≡ all (recordOk (asked st)) (now (records .entry)) ⌝ }
 {
@@ -79,14 +81,4 @@ pub(crate) fn is_admissible(st: Setting, records: &[u32], numbers: usize, amount
         return false;
     }
     records_ok(st, records)
-}
-
-pub(crate) fn clear(amounts: &mut [u16])
-    ensures { λ _. ⌜ now (amounts .exit) ≡ replicate (length (now (amounts .entry))) 0 ⌝ }
-{
-    let mut e = 0;
-    while e < amounts.len() {
-        amounts[e] = 0;
-        e += 1;
-    }
 }

@@ -6,11 +6,11 @@ ghost use lib.Dec.{ltb};
 ghost use lib.ListN.{length};
 ghost use Rattle.prelude.specs.Choice.{pick, indicator};
 ghost use Rattle.checks.specs.Setting.{asked};
-ghost use Rattle.solver.specs.Certify.{endFor, standing, kindOf, numberOf, Written, Wanting};
-ghost use Rattle.solver.specs.Net.{entry};
-ghost use Rattle.solver.specs.Instance.{Filled, single as singleAt};
-use super::engine::UNREACHED;
+ghost use Rattle.solver.specs.Certify.{endFor, standing, numberOf, NodeNumbers, Wanting};
+ghost use Rattle.engine.specs.Residual.{entry};
+ghost use Rattle.solver.specs.Instance.{VertexList, single as singleAt};
 use checks::Setting;
+use engine::UNREACHED;
 
 // amount at the vertex k, 0 elsewhere.
 fn single(k: u8, amount: u32, v: u8) -> u32
@@ -63,7 +63,7 @@ fn standing_at(st: Setting, wanted: bool, v: u8) -> u32
 
 pub(crate) fn stand(st: Setting, wanted: bool, list: &mut [u32])
     requires { ⌜ length (now list) ≤ 255 ⌝ }
-    ensures { λ _. ⌜ Filled (length (now (list .entry))) (standing (asked st) wanted) (now (list .exit)) ⌝ }
+    ensures { λ _. ⌜ VertexList (length (now (list .entry))) (standing (asked st) wanted) (now (list .exit)) ⌝ }
 {
     let mut v = 0;
     while v < list.len() {
@@ -72,9 +72,15 @@ pub(crate) fn stand(st: Setting, wanted: bool, list: &mut [u32])
     }
 }
 
-// The mark of a key, and its distance.
+// What is written for a vertex: whether its key is reached, the distance that its key holds, or its potential.
+pub(crate) enum NumberKind {
+    Mark,
+    Distance,
+    Potential,
+}
+
 fn mark_of(key: u32) -> u32
-    ensures { λ r. ⌜ r ≡ numberOf (kindOf 0) key ⌝ }
+    ensures { λ r. ⌜ r ≡ numberOf NumberKind.Mark key ⌝ }
 {
     if key < UNREACHED {
         return 1;
@@ -83,7 +89,7 @@ fn mark_of(key: u32) -> u32
 }
 
 fn distance_of(key: u32) -> u32
-    ensures { λ r. ⌜ r ≡ numberOf (kindOf 1) key ⌝ }
+    ensures { λ r. ⌜ r ≡ numberOf NumberKind.Distance key ⌝ }
 {
     if key < UNREACHED {
         return key / 256;
@@ -91,22 +97,21 @@ fn distance_of(key: u32) -> u32
     8322818
 }
 
-// The number that is written for k: a mark (0), a distance (1) or a potential.
-fn number_of(kind: u8, k: u32) -> u32
-    ensures { λ r. ⌜ r ≡ numberOf (kindOf kind) k ⌝ }
+// The number that is written for k.
+fn number_of(kind: NumberKind, k: u32) -> u32
+    ensures { λ r. ⌜ r ≡ numberOf kind k ⌝ }
 {
-    if kind == 0 {
-        return mark_of(k);
+    match kind {
+        NumberKind::Mark => mark_of(k),
+        NumberKind::Distance => distance_of(k),
+        NumberKind::Potential => k,
     }
-    if kind == 1 {
-        return distance_of(k);
-    }
-    k
 }
 
-pub(crate) fn write(kind: u8, from: &[u32], numbers: &mut [i32])
-    requires { ⌜ (length (now numbers) ≡ length (now from)) × ((v : ℕ) → v < length (now from) → numberOf (kindOf kind) (entry (now from) v) ≤ 8388607) ⌝ }
-    ensures { λ _. ⌜ Written (kindOf kind) (now (from .entry)) (now (numbers .exit)) ⌝ }
+// Writes the number of every vertex.
+pub(crate) fn write(kind: NumberKind, from: &[u32], numbers: &mut [i32])
+    requires { ⌜ (length (now numbers) ≡ length (now from)) × ((v : ℕ) → v < length (now from) → numberOf kind (entry (now from) v) ≤ 8388607) ⌝ }
+    ensures { λ _. ⌜ NodeNumbers kind (now (from .entry)) (now (numbers .exit)) ⌝ }
 {
     let mut v = 0;
     while v < from.len() {

@@ -11,7 +11,7 @@ fn two(st: Setting, r: u32) -> usize {
     let records = [r];
     let mut numbers = [0i32; 2];
     let mut amounts = [0u16; 1];
-    solver::certify(st, &records, &mut numbers, &mut amounts) as usize
+    solver::claim_number(solver::certify(st, &records, &mut numbers, &mut amounts)) as usize
 }
 
 // With three node numbers.
@@ -19,7 +19,7 @@ fn three(st: Setting, r: u32) -> usize {
     let records = [r];
     let mut numbers = [0i32; 3];
     let mut amounts = [0u16; 1];
-    solver::certify(st, &records, &mut numbers, &mut amounts) as usize
+    solver::claim_number(solver::certify(st, &records, &mut numbers, &mut amounts)) as usize
 }
 
 // With one node number.
@@ -27,7 +27,7 @@ fn one(st: Setting, r: u32) -> usize {
     let records = [r];
     let mut numbers = [0i32; 1];
     let mut amounts = [0u16; 1];
-    solver::certify(st, &records, &mut numbers, &mut amounts) as usize
+    solver::claim_number(solver::certify(st, &records, &mut numbers, &mut amounts)) as usize
 }
 
 // With an amount more than there are records.
@@ -35,7 +35,7 @@ fn more_amounts(st: Setting, r: u32) -> usize {
     let records = [r];
     let mut numbers = [0i32; 2];
     let mut amounts = [0u16; 2];
-    solver::certify(st, &records, &mut numbers, &mut amounts) as usize
+    solver::claim_number(solver::certify(st, &records, &mut numbers, &mut amounts)) as usize
 }
 
 // With a record more than there are amounts.
@@ -43,7 +43,7 @@ fn more_records(st: Setting, r: u32) -> usize {
     let records = [r; 2];
     let mut numbers = [0i32; 2];
     let mut amounts = [0u16; 1];
-    solver::certify(st, &records, &mut numbers, &mut amounts) as usize
+    solver::claim_number(solver::certify(st, &records, &mut numbers, &mut amounts)) as usize
 }
 
 // With 4097 records.
@@ -51,7 +51,7 @@ fn too_many(st: Setting, r: u32) -> usize {
     let records = [r; 4097];
     let mut numbers = [0i32; 2];
     let mut amounts = [0u16; 4097];
-    solver::certify(st, &records, &mut numbers, &mut amounts) as usize
+    solver::claim_number(solver::certify(st, &records, &mut numbers, &mut amounts)) as usize
 }
 
 // How many of two claims are not 0.

@@ -70,7 +70,7 @@ fn ask(net: Net, records: &[u32], numbers: &mut [i32], amounts: &mut [u16]) -> u
         return 0;
     }
     let st = setting(net.question, n, net.s, net.t);
-    solver::certify(st, &records[..m], &mut numbers[..n], &mut amounts[..m])
+    solver::claim_number(solver::certify(st, &records[..m], &mut numbers[..n], &mut amounts[..m]))
 }
 
 // What is wrong with the certificate, and the answer against what is known.

@@ -3,7 +3,8 @@
 use mathlib.Core.Path.{sym, _∙_}
 use lib.Seq.{length-take-le}
 use borrow.Author.Needs.{needs}
-use Rattle.solver.proofs.Parts.{zeros, zeros-length, back-within, back-length}
+use Rattle.engine.specs.Residual.{zeroList}
+use Rattle.engine.proofs.LentParts.{zero-list-length, back-within, back-length}
 use Rattle.helper.proofs.Whole.{few-arcs, few-vertices, gathered-again}
 use Rattle.helper.proofs.writing.write_annotation.Statement.{statement}
 use Rattle.helper.proofs.writing.write_annotation.Tie as tie
@@ -13,14 +14,14 @@ array-share-prefix-records c =
     let s = c .before .before .before .before .before .before .before in
     let count = c .before .before .before .count in
     let few = few-arcs (s .args .net .now) (s .pre .0) (count .result) (count .ensures) in
-    back-within (count .result) (zeros 4096) (c .before .gather .last .1 .0) (gathered-again (s .args .net .now) (c .before .gather .last .1 .0) (count .result) 4096 few (count .ensures) (c .before .gather .ensures) .0)
+    back-within (count .result) (zeroList 4096) (c .before .gather .last .1 .0) (gathered-again (s .args .net .now) (c .before .gather .last .1 .0) (count .result) 4096 few (count .ensures) (c .before .gather .ensures) .0)
 
 slice-aggregate-write-solution : tie.Need-slice-aggregate-write-solution
 slice-aggregate-write-solution c =
     let s = c .before .before .before .before .before .before .before .before in
     let count = c .before .before .before .before .count in
     let few = few-arcs (s .args .net .now) (s .pre .0) (count .result) (count .ensures) in
-    back-length (count .result) (zeros 4096) (c .before .before .gather .last .1 .0) (gathered-again (s .args .net .now) (c .before .before .gather .last .1 .0) (count .result) 4096 few (count .ensures) (c .before .before .gather .ensures) .0)
+    back-length (count .result) (zeroList 4096) (c .before .before .gather .last .1 .0) (gathered-again (s .args .net .now) (c .before .before .gather .last .1 .0) (count .result) 4096 few (count .ensures) (c .before .before .gather .ensures) .0)
 
 write-solution-requires : tie.Need-write-solution-requires
 write-solution-requires c κs =
@@ -31,7 +32,7 @@ write-solution-requires c κs =
       (
         gathered-again (s .args .net .now) (c .before .before .before .before .before .gather .last .1 .0) (count .result) 4096 few (count .ensures) (c .before .before .before .before .before .gather .ensures) .1,
         (
-          (length-take-le (c .before .before .before .before .before .before .before .before .vertices .result) _ (few-vertices (s .args .net .now) (s .pre .0) (c .before .before .before .before .before .before .before .before .vertices .result) (c .before .before .before .before .before .before .before .before .vertices .ensures)) ∙ c .before .before .before .before .before .before .before .before .vertices .ensures, zeros-length (count .result) 4096 few ∙ count .ensures),
+          (length-take-le (c .before .before .before .before .before .before .before .before .vertices .result) _ (few-vertices (s .args .net .now) (s .pre .0) (c .before .before .before .before .before .before .before .before .vertices .result) (c .before .before .before .before .before .before .before .before .vertices .ensures)) ∙ c .before .before .before .before .before .before .before .before .vertices .ensures, zero-list-length (count .result) 4096 few ∙ count .ensures),
           s .pre .1,
         ),
       ),
@@ -46,14 +47,14 @@ write-annotation-spec =
     (λ c κs. search needs)
     (λ c. search needs)
     (λ c. few-arcs (c .before .before .before .before .args .net .now) (c .before .before .before .before .pre .0) (c .count .result) (c .count .ensures))
-    (λ c. sym (zeros-length (c .before .count .result) 4096 (few-arcs (c .before .before .before .before .before .args .net .now) (c .before .before .before .before .before .pre .0) (c .before .count .result) (c .before .count .ensures))))
+    (λ c. sym (zero-list-length (c .before .count .result) 4096 (few-arcs (c .before .before .before .before .before .args .net .now) (c .before .before .before .before .before .pre .0) (c .before .count .result) (c .before .count .ensures))))
     (λ c κs. search needs)
     array-share-prefix-records
     slice-aggregate-write-solution
     (λ c. search needs)
     (λ c. let n = c .before .before .before .before .before .before .vertices in let s = c .before .before .before .before .before .before .before .before .before in sym (length-take-le (n .result) _ (few-vertices (s .args .net .now) (s .pre .0) (n .result) (n .ensures))))
     (λ c. few-arcs (c .before .before .before .before .before .before .before .before .before .args .net .now) (c .before .before .before .before .before .before .before .before .before .pre .0) (c .before .before .before .before .before .count .result) (c .before .before .before .before .before .count .ensures))
-    (λ c. sym (zeros-length (c .before .before .before .before .before .before .count .result) 4096 (few-arcs (c .before .before .before .before .before .before .before .before .before .before .args .net .now) (c .before .before .before .before .before .before .before .before .before .before .pre .0) (c .before .before .before .before .before .before .count .result) (c .before .before .before .before .before .before .count .ensures))))
+    (λ c. sym (zero-list-length (c .before .before .before .before .before .before .count .result) 4096 (few-arcs (c .before .before .before .before .before .before .before .before .before .before .args .net .now) (c .before .before .before .before .before .before .before .before .before .before .pre .0) (c .before .before .before .before .before .before .count .result) (c .before .before .before .before .before .before .count .ensures))))
     write-solution-requires
     (λ c. search needs)
     (λ c. search needs))

@@ -1,7 +1,7 @@
 -- `solver::answers::certify_path` meets its contract.
 -- Assumes nothing.
 use borrow.Author.Needs.{needs}
-use Rattle.solver.proofs.Entry.{none-yet, lent}
+use Rattle.solver.proofs.CertifyCases.{one-each, lent}
 use Rattle.solver.proofs.answers.certify_path.Statement.{statement}
 use Rattle.solver.proofs.answers.certify_path.Tie as tie
 
@@ -14,8 +14,8 @@ slice-aggregate-answer-path-2 c = let s = c .before .before .before .before in l
 answer-path-requires : tie.Need-answer-path-requires
 answer-path-requires c κs =
     let s = c .before .before .before .before .before .before in
-    let z = none-yet (s .pre .0 .0) _ (s .pre .1 .1) in
-    (s .pre .0, (s .pre .1, (z .len, z .len)))
+    let z = one-each (s .pre .0 .0) _ (s .pre .1 .1) in
+    (s .pre .0, (s .pre .1, (z, z)))
 
 pub certify-path-spec : {M : Type 1} → statement M
 certify-path-spec =

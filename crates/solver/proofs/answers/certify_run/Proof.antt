@@ -1,7 +1,7 @@
 -- `solver::answers::certify_run` meets its contract.
 -- Assumes nothing.
 use borrow.Author.Needs.{needs}
-use Rattle.solver.proofs.Entry.{none-yet, lent}
+use Rattle.solver.proofs.CertifyCases.{one-each, lent}
 use Rattle.solver.proofs.answers.certify_run.Statement.{statement}
 use Rattle.solver.proofs.answers.certify_run.Tie as tie
 
@@ -17,8 +17,8 @@ slice-aggregate-answer-run-3 c = let s = c .before .before .before .before .befo
 answer-run-requires : tie.Need-answer-run-requires
 answer-run-requires c κs =
     let s = c .before .before .before .before .before .before .before in
-    let z = none-yet (s .pre .0 .0) _ (s .pre .1 .1) in
-    (s .pre .0, (s .pre .1, (z, z .len, z .len)))
+    let z = one-each (s .pre .0 .0) _ (s .pre .1 .1) in
+    (s .pre .0, (s .pre .1, (z, z, z)))
 
 pub certify-run-spec : {M : Type 1} → statement M
 certify-run-spec =

@@ -9,7 +9,7 @@ use borrow.Author.Needs.{needs}
 use Rattle.network.specs.Tests.{questionOf}
 use Rattle.solver.specs.Certify.{packedFor}
 use Rattle.prelude.proofs.Filling.{Filling, fill-start, fill-turn}
-use Rattle.solver.proofs.RecordLoops.{filled-as}
+use Rattle.engine.proofs.ListLoops.{filled-as}
 use Rattle.solver.proofs.records.pack.Statement.{statement}
 use Rattle.solver.proofs.records.pack.Tie as tie
 

@@ -5,7 +5,7 @@ use mathlib.Core.Bool.{false≢true}
 use Prim.Native.Nat.{_-_}
 use lib.ListN.{length}
 use borrow.Author.Needs.{needs}
-use Rattle.solver.proofs.ByVertex.{Clear, clear-none, clear-turn, clear-done}
+use Rattle.solver.proofs.VertexLists.{Clear, clear-none, clear-turn, clear-done}
 use Rattle.solver.proofs.vertices.met.Statement.{statement}
 use Rattle.solver.proofs.vertices.met.Tie as tie
 

@@ -1,27 +1,31 @@
 -- `solver::vertices::number_of` meets its contract.
 -- Assumes nothing.
-use mathlib.Core.Path.{refl}
+use mathlib.Core.Path.{sym, ap, _∙_}
 use borrow.Author.Needs.{needs}
-use Rattle.solver.specs.Certify.{mark, distance, potential}
-use Rattle.solver.proofs.ByVertex.{mark-kind, distance-kind, potential-kind, numbered}
+use Rattle.solver.specs.declared.vertices.NumberKind.{NumberKind}
+use Rattle.solver.specs.Certify.{numberOf}
 use Rattle.solver.proofs.vertices.number_of.Statement.{statement}
 use Rattle.solver.proofs.vertices.number_of.Tie as tie
 
 returns : tie.Need-returns
 returns c =
-    let a = c .before .before .args in
-    numbered mark _ (a .k) (c .mark-of .result) (mark-kind (a .kind) (c .before .if1 .taken)) (c .mark-of .ensures)
+    let a = c .before .before .before .args in
+    c .mark-of .ensures ∙ ap (λ (z : NumberKind). numberOf z (a .k)) (sym (c .before .enum-told .given .1))
 
 returns-2 : tie.Need-returns-2
 returns-2 c =
     let a = c .before .before .before .args in
-    let k = distance-kind (a .kind) (c .before .before .if1 .left) (c .before .if2 .taken) in
-    numbered distance _ (a .k) (c .distance-of .result) k (c .distance-of .ensures)
-
-returns-3 : tie.Need-returns-3
-returns-3 c =
-    let a = c .before .before .args in
-    numbered potential _ (a .k) (a .k) (potential-kind (a .kind) (c .before .if1 .left) (c .if2 .left)) refl
+    c .distance-of .ensures ∙ ap (λ (z : NumberKind). numberOf z (a .k)) (sym (c .before .enum-told2 .given .1))
 
 pub number-of-spec : {M : Type 1} → statement M
-number-of-spec = tie.close (tie.spec (λ c κs. search needs) returns (λ c κs. search needs) returns-2 returns-3)
+number-of-spec =
+    tie.close
+    (tie.spec
+    (λ c. search needs)
+    (λ c κs. search needs)
+    (λ c. search needs)
+    (λ c κs. search needs)
+    (λ c. search needs)
+    returns
+    returns-2
+    (λ c. search needs))

@@ -8,7 +8,7 @@ use Rattle.network.specs.Tests.{questionOf}
 use Rattle.checks.specs.Setting.{asked}
 use Rattle.solver.specs.Instance.{single}
 use Rattle.checks.proofs.Laws.{is-path, is-flow, is-assignment}
-use Rattle.solver.proofs.ByVertex.{stands}
+use Rattle.solver.proofs.VertexLists.{stands}
 use Rattle.solver.proofs.vertices.standing_at.Statement.{statement}
 use Rattle.solver.proofs.vertices.standing_at.Tie as tie
 

@@ -10,13 +10,13 @@ use mir.Val.{toZ, hbits}
 use mir.Facts.{toZ-pos}
 use borrow.Author.Needs.{needs, sfits-of}
 use Rattle.prelude.proofs.Filling.{Filling, fill-start, fill-turn, fill-end}
-use Rattle.solver.specs.Certify.{kindOf, numberOf}
-use Rattle.solver.specs.Net.{entry}
+use Rattle.solver.specs.Certify.{numberOf}
+use Rattle.engine.specs.Residual.{entry}
 use Rattle.solver.proofs.vertices.write.Statement.{statement}
 use Rattle.solver.proofs.vertices.write.Tie as tie
 
 abbrev Inv-loop : tie.InvT-loop
-Inv-loop kind from numbers₀ v₀ numbers v = Filling (λ i z. z ≡ pos (numberOf (kindOf kind) (entry from i))) (pos 0) numbers₀ numbers v
+Inv-loop kind from numbers₀ v₀ numbers v = Filling (λ i z. z ≡ pos (numberOf kind (entry from i))) (pos 0) numbers₀ numbers v
 
 abbrev μ-loop : tie.MeasureT-loop
 μ-loop kind from numbers₀ v₀ numbers v = length from - v
@@ -41,7 +41,7 @@ loop-again c =
     let inside = c .before .before .loop-test .taken in
     let e = c .number-of .ensures in
     let z = toZ-pos w32 (small _ _ e (s .pre .1 (l .v) inside)) ∙ ap pos e in
-    fill-turn (λ i n. n ≡ pos (numberOf (kindOf (a .kind)) (entry (a .from .now) i))) (pos 0) (a .numbers .now) (l .numbers) (l .v) (toZ w32 (c .number-of .result)) (omega (arith, s .pre .0)) z (l .inv)
+    fill-turn (λ i n. n ≡ pos (numberOf (a .kind) (entry (a .from .now) i))) (pos 0) (a .numbers .now) (l .numbers) (l .v) (toZ w32 (c .number-of .result)) (omega (arith, s .pre .0)) z (l .inv)
 
 same-length : tie.Need-same-length Inv-loop μ-loop
 same-length c = c .before .loop .inv .len
@@ -50,7 +50,7 @@ returns : tie.Need-returns Inv-loop μ-loop
 returns c =
     let a = c .before .before .before .args in
     let l = c .before .loop in
-    let P : ℕ → ℤ → Type 0 = λ i z. z ≡ pos (numberOf (kindOf (a .kind)) (entry (a .from .now) i)) in
+    let P : ℕ → ℤ → Type 0 = λ i z. z ≡ pos (numberOf (a .kind) (entry (a .from .now) i)) in
     record { len = l .inv .len ∙ c .before .before .before .pre .0; each = λ v h. fill-end P (pos 0) (a .numbers .now) (l .numbers) (l .v) (omega (arith, c .before .before .before .pre .0)) (l .inv) v (omega (arith, c .before .before .before .pre .0)) }
 
 pub write-spec : {M : Type 1} → statement M

@@ -37,6 +37,9 @@ slice-aggregate-certify-3 c = sym (length-take-le _ _ (omega arith))
 certify-requires : tie.Need-certify-requires
 certify-requires c κs = search needs
 
+claim-number-requires : tie.Need-claim-number-requires
+claim-number-requires c κs = search needs
+
 same-length : tie.Need-same-length
 same-length c = search needs
 
@@ -60,6 +63,7 @@ ask-spec =
     slice-relend-prefix-certify-2
     slice-aggregate-certify-3
     certify-requires
+    claim-number-requires
     same-length
     same-length-2
     returns-4)

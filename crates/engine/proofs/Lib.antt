@@ -1,0 +1,10 @@
+pub mod FallingKeys
+pub mod ArcColumns
+pub mod PotentialBounds
+pub mod PushedAmounts
+pub mod PhaseLaws
+pub mod LastSearch
+pub mod LentParts
+pub mod ListLoops
+pub mod LimitTests
+pub mod CallOutcomes

@@ -1,0 +1,159 @@
+-- The tests of what the engine is handed: tests in a row, what it is to pass them, and the state from which a call then starts.
+-- Assumes nothing.
+use mathlib.Core.Path.{_≡_, sym, ap, _∙_}
+use mathlib.Core.Bool.{Bool, true, false, not, _&&_}
+use mathlib.Core.List.{List, [], _∷_}
+use Prim.Native.Nat.{ℕ, zero, suc, _<_, _≤_}
+use native.Mathlib.Omega.{arith}
+use native.Mathlib.Decide.{decLt}
+use lib.Dec.{T, eqb, ltb, leb, eqb→eq, leb→le, ltb→lt}
+use lib.ListN.{length, length-map, length-replicate, List·getD-eq-default}
+use borrow.Author.Tests.{not-true, not-false, lt-ltb, le-ltb, le-leb, lt-leb, eq-eqb, ne-eqb}
+use Rattle.prelude.specs.Lists.{all}
+use Rattle.prelude.proofs.Booleans.{and-left, and-right, true→T}
+use Rattle.engine.specs.Residual.{entry, zeroList}
+use Rattle.engine.specs.PackedArcs.{tailOf, headOf, costOf, capacityOf, tailsOf, headsOf, costsOf, PackedPhaseState}
+use Rattle.engine.specs.Calls.{arcFits, arcsFit, solvable, sendable}
+use Rattle.engine.proofs.ArcColumns.{columns, tail-at, head-at, cost-at}
+use Rattle.engine.proofs.LentParts.{zero-at}
+
+-- ---- tests in a row
+
+-- the result u of a call, which the code negates
+pub passed : (t u : Bool) → not u ≡ false → u ≡ t → t ≡ true
+passed t u h e = sym e ∙ not-false u h
+
+pub failed : (t u : Bool) → not u ≡ true → u ≡ t → t ≡ false
+failed t u h e = sym e ∙ not-true u h
+
+pub first-off : (s t : Bool) → s ≡ false → (s && t) ≡ false
+first-off s t e = rw e
+
+pub both-on : (s t b : Bool) → s ≡ true → t ≡ b → (s && t) ≡ b
+both-on s t b e h = rw e h
+
+pub is-off : (t : Bool) → t ≡ false → false ≡ t
+is-off t e = sym e
+
+pub and-on : (r s t : Bool) → s ≡ true → r ≡ t → r ≡ (s && t)
+and-on r s t e h = rw e h
+
+pub ruleset in-a-row = (le-leb, lt-leb, lt-ltb, le-ltb, eq-eqb, ne-eqb, first-off, both-on, is-off, and-on)
+
+-- one arc, whose tail a, head b and cost w were read
+module _ (n arc a b w : ℕ) where
+  pub tail-beyond : a ≡ tailOf arc → n ≤ a → false ≡ arcFits n arc
+  tail-beyond ea h = rw (le-ltb (tailOf arc) n (omega arith))
+
+  pub head-beyond : a ≡ tailOf arc → a < n → b ≡ headOf arc → n ≤ b → false ≡ arcFits n arc
+  head-beyond ea g eb h = rw (lt-ltb (tailOf arc) n (omega arith), le-ltb (headOf arc) n (omega arith))
+
+  pub cost-decides : a ≡ tailOf arc → a < n → b ≡ headOf arc → b < n → w ≡ costOf arc → leb w 32767 ≡ arcFits n arc
+  cost-decides ea g eb h ew = rw (lt-ltb (tailOf arc) n (omega arith), lt-ltb (headOf arc) n (omega arith)) (ap (λ (z : ℕ). leb z 32767) ew)
+
+-- ---- what it is to pass them
+
+pub record Fitting (arcs : List ℕ) (amounts n : ℕ) : Type 0 where
+  pub small : n ≤ 255
+  pub few : length arcs ≤ 4096
+  pub one-each : amounts ≡ length arcs
+  pub each : (e : ℕ) → e < length arcs → T (arcFits n (entry arcs e))
+
+each-arc : (n : ℕ) (arcs : List ℕ) → T (all (arcFits n) arcs) → (e : ℕ) → e < length arcs → T (arcFits n (entry arcs e))
+each-arc n [] t e h = absurd (omega arith)
+each-arc n (a ∷ arcs) t zero h = and-left (arcFits n a) (all (arcFits n) arcs) t
+each-arc n (a ∷ arcs) t (suc e) h = each-arc n arcs (and-right (arcFits n a) (all (arcFits n) arcs) t) e (omega arith)
+
+fitting : (arcs : List ℕ) (amounts n : ℕ) → T (arcsFit arcs amounts n) → Fitting arcs amounts n
+fitting arcs amounts n t =
+    let three = and-left (leb n 255 && leb (length arcs) 4096 && eqb amounts (length arcs)) (all (arcFits n) arcs) t in
+    let two = and-left (leb n 255 && leb (length arcs) 4096) (eqb amounts (length arcs)) three in
+    record {
+      small = leb→le n 255 (and-left (leb n 255) (leb (length arcs) 4096) two);
+      few = leb→le (length arcs) 4096 (and-right (leb n 255) (leb (length arcs) 4096) two);
+      one-each = eqb→eq amounts (length arcs) (and-right (leb n 255 && leb (length arcs) 4096) (eqb amounts (length arcs)) three);
+      each = each-arc n arcs (and-right (leb n 255 && leb (length arcs) 4096 && eqb amounts (length arcs)) (all (arcFits n) arcs) t);
+    }
+
+pub record Solvable (arcs : List ℕ) (amounts potentials n needs keys : ℕ) : Type 0 where
+  pub fit : Fitting arcs amounts n
+  pub pi-len : potentials ≡ n
+  pub need-len : needs ≡ n
+  pub key-len : keys ≡ n
+
+pub solvable-facts : (arcs : List ℕ) (amounts potentials n needs keys : ℕ) → solvable arcs amounts potentials n needs keys ≡ true → Solvable arcs amounts potentials n needs keys
+solvable-facts arcs amounts potentials n needs keys ok =
+    let t = true→T (solvable arcs amounts potentials n needs keys) ok in
+    let three = and-left (eqb potentials n && eqb needs n && eqb keys n) (arcsFit arcs amounts n) t in
+    let two = and-left (eqb potentials n && eqb needs n) (eqb keys n) three in
+    record {
+      fit = fitting arcs amounts n (and-right (eqb potentials n && eqb needs n && eqb keys n) (arcsFit arcs amounts n) t);
+      pi-len = eqb→eq potentials n (and-left (eqb potentials n) (eqb needs n) two);
+      need-len = eqb→eq needs n (and-right (eqb potentials n) (eqb needs n) two);
+      key-len = eqb→eq keys n (and-right (eqb potentials n && eqb needs n) (eqb keys n) three);
+    }
+
+pub record Sendable (arcs : List ℕ) (t amounts n keys : ℕ) : Type 0 where
+  pub fit : Fitting arcs amounts n
+  pub below : t < n
+  pub key-len : keys ≡ n
+
+pub sendable-facts : (arcs : List ℕ) (t amounts n keys : ℕ) → sendable arcs t amounts n keys ≡ true → Sendable arcs t amounts n keys
+sendable-facts arcs t amounts n keys ok =
+    let h = true→T (sendable arcs t amounts n keys) ok in
+    let two = and-left (ltb t n && eqb keys n) (arcsFit arcs amounts n) h in
+    record {
+      fit = fitting arcs amounts n (and-right (ltb t n && eqb keys n) (arcsFit arcs amounts n) h);
+      below = ltb→lt t n (and-left (ltb t n) (eqb keys n) two);
+      key-len = eqb→eq keys n (and-right (ltb t n) (eqb keys n) two);
+    }
+
+-- ---- the state with no amounts and no potentials
+
+module _ {arcs : List ℕ} {amounts n : ℕ} (F : Fitting arcs amounts n) where
+  tail-below : (e : ℕ) → e < length arcs → entry (tailsOf arcs) e < n
+  tail-below e h =
+      let k = entry arcs e in
+      let t = and-left (ltb (tailOf k) n && ltb (headOf k) n) (leb (costOf k) 32767) (F .each e h) in
+      omega (arith, tail-at arcs e, ltb→lt (tailOf k) n (and-left (ltb (tailOf k) n) (ltb (headOf k) n) t))
+
+  head-below : (e : ℕ) → e < length arcs → entry (headsOf arcs) e < n
+  head-below e h =
+      let k = entry arcs e in
+      let t = and-left (ltb (tailOf k) n && ltb (headOf k) n) (leb (costOf k) 32767) (F .each e h) in
+      omega (arith, head-at arcs e, ltb→lt (headOf k) n (and-right (ltb (tailOf k) n) (ltb (headOf k) n) t))
+
+  cost-low : (e : ℕ) → entry (costsOf arcs) e ≤ 32767
+  cost-low e = go (decLt e (length arcs))
+    where
+      go : Dec (e < length arcs) → entry (costsOf arcs) e ≤ 32767
+      go (yes h) =
+          let k = entry arcs e in
+          omega (arith, cost-at arcs e, leb→le (costOf k) 32767 (and-right (ltb (tailOf k) n && ltb (headOf k) n) (leb (costOf k) 32767) (F .each e h)))
+      go (no h) = omega (arith, List·getD-eq-default (costsOf arcs) 0 {n = e} (omega (arith, length-map arcs costOf)))
+
+  pub start-state : (left need : List ℕ) → length left ≡ n → length need ≡ length left
+      → PackedPhaseState arcs (zeroList (length arcs)) (zeroList (length left)) left need
+  start-state left need ll nl = record {
+    sized = record {
+      few = omega (arith, columns arcs, F .few);
+      to-len = length-map arcs headOf ∙ sym (columns arcs);
+      cost-len = length-map arcs costOf ∙ sym (columns arcs);
+      cap-len = length-map arcs capacityOf ∙ sym (columns arcs);
+      x-len = length-replicate (length arcs) 0 ∙ sym (columns arcs);
+      pi-len = length-replicate (length left) 0;
+      tails = λ e h. omega (arith, tail-below e (omega (arith, columns arcs)));
+      heads = λ e h. omega (arith, head-below e (omega (arith, columns arcs)));
+      costs = cost-low;
+      pis = λ v. omega (arith, zero-at (length left) v);
+    };
+    nonnegative = record {
+      forward = λ e h r. omega (arith, zero-at (length left) (entry (headsOf arcs) e));
+      backward = λ e h r. absurd (omega (arith, zero-at (length arcs) e));
+    };
+    within = λ e h. omega (arith, zero-at (length arcs) e);
+    need-len = nl;
+    small = omega (arith, F .small);
+    zero = λ v h r. zero-at (length left) v;
+    top = λ t v ht hv r. omega (arith, zero-at (length left) v);
+  }

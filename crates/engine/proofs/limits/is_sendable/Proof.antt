@@ -1,0 +1,15 @@
+-- `engine::limits::is_sendable` meets its contract.
+-- Assumes nothing.
+use borrow.Author.Needs.{needs}
+use Rattle.engine.proofs.LimitTests.{in-a-row}
+use Rattle.engine.proofs.limits.is_sendable.Statement.{statement}
+use Rattle.engine.proofs.limits.is_sendable.Tie as tie
+
+pub is-sendable-spec : {M : Type 1} → statement M
+is-sendable-spec =
+    tie.close
+    (tie.spec
+    (λ c. search in-a-row depth 12)
+    (λ c. search in-a-row depth 12)
+    (λ c κs. search needs)
+    (λ c. search in-a-row depth 12))

@@ -1,0 +1,16 @@
+-- `engine::limits::is_solvable` meets its contract.
+-- Assumes nothing.
+use borrow.Author.Needs.{needs}
+use Rattle.engine.proofs.LimitTests.{in-a-row}
+use Rattle.engine.proofs.limits.is_solvable.Statement.{statement}
+use Rattle.engine.proofs.limits.is_solvable.Tie as tie
+
+pub is-solvable-spec : {M : Type 1} → statement M
+is-solvable-spec =
+    tie.close
+    (tie.spec
+    (λ c. search in-a-row depth 12)
+    (λ c. search in-a-row depth 12)
+    (λ c. search in-a-row depth 12)
+    (λ c κs. search needs)
+    (λ c. search in-a-row depth 12))

@@ -1,0 +1,32 @@
+-- `engine::search::relax` meets its contract.
+-- Assumes nothing.
+use mathlib.Core.Path.{subst, refl}
+use mathlib.Core.List.{List}
+use Prim.Native.Nat.{ℕ}
+use borrow.Author.Needs.{needs}
+use Rattle.engine.specs.PackedArcs.{residualOf}
+use Rattle.engine.specs.Residual.{RelaxedBackward}
+use Rattle.engine.proofs.FallingKeys.{step-fell, step-next, ready-lower}
+use Rattle.engine.proofs.search.relax.Statement.{statement}
+use Rattle.engine.proofs.search.relax.Tie as tie
+
+returns-2 : tie.Need-returns-2
+returns-2 c =
+    let second = c .before .before .before .before .before in
+    let first = second .before .before .before .before .before .before .before in
+    let a = first .before .before .before .before .before .before .before .before .args in
+    step-next _ (first .relax-forward .ensures) (second .relax-backward .ensures) (c .if1 .left) refl
+    (λ ek p q. record { forward = p; backward = subst (λ (k : List ℕ). RelaxedBackward (residualOf (a .arcs .now) (a .x .now) (a .pi .now)) k (a .e)) ek q })
+
+pub relax-spec : {M : Type 1} → statement M
+relax-spec =
+    tie.close
+    (tie.spec
+    (λ c κs. search needs)
+    (λ c κs. let first = c .before .before .before .before .before .before in let s = first .before .before .before .before .before .before .before .before in (s .pre .0, ready-lower (s .pre .1) (first .relax-forward .ensures .keeps)))
+    (λ c. search needs)
+    (λ c. search needs)
+    (λ c. let second = c .before .before .before .before .before in step-fell _ (second .before .before .before .before .before .before .before .relax-forward .ensures) (second .relax-backward .ensures) (c .if1 .taken) refl)
+    (λ c. search needs)
+    (λ c. search needs)
+    returns-2)

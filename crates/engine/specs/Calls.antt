@@ -1,0 +1,60 @@
+-- What the engine is handed and hands back: what its two calls answer, and what comes of them.
+-- Assumes nothing.
+use mathlib.Core.Path.{_≡_}
+use mathlib.Core.Bool.{Bool, true, false, _&&_}
+use mathlib.Core.List.{List}
+use Prim.Native.Nat.{ℕ, _<_, _≤_}
+use lib.Dec.{eqb, ltb, leb}
+use lib.ListN.{length}
+use Rattle.prelude.specs.Lists.{all}
+use Rattle.engine.specs.Residual.{entry, unreached, zeroList}
+use Rattle.engine.specs.Phase.{SearchResult}
+use Rattle.engine.specs.PackedArcs.{tailOf, headOf, costOf, residualOf, PackedMoved, PackedPhaseState, PackedSolved}
+use Rattle.engine.specs.declared.Sent.{Sent}
+use Rattle.engine.specs.declared.Sent.the-variants.{Reached, Unreached, Refused}
+
+-- The packed arc joins vertices below n, and costs at most 32767.
+abbrev pub arcFits : ℕ → ℕ → Bool
+arcFits n arc = ltb (tailOf arc) n && ltb (headOf arc) n && leb (costOf arc) 32767
+
+-- At most 255 vertices and 4096 arcs, one amount for each arc, and arcs that fit.
+abbrev pub arcsFit : List ℕ → ℕ → ℕ → Bool
+arcsFit arcs amounts n = leb n 255 && leb (length arcs) 4096 && eqb amounts (length arcs) && all (arcFits n) arcs
+
+-- What `solve` answers: arcs that fit, and for each of n vertices a potential, a need and a key.
+abbrev pub solvable : List ℕ → ℕ → ℕ → ℕ → ℕ → ℕ → Bool
+solvable arcs amounts potentials n needs keys = eqb potentials n && eqb needs n && eqb keys n && arcsFit arcs amounts n
+
+-- What `send` answers: arcs that fit, a key for each of n vertices, and a vertex t to send to.
+abbrev pub sendable : List ℕ → ℕ → ℕ → ℕ → ℕ → Bool
+sendable arcs t amounts n keys = ltb t n && eqb keys n && arcsFit arcs amounts n
+
+-- A call of `solve`: refused, with nothing changed; or solved, from amounts and potentials of 0.
+pub data SolveOutcome (arcs x pi left need key x' pi' left' need' key' : List ℕ) : Bool → Type 0 where
+  refused :
+      solvable arcs (length x) (length pi) (length left) (length need) (length key) ≡ false
+      → x' ≡ x → pi' ≡ pi → left' ≡ left → need' ≡ need → key' ≡ key → SolveOutcome arcs x pi left need key x' pi' left' need' key' false
+  solved :
+      solvable arcs (length x) (length pi) (length left) (length need) (length key) ≡ true
+      → (par' : List ℕ) → PackedSolved arcs (zeroList (length arcs)) (zeroList (length left)) left need x' pi' left' need' key' par'
+      → SolveOutcome arcs x pi left need key x' pi' left' need' key' true
+
+-- A search from the vertices with supply left, and a push of at most want to t where t was reached.
+pub data SearchAndPush (arcs x pi left x' left' key' : List ℕ) (t want : ℕ) : Sent → Type 0 where
+  away :
+      (par' : List ℕ) → SearchResult (residualOf arcs x pi) left key' par' → unreached ≤ entry key' t → x' ≡ x → left' ≡ left
+      → SearchAndPush arcs x pi left x' left' key' t want Unreached
+  reached :
+      (par' : List ℕ) → SearchResult (residualOf arcs x pi) left key' par' → entry key' t < unreached
+      → (g : ℕ) → PackedMoved arcs par' key' x left x' left' t want g → SearchAndPush arcs x pi left x' left' key' t want (Reached g)
+
+-- A call of `send`: refused, with nothing changed; or answered, from amounts and potentials of 0, in a state that the search takes for granted.
+pub data SendOutcome (arcs : List ℕ) (t want : ℕ) (x left key x' left' key' : List ℕ) : Sent → Type 0 where
+  refused :
+      sendable arcs t (length x) (length left) (length key) ≡ false → x' ≡ x → left' ≡ left → key' ≡ key
+      → SendOutcome arcs t want x left key x' left' key' Refused
+  answered :
+      {r : Sent} → sendable arcs t (length x) (length left) (length key) ≡ true
+      → PackedPhaseState arcs (zeroList (length arcs)) (zeroList (length left)) left (zeroList (length left))
+      → SearchAndPush arcs (zeroList (length arcs)) (zeroList (length left)) left x' left' key' t want r
+      → SendOutcome arcs t want x left key x' left' key' r

@@ -1,0 +1,147 @@
+-- The residual network of a list of arcs, and what one search over it, by relaxing arcs, keeps.
+-- Assumes nothing.
+use mathlib.Core.Path.{_≡_}
+use mathlib.Core.Bool.{Bool, true, false}
+use mathlib.Core.List.{List, [], _∷_}
+use Prim.Native.Nat.{ℕ, _+_, _*_, _-_, _/_, _<_, _≤_, min}
+use lib.ListN.{length, getD, set, replicate}
+
+-- The entry of a list of numbers at the index i, 0 past the end.
+abbrev pub entry : List ℕ → ℕ → ℕ
+entry l i = getD l i 0
+
+-- n zeros.
+abbrev pub zeroList : ℕ → List ℕ
+zeroList n = replicate n 0
+
+-- The key of a vertex that is not reached.
+abbrev pub unreached : ℕ
+unreached = 2147483648
+
+-- The arcs, by column, with the amounts x and the potentials pi of the vertices.
+pub record ResidualNetwork : Type 0 where
+  pub from : List ℕ
+  pub to : List ℕ
+  pub cost : List ℕ
+  pub cap : List ℕ
+  pub x : List ℕ
+  pub pi : List ℕ
+
+-- The residual network with these columns, amounts and potentials.
+abbrev pub residual : List ℕ → List ℕ → List ℕ → List ℕ → List ℕ → List ℕ → ResidualNetwork
+residual f t c k x p = record { from = f; to = t; cost = c; cap = k; x = x; pi = p }
+
+-- The vertex that the arc e leads from.
+abbrev pub tail : ResidualNetwork → ℕ → ℕ
+tail N e = entry (N .from) e
+
+-- The vertex that the arc e leads to.
+abbrev pub head : ResidualNetwork → ℕ → ℕ
+head N e = entry (N .to) e
+
+-- The cost plus the potential of the tail.
+abbrev pub raisedCost : ResidualNetwork → ℕ → ℕ
+raisedCost N e = entry (N .cost) e + entry (N .pi) (tail N e)
+
+-- The potential of the head. The reduced cost is how much the cost plus the potential of the tail is above it.
+abbrev pub headPotential : ResidualNetwork → ℕ → ℕ
+headPotential N e = entry (N .pi) (head N e)
+
+-- The columns are of one length, and the numbers within the limits, for n vertices.
+pub record WithinLimits (N : ResidualNetwork) (n : ℕ) : Type 0 where
+  pub few : length (N .from) ≤ 4096
+  pub to-len : length (N .to) ≡ length (N .from)
+  pub cost-len : length (N .cost) ≡ length (N .from)
+  pub cap-len : length (N .cap) ≡ length (N .from)
+  pub x-len : length (N .x) ≡ length (N .from)
+  pub pi-len : length (N .pi) ≡ n
+  pub tails : (e : ℕ) → e < length (N .from) → tail N e < n
+  pub heads : (e : ℕ) → e < length (N .from) → head N e < n
+  pub costs : (e : ℕ) → entry (N .cost) e ≤ 32767
+  pub pis : (v : ℕ) → entry (N .pi) v ≤ 8322818
+
+-- No residual arc has a negative reduced cost.
+pub record NonnegativeReducedCosts (N : ResidualNetwork) : Type 0 where
+  pub forward : (e : ℕ) → e < length (N .from) → entry (N .x) e < entry (N .cap) e → headPotential N e ≤ raisedCost N e
+  pub backward : (e : ℕ) → e < length (N .from) → 0 < entry (N .x) e → raisedCost N e ≤ headPotential N e
+
+-- The key at the end of a residual arc of length len from a vertex with the key k: 256 for each unit, 1 for the arc.
+abbrev pub keyBeyond : ℕ → ℕ → ℕ
+keyBeyond k len = k + len * 256 + 1
+
+-- The arc e is relaxed forward: where it has room and its tail is reached, it lowers no key.
+abbrev pub RelaxedForward : ResidualNetwork → List ℕ → ℕ → Type 0
+RelaxedForward N key e =
+    entry (N .x) e < entry (N .cap) e → entry key (tail N e) < unreached → entry key (head N e) ≤ keyBeyond (entry key (tail N e)) (raisedCost N e - headPotential N e)
+
+-- The arc e is relaxed backward: where it carries something and its head is reached, it lowers no key.
+abbrev pub RelaxedBackward : ResidualNetwork → List ℕ → ℕ → Type 0
+RelaxedBackward N key e = 0 < entry (N .x) e → entry key (head N e) < unreached → entry key (tail N e) ≤ keyBeyond (entry key (head N e)) (headPotential N e - raisedCost N e)
+
+-- The arc e is relaxed both ways.
+pub record RelaxedArc (N : ResidualNetwork) (key : List ℕ) (e : ℕ) : Type 0 where
+  pub forward : RelaxedForward N key e
+  pub backward : RelaxedBackward N key e
+
+-- The parent arc of the vertex v: the arc e forward (code e) or backward (code 4096 + e), from an end whose key is lower.
+pub data ParentArc (N : ResidualNetwork) (key : List ℕ) (code : ℕ) (v : ℕ) : Type 0 where
+  forward :
+      code < length (N .from) → entry (N .x) code < entry (N .cap) code → head N code ≡ v → entry key (tail N code) < unreached
+      → keyBeyond (entry key (tail N code)) (raisedCost N code - headPotential N code) ≤ entry key v → ParentArc N key code v
+  backward :
+      (e : ℕ) → code ≡ 4096 + e → e < length (N .from) → 0 < entry (N .x) e → tail N e ≡ v → entry key (head N e) < unreached
+      → keyBeyond (entry key (head N e)) (headPotential N e - raisedCost N e) ≤ entry key v → ParentArc N key code v
+
+-- Every vertex that is reached is a root (key 0) or has a parent arc.
+abbrev pub ParentTree : ResidualNetwork → List ℕ → List ℕ → Type 0
+ParentTree N key par = (v : ℕ) → v < length key → entry key v < unreached → 0 < entry key v → ParentArc N key (entry par v) v
+
+-- The sum of the entries, which falls with each pass but the last.
+unfoldable pub sum : List ℕ → ℕ
+sum [] = 0
+sum (a ∷ l) = a + sum l
+
+-- What a lowering of keys keeps.
+pub record LoweredKeys (N : ResidualNetwork) (key par key' par' : List ℕ) : Type 0 where
+  pub key-len : length key' ≡ length key
+  pub par-len : length par' ≡ length par
+  pub below : (v : ℕ) → entry key' v ≤ entry key v
+  pub roots : (v : ℕ) → v < length key → entry key' v ≡ 0 → entry key v ≡ 0
+  pub tree : ParentTree N key par → ParentTree N key' par'
+
+-- The outcome of lowering by one residual arc from u to v.
+pub data LowerOutcome (u v len code : ℕ) (key par key' par' : List ℕ) : Bool → Type 0 where
+  lowered :
+      entry key u < unreached → keyBeyond (entry key u) len < entry key v → key' ≡ set key v (keyBeyond (entry key u) len) → par' ≡ set par v code
+      → LowerOutcome u v len code key par key' par' true
+  kept : (entry key u < unreached → entry key v ≤ keyBeyond (entry key u) len) → key' ≡ key → par' ≡ par → LowerOutcome u v len code key par key' par' false
+
+-- What came of relaxing: the sum of the keys fell, or nothing changed and P holds.
+pub data Progress (P : Type 0) (key par key' par' : List ℕ) : Bool → Type 0 where
+  fell : sum key' < sum key → Progress P key par key' par' true
+  stayed : key' ≡ key → par' ≡ par → P → Progress P key par key' par' false
+
+-- What relaxing takes for granted.
+pub record SearchReady (N : ResidualNetwork) (key par : List ℕ) : Type 0 where
+  pub sized : WithinLimits N (length key)
+  pub nonnegative : NonnegativeReducedCosts N
+  pub par-len : length par ≡ length key
+
+-- What relaxing gives back.
+pub record Relaxation (N : ResidualNetwork) (P : Type 0) (key par key' par' : List ℕ) (r : Bool) : Type 0 where
+  pub keeps : LoweredKeys N key par key' par'
+  pub went : Progress P key par key' par' r
+
+-- The arcs below n are relaxed.
+abbrev pub AllRelaxed : ResidualNetwork → List ℕ → ℕ → Type 0
+AllRelaxed N key n = (e : ℕ) → e < n → RelaxedArc N key e
+
+-- What passes give back that go on until every arc is relaxed.
+pub record Converged (N : ResidualNetwork) (key par key' par' : List ℕ) : Type 0 where
+  pub keeps : LoweredKeys N key par key' par'
+  pub relaxed : AllRelaxed N key' (length (N .from))
+
+-- The potentials after a phase that stops at the key d: each rises by the lesser of its distance and that of d.
+pub record RaisedPotentials (d : ℕ) (key pi pi' : List ℕ) : Type 0 where
+  pub len : length pi' ≡ length pi
+  pub by : (v : ℕ) → v < length key → entry pi' v ≡ entry pi v + min (entry key v) d / 256

@@ -1,0 +1,32 @@
+// One search from the vertices with supply left, and one push to a vertex where it was reached.
+ghost use mathlib.Core.Path.{_≡_};
+ghost use Prim.Native.Nat.{_<_};
+ghost use lib.ListN.{length};
+ghost use Rattle.engine.specs.Calls.{SearchAndPush};
+ghost use Rattle.engine.specs.PackedArcs.{PackedPhaseState};
+use super::Sent;
+use super::UNREACHED;
+use super::push::push;
+use super::search::search;
+
+pub(crate) fn search_and_push(
+    t: usize,
+    want: u32,
+    arcs: &[u64],
+    pi: &[u32],
+    x: &mut [u16],
+    left: &mut [u32],
+    key: &mut [u32],
+    par: &mut [u16],
+) -> Sent
+    requires { ⌜ (t < length (now left)) × (length (now key) ≡ length (now left)) × (length (now par) ≡ length (now left)) ⌝ }
+    requires { ⌜ PackedPhaseState (now arcs) (now x) (now pi) (now left) (now pi) ⌝ }
+    ensures { λ r. ⌜ SearchAndPush (now (arcs .entry)) (now (x .entry)) (now (pi .entry)) (now (left .entry)) (now (x .exit)) (now (left .exit)) (now (key .exit)) t want r ⌝ }
+{
+    search(arcs, x, pi, left, key, par);
+    if key[t] < UNREACHED {
+        let got = push(t, want, arcs, par, key, x, left);
+        return Sent::Reached(got);
+    }
+    Sent::Unreached
+}

@@ -1,8 +1,0 @@
--- `solver::engine::first_key` meets its contract.
--- Assumes nothing.
-use Rattle.prelude.proofs.Choice.{tests}
-use Rattle.solver.proofs.engine.first_key.Statement.{statement}
-use Rattle.solver.proofs.engine.first_key.Tie as tie
-
-pub first-key-spec : {M : Type 1} → statement M
-first-key-spec = tie.close (tie.spec (λ c. search tests) (λ c. search tests))
