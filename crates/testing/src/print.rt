@@ -1,0 +1,47 @@
+// What the programs print: text, numbers, labels, and answers with commas between.
+use super::answers::ACCEPTED;
+use super::answers::NONE;
+use super::numbers::minus;
+
+pub fn text(words: &[u8]) {
+    io::write_all(1, words);
+}
+
+// A number after some text.
+pub fn number(words: &[u8], k: usize) {
+    text(words);
+    io::print_decimal(1, k as u64);
+}
+
+// What stands in a script from one place up to another.
+pub fn part(script: &[u8], from: usize, to: usize) {
+    if script.len() < to {
+        return;
+    }
+    if to < from {
+        return;
+    }
+    text(&script[from..to]);
+}
+
+// What stands before a result, if so many were shown before it on its line.
+pub fn before(shown: usize) {
+    if shown == 0 {
+        text(b": ");
+        return;
+    }
+    text(b", ");
+}
+
+// An answer that is given as a number.
+pub fn answer(code: usize) {
+    if code < NONE {
+        number(b"value ", code);
+        return;
+    }
+    match code {
+        NONE => text(b"none"),
+        ACCEPTED => text(b"accepted"),
+        _ => number(b"refused ", minus(code, NONE)),
+    }
+}
