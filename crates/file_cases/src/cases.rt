@@ -7,14 +7,16 @@ use super::files::with_result;
 use super::outcomes::helped;
 use super::outcomes::judged;
 use super::outcomes::kept;
-use super::print;
-use super::script::decimal;
-use super::script::find;
-use super::script::plus;
-use super::script::write_hex;
+use super::print::written;
 use super::sweeps;
 use format::bytes::byte;
 use helper::Written;
+use testing::numbers::plus;
+use testing::print;
+use testing::script::decimal;
+use testing::script::find;
+use testing::script::starts_line;
+use testing::script::write_hex;
 
 // Where the two files that a case starts from stand in the script.
 struct Sources {
@@ -42,7 +44,7 @@ fn help(script: &[u8], at: usize, net: &[u8], ann: &mut [u8], f: Files) -> Files
     let w = helped(net, f.net, ann, decimal(script, at));
     let k = length(w);
     print::before(f.shown);
-    print::written(w, kept(ann, k));
+    written(w, kept(ann, k));
     with_result(with_ann(f, k))
 }
 
@@ -104,7 +106,7 @@ fn case(script: &[u8], at: usize, from: Sources) {
         shown: 0,
     };
     let colon = find(script, at, b':');
-    print::label(script, at, colon);
+    print::part(script, at, colon);
     words(script, colon, &mut net, &mut ann, f);
     print::text(b"\n");
 }
@@ -131,10 +133,7 @@ fn line(script: &[u8], at: usize, from: Sources) -> Sources {
 
 // The line that starts at a place, if one does.
 fn line_at(script: &[u8], at: usize, from: Sources) -> Sources {
-    if at == 0 {
-        return line(script, at, from);
-    }
-    if byte(script, at - 1) == b'\n' {
+    if starts_line(script, at) {
         return line(script, at, from);
     }
     from

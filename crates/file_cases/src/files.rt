@@ -1,10 +1,11 @@
 // A file in an array that is longer, changed as a word of the script says.
-use super::script::decimal;
-use super::script::find;
-use super::script::plus;
-use super::script::write_hex;
 use format::bytes::byte;
 use format::bytes::put_byte;
+use testing::numbers::minus;
+use testing::numbers::plus;
+use testing::script::decimal;
+use testing::script::find;
+use testing::script::write_hex;
 
 // How many bytes the network and the annotation have, and how many results the line has shown.
 pub struct Files {
@@ -52,7 +53,7 @@ fn repeat(file: &mut [u8], size: usize, width: usize, times: usize) -> usize {
     let mut i: usize = 0;
     while i < more {
         let to = plus(size, i);
-        let c = byte(file, std::num::wrapping_sub_usize(to, width));
+        let c = byte(file, minus(to, width));
         put_byte(file, to, c);
         i += 1;
     }

@@ -1,24 +1,30 @@
-// Calls of judging and of the helper on the files in two arrays.
+// Calls of judging and of the helper on the files in two arrays, and what comes of each as one number.
 use super::files::Files;
-use super::script::plus;
 use format::bytes::put_byte;
 use helper::Written;
-use session::Answer;
+use testing::answers::ACCEPTED;
+use testing::answers::NONE;
+use testing::answers::code;
+use testing::numbers::low_word;
+use testing::numbers::plus;
 
 // What the buffer is filled with before the helper writes.
 const FILLING: u8 = 170;
 
-// Judges the first bytes of each array.
-pub fn judged(net: &[u8], ann: &[u8], f: Files, point: usize) -> Answer {
+// Where a file is said to be longer than its array.
+const TOO_LONG: usize = 1000000000098;
+
+// What comes of judging the first bytes of each array, TOO_LONG where they have fewer.
+pub fn judged(net: &[u8], ann: &[u8], f: Files, point: usize) -> usize {
     let a = f.net;
     let b = f.ann;
     if net.len() < a {
-        return Answer::Refused(0);
+        return TOO_LONG;
     }
     if ann.len() < b {
-        return Answer::Refused(0);
+        return TOO_LONG;
     }
-    judging::judge(&net[..a], &ann[..b], (point % 4294967296) as u32)
+    code(judging::judge(&net[..a], &ann[..b], low_word(point)))
 }
 
 fn fill(buffer: &mut [u8]) {
@@ -54,39 +60,24 @@ pub fn helped(net: &[u8], size: usize, buffer: &mut [u8], room: usize) -> Writte
     helper::annotate(&net[..size], &mut buffer[..room])
 }
 
-// What stands for none, and for the value 0; the numbers of refusals are below.
-const NONE: usize = 999;
-
-const VALUE: usize = 1000;
-
-// One number for an answer.
-fn number(answer: Answer) -> usize {
-    match answer {
-        Answer::Accepted => VALUE,
-        Answer::Value(v) => plus(VALUE, v as usize),
-        Answer::None => NONE,
-        Answer::Refused(k) => k as usize,
-    }
-}
-
-// The helper's refusal, VALUE where it wrote, NONE where it refused and changed the buffer.
-fn helper_number(written: Written, buffer: &[u8]) -> usize {
+// The helper's refusal, ACCEPTED where it wrote, NONE where it refused and changed the buffer.
+fn helper_code(written: Written, buffer: &[u8]) -> usize {
     match written {
-        Written::Length(_) => VALUE,
+        Written::Length(_) => ACCEPTED,
         Written::Refused(k) => {
             if kept(buffer, 0) {
-                return k as usize;
+                return plus(NONE, k as usize);
             }
             NONE
         }
     }
 }
 
-// What comes of the helper with a buffer of 100 bytes, or of judging at the point 9, as one number.
+// What comes of the helper with a buffer of 100 bytes, or of judging at the point 9.
 pub fn outcome(helps: bool, net: &[u8], ann: &mut [u8], f: Files) -> usize {
     if helps {
         let w = helped(net, f.net, ann, 100);
-        return helper_number(w, ann);
+        return helper_code(w, ann);
     }
-    number(judged(net, ann, f, 9))
+    judged(net, ann, f, 9)
 }

@@ -24,7 +24,7 @@ pub fn show(r: Run) {
     }
     print::before(r.shown);
     if 1 < r.count {
-        print::number(b"", r.count);
+        print::digits(r.count);
         print::text(b" times ");
     }
     print::answer(r.answer);

@@ -7,10 +7,14 @@ pub fn text(words: &[u8]) {
     io::write_all(1, words);
 }
 
+pub fn digits(k: usize) {
+    io::print_decimal(1, k as u64);
+}
+
 // A number after some text.
 pub fn number(words: &[u8], k: usize) {
     text(words);
-    io::print_decimal(1, k as u64);
+    digits(k);
 }
 
 // What stands in a script from one place up to another.

@@ -21,8 +21,9 @@ changes-spec =
     Inv-loop
     μ-loop
     (λ c κs. search needs)
-    (λ c. omega arith)
     (λ c. search needs)
+    (λ c. search needs)
+    (λ c κs. search needs)
     (λ c κs. search needs)
     (λ c κs. search needs)
     (λ c. omega arith)
