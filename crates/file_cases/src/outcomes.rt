@@ -1,5 +1,7 @@
-// Calls of judging and of the helper on the files in two arrays, and what comes of each as one number.
+// Calls of judging and of the helper on the two files, and what comes of each as one number.
 use super::files::Files;
+use super::files::START;
+use format::bytes::byte;
 use format::bytes::put_byte;
 use helper::Written;
 use testing::answers::ACCEPTED;
@@ -8,28 +10,28 @@ use testing::answers::code;
 use testing::numbers::low_word;
 use testing::numbers::plus;
 
-// What the buffer is filled with before the helper writes.
+// What the annotation's part of the array is filled with before the helper writes.
 const FILLING: u8 = 170;
 
-// Where a file is said to be longer than its array.
-const TOO_LONG: usize = 1000000000098;
-
-// What comes of judging the first bytes of each array, TOO_LONG where they have fewer.
-pub fn judged(net: &[u8], ann: &[u8], f: Files, point: usize) -> usize {
+// What comes of judging at a point.
+pub fn judged(files: &[u8], f: Files, point: usize) -> usize {
     let a = f.net;
-    let b = f.ann;
-    if net.len() < a {
-        return TOO_LONG;
+    let b = plus(START, f.ann);
+    if files.len() < a {
+        return NONE;
     }
-    if ann.len() < b {
-        return TOO_LONG;
+    if files.len() < b {
+        return NONE;
     }
-    code(judging::judge(&net[..a], &ann[..b], low_word(point)))
+    if b < START {
+        return NONE;
+    }
+    code(judging::judge(&files[0..a], &files[START..b], low_word(point)))
 }
 
-fn fill(buffer: &mut [u8]) {
+fn fill(buffer: &mut [u8], from: usize) {
     let n = buffer.len();
-    let mut i = 0;
+    let mut i = from;
     while i < n {
         put_byte(buffer, i, FILLING);
         i += 1;
@@ -37,7 +39,7 @@ fn fill(buffer: &mut [u8]) {
 }
 
 // Are all bytes from an index on as they were filled?
-pub fn kept(buffer: &[u8], from: usize) -> bool {
+fn kept(buffer: &[u8], from: usize) -> bool {
     let mut i = from;
     while i < buffer.len() {
         if buffer[i] != FILLING {
@@ -48,36 +50,70 @@ pub fn kept(buffer: &[u8], from: usize) -> bool {
     true
 }
 
-// Calls the helper on the first bytes of one array and so many of the other, which is filled before.
-pub fn helped(net: &[u8], size: usize, buffer: &mut [u8], room: usize) -> Written {
-    fill(buffer);
-    if net.len() < size {
-        return Written::Refused(0);
-    }
-    if buffer.len() < room {
-        return Written::Refused(0);
-    }
-    helper::annotate(&net[..size], &mut buffer[..room])
-}
-
-// The helper's refusal, ACCEPTED where it wrote, NONE where it refused and changed the buffer.
-fn helper_code(written: Written, buffer: &[u8]) -> usize {
-    match written {
-        Written::Length(_) => ACCEPTED,
-        Written::Refused(k) => {
-            if kept(buffer, 0) {
-                return plus(NONE, k as usize);
-            }
-            NONE
-        }
+// Copies the first bytes.
+fn copy(from: &[u8], to: &mut [u8], size: usize) {
+    let mut i: usize = 0;
+    while i < size {
+        put_byte(to, i, byte(from, i));
+        i += 1;
     }
 }
 
-// What comes of the helper with a buffer of 100 bytes, or of judging at the point 9.
-pub fn outcome(helps: bool, net: &[u8], ann: &mut [u8], f: Files) -> usize {
-    if helps {
-        let w = helped(net, f.net, ann, 100);
-        return helper_code(w, ann);
+// The length, or NONE + k for the refusal k.
+fn helper_code(w: Written) -> usize {
+    match w {
+        Written::Length(k) => k as usize,
+        Written::Refused(k) => plus(NONE, k as usize),
     }
-    judged(net, ann, f, 9)
+}
+
+// Has the helper write so many bytes at most into the annotation's part of the array.
+fn written(net: &[u8], files: &mut [u8], room: usize) -> usize {
+    let end = plus(START, room);
+    if files.len() < end {
+        return NONE;
+    }
+    if end < START {
+        return NONE;
+    }
+    helper_code(helper::annotate(net, &mut files[START..end]))
+}
+
+// Calls the helper on the network, with the annotation's part filled before.
+pub fn helped(files: &mut [u8], size: usize, room: usize) -> usize {
+    let mut net = [0u8; 32768];
+    if 32768 < size {
+        return NONE;
+    }
+    copy(files, &mut net, size);
+    fill(files, START);
+    written(&net[0..size], files, room)
+}
+
+// Are the bytes that the helper had to keep as they were filled? It writes as many as it says, and none where it refuses.
+pub fn rest_kept(files: &[u8], code: usize) -> bool {
+    if code < NONE {
+        return kept(files, plus(START, code));
+    }
+    kept(files, START)
+}
+
+// What comes of the helper with a buffer of 100 bytes: its refusal, NONE where it changed bytes that it had to keep, else ACCEPTED.
+fn helper_outcome(files: &mut [u8], size: usize) -> usize {
+    let code = helped(files, size, 100);
+    if !rest_kept(files, code) {
+        return NONE;
+    }
+    if code < NONE {
+        return ACCEPTED;
+    }
+    code
+}
+
+// What comes of the helper, or of judging at the point 9.
+pub fn outcome(kind: u8, files: &mut [u8], f: Files) -> usize {
+    if kind == b'h' {
+        return helper_outcome(files, f.net);
+    }
+    judged(files, f, 9)
 }

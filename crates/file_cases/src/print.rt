@@ -1,21 +1,7 @@
-// The results that the program prints beside answers.
-use helper::Written;
+// What the program prints of many outcomes.
 use testing::print::digits;
 use testing::print::number;
 use testing::print::text;
-
-// What the helper replied, and whether it kept the bytes that it has to keep.
-pub fn written(w: Written, kept: bool) {
-    match w {
-        Written::Length(k) => number(b"length ", k as usize),
-        Written::Refused(k) => number(b"refused ", k as usize),
-    }
-    if kept {
-        text(b" (rest kept)");
-        return;
-    }
-    text(b" (REST CHANGED)");
-}
 
 // One refusal of many.
 fn refused(k: usize, count: usize) {

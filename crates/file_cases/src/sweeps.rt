@@ -1,10 +1,9 @@
 // A file cut to every shorter length, or with every byte of its front changed in every way: how often each outcome comes.
-// Which file is meant: `n` and `h` the network, for judging and for the helper; `a` the annotation.
 use super::files::Files;
-use super::files::with_ann;
-use super::files::with_net;
+use super::files::sized;
+use super::files::start;
 use super::outcomes::outcome;
-use super::print;
+use super::print::counts;
 use format::bytes::byte;
 use format::bytes::put_byte;
 use testing::answers::NONE;
@@ -36,71 +35,37 @@ fn count(counts: &mut [usize; 32], at: usize) {
     }
 }
 
-// The files with one of them cut to so many bytes.
-fn cut(kind: u8, size: usize, f: Files) -> Files {
-    if kind == b'a' {
-        return with_ann(f, size);
-    }
-    with_net(f, size)
-}
-
-fn length(kind: u8, f: Files) -> usize {
-    if kind == b'a' {
-        return f.ann;
-    }
-    f.net
-}
-
-// Every shorter length.
-pub fn cuts(kind: u8, net: &[u8], ann: &mut [u8], f: Files) {
-    let mut counts = [0usize; 32];
-    let usual = outcome(kind == b'h', net, ann, f);
-    let end = length(kind, f);
-    let mut k: usize = 0;
-    while k < end {
-        let o = outcome(kind == b'h', net, ann, cut(kind, k, f));
-        count(&mut counts, place(usual, o));
-        k += 1;
-    }
-    print::counts(&counts);
-}
-
-// Puts a byte at an index, and answers what stood there.
-fn exchange(file: &mut [u8], at: usize, c: u8) -> u8 {
-    let old = byte(file, at);
-    put_byte(file, at, c);
-    old
-}
-
-// The same in the file that is meant.
-fn exchange_in(kind: u8, net: &mut [u8], ann: &mut [u8], at: usize, c: u8) -> u8 {
-    if kind == b'a' {
-        return exchange(ann, at, c);
-    }
-    exchange(net, at, c)
-}
-
-// The outcome of change number k: the byte k / 256 becomes k % 256, and what it was after that.
-fn changed(kind: u8, k: usize, net: &mut [u8], ann: &mut [u8], f: Files) -> usize {
+// The outcome with the byte k / 256 of a file changed to k % 256 for this once.
+fn changed(kind: u8, k: usize, files: &mut [u8], f: Files) -> usize {
+    let at = plus(start(kind), k / 256);
     let c = low_byte(k);
-    let old = exchange_in(kind, net, ann, k / 256, c);
+    let old = byte(files, at);
     if old == c {
         return NOTHING;
     }
-    let o = outcome(kind == b'h', net, ann, f);
-    exchange_in(kind, net, ann, k / 256, old);
+    put_byte(files, at, c);
+    let o = outcome(kind, files, f);
+    put_byte(files, at, old);
     o
 }
 
-// Every change of one of the first so many bytes.
-pub fn changes(kind: u8, bytes: usize, net: &mut [u8], ann: &mut [u8], f: Files) {
-    let mut counts = [0usize; 32];
-    let usual = outcome(kind == b'h', net, ann, f);
-    let end = bytes % 256 * 256;
+// The outcome of variation k: `<` cuts a file to k bytes, `!` changes a byte.
+fn varied(how: u8, kind: u8, k: usize, files: &mut [u8], f: Files) -> usize {
+    if how == b'<' {
+        return outcome(kind, files, sized(kind, f, k));
+    }
+    changed(kind, k, files, f)
+}
+
+// So many variations.
+pub fn sweep(how: u8, kind: u8, end: usize, files: &mut [u8], f: Files) {
+    let mut outcomes = [0usize; 32];
+    let usual = outcome(kind, files, f);
     let mut k: usize = 0;
     while k < end {
-        count(&mut counts, place(usual, changed(kind, k, net, ann, f)));
+        let o = varied(how, kind, k, files, f);
+        count(&mut outcomes, place(usual, o));
         k += 1;
     }
-    print::counts(&counts);
+    counts(&outcomes);
 }

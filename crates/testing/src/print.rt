@@ -37,10 +37,10 @@ pub fn before(shown: usize) {
     text(b", ");
 }
 
-// An answer that is given as a number.
-pub fn answer(code: usize) {
+// An answer that is given as a number, with a word for a value.
+pub fn coded(word: &[u8], code: usize) {
     if code < NONE {
-        number(b"value ", code);
+        number(word, code);
         return;
     }
     match code {
@@ -48,4 +48,8 @@ pub fn answer(code: usize) {
         ACCEPTED => text(b"accepted"),
         _ => number(b"refused ", minus(code, NONE)),
     }
+}
+
+pub fn answer(code: usize) {
+    coded(b"value ", code);
 }

@@ -20,10 +20,10 @@ counts-spec =
     μ-loop
     (λ c. search needs)
     (λ c κs. search needs)
-    (λ c. omega arith)
+    (λ c. search needs)
     (λ c. search needs)
     (λ c κs. search needs)
-    (λ c. omega arith)
+    (λ c. search needs)
     (λ c κs. search needs)
     (λ c. search needs)
     (λ c. search needs)

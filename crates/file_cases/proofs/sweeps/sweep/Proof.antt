@@ -1,29 +1,27 @@
--- `file_cases::sweeps::cuts` is safe and ends: it goes through the lengths.
+-- `file_cases::sweeps::sweep` is safe and ends: it goes through the variations.
 -- Assumes nothing.
 use Prim.Native.Nat.{_-_, _≤_}
 use mathlib.Core.Path.{_≡_}
 use native.Mathlib.Omega.{arith}
 use lib.ListN.{length}
 use borrow.Author.Needs.{needs}
-use Rattle.file_cases.proofs.sweeps.cuts.Statement.{statement}
-use Rattle.file_cases.proofs.sweeps.cuts.Tie as tie
+use Rattle.file_cases.proofs.sweeps.sweep.Statement.{statement}
+use Rattle.file_cases.proofs.sweeps.sweep.Tie as tie
 
 abbrev Inv-loop : tie.InvT-loop
-Inv-loop kind net ann₀ f counts₀ usual end k₀ ann counts k = (k ≤ end) × (length ann ≡ length ann₀)
+Inv-loop how kind end files₀ f outcomes₀ usual k₀ files outcomes k = (k ≤ end) × (length files ≡ length files₀)
 
 abbrev μ-loop : tie.MeasureT-loop
-μ-loop kind net ann₀ f counts₀ usual end k₀ ann counts k = end - k
+μ-loop how kind end files₀ f outcomes₀ usual k₀ files outcomes k = end - k
 
-pub cuts-spec : {M : Type 1} → statement M
-cuts-spec =
+pub sweep-spec : {M : Type 1} → statement M
+sweep-spec =
     tie.close
     (tie.spec
     Inv-loop
     μ-loop
     (λ c κs. search needs)
-    (λ c κs. search needs)
     (λ c. search needs)
-    (λ c κs. search needs)
     (λ c κs. search needs)
     (λ c κs. search needs)
     (λ c κs. search needs)
