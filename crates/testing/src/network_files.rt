@@ -1,25 +1,19 @@
 // Network files written from numbers.
+use super::bytes::copy;
 use super::numbers::low_byte;
 use super::numbers::low_half;
-use format::bytes::put_byte;
 use format::bytes::put16;
-
-// The mark and the version.
-fn write_mark(file: &mut [u8]) {
-    put_byte(file, 0, b'D');
-    put_byte(file, 1, b'R');
-    put_byte(file, 2, b'N');
-    put16(file, 3, 1);
-}
 
 // The header for a question, n, s, t, and the count of the records.
 pub fn write_header(question: usize, n: usize, s: usize, t: usize, m: usize, file: &mut [u8]) {
-    write_mark(file);
-    put_byte(file, 5, low_byte(question));
-    put_byte(file, 6, low_byte(n));
-    put_byte(file, 7, low_byte(s));
-    put_byte(file, 8, low_byte(t));
-    put16(file, 9, low_half(m));
+    let mut h = [68u8, 82, 78, 0, 1, 0, 0, 0, 0, 0, 0];
+    h[5] = low_byte(question);
+    h[6] = low_byte(n);
+    h[7] = low_byte(s);
+    h[8] = low_byte(t);
+    h[9] = low_byte(m / 256);
+    h[10] = low_byte(m);
+    copy(&h, file, 11);
 }
 
 // How many bytes a network file of so many records has.

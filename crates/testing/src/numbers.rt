@@ -1,4 +1,4 @@
-// Sums and differences that never fail, and numbers that are cut to fewer bits.
+// Sums, differences and remainders that never fail, elements of a slice, and numbers that are cut to fewer bits.
 
 // The sum, the largest number where it is too large.
 pub fn plus(a: usize, b: usize) -> usize {
@@ -16,11 +16,27 @@ pub fn minus(a: usize, b: usize) -> usize {
     a - b
 }
 
+// The remainder, 0 where b is 0.
+pub fn modulo(a: usize, b: usize) -> usize {
+    if b == 0 {
+        return 0;
+    }
+    a % b
+}
+
 pub fn smaller(a: usize, b: usize) -> usize {
     if a < b {
         return a;
     }
     b
+}
+
+// The element at an index, 0 past the end.
+pub fn at(a: &[usize], i: usize) -> usize {
+    if a.len() <= i {
+        return 0;
+    }
+    a[i]
 }
 
 pub fn low_byte(x: usize) -> u8 {

@@ -1,7 +1,11 @@
 // What the programs print: text, numbers, labels, and answers with commas between.
 use super::answers::ACCEPTED;
 use super::answers::NONE;
+use super::numbers::at;
 use super::numbers::minus;
+use super::numbers::plus;
+use super::script::find;
+use super::script::item;
 
 pub fn text(words: &[u8]) {
     io::write_all(1, words);
@@ -26,6 +30,29 @@ pub fn part(script: &[u8], from: usize, to: usize) {
         return;
     }
     text(&script[from..to]);
+}
+
+// The name number k of a list with commas between.
+pub fn name(names: &[u8], k: u32) {
+    let from = item(names, 0, k);
+    part(names, from, find(names, from, b','));
+}
+
+// One name, with its count.
+fn counted(names: &[u8], k: u32, count: usize) {
+    name(names, k);
+    number(b" ", count);
+}
+
+// The names of a list, of which there are so many, each with its count; the counts stand from an index on.
+pub fn counts(names: &[u8], n: u32, counts: &[usize], from: usize) {
+    let mut k: u32 = 0;
+    while k < n {
+        before(k as usize);
+        counted(names, k, at(counts, plus(from, k as usize)));
+        k += 1;
+    }
+    text(b"\n");
 }
 
 // What stands before a result, if so many were shown before it on its line.

@@ -69,7 +69,7 @@ fn signed(script: &[u8], at: usize) -> u32 {
 }
 
 // Where the number k of the list starts that starts at a place.
-fn item(script: &[u8], at: usize, k: u32) -> usize {
+pub fn item(script: &[u8], at: usize, k: u32) -> usize {
     let mut from = at;
     let mut i: u32 = 0;
     while i < k {

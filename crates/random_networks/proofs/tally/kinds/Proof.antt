@@ -1,10 +1,10 @@
--- `random_networks::print::kinds` is safe and ends: it goes through the kinds.
+-- `random_networks::tally::kinds` is safe and ends: it goes through the kinds.
 -- Assumes nothing.
 use Prim.Native.Nat.{_-_, _≤_}
 use native.Mathlib.Omega.{arith}
 use borrow.Author.Needs.{needs}
-use Rattle.random_networks.proofs.print.kinds.Statement.{statement}
-use Rattle.random_networks.proofs.print.kinds.Tie as tie
+use Rattle.random_networks.proofs.tally.kinds.Statement.{statement}
+use Rattle.random_networks.proofs.tally.kinds.Tie as tie
 
 abbrev Inv-loop : tie.InvT-loop
 Inv-loop tally k₀ k = k ≤ 7
@@ -18,9 +18,9 @@ kinds-spec =
     (tie.spec
     Inv-loop
     μ-loop
-    (λ c. omega arith)
+    (λ c. search needs)
     (λ c κs. search needs)
     (λ c. omega arith)
     (λ c. omega arith)
-    (λ c. omega arith)
+    (λ c. search needs)
     (λ c. search needs))
