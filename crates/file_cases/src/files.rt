@@ -78,8 +78,17 @@ pub fn change(script: &[u8], at: usize, kind: u8, files: &mut [u8], size: usize)
         return minus(write_hex(script, next, b' ', files, plus(from, size)), from);
     }
     if c == b'*' {
-        return plus(size, repeat(kind, decimal(script, next), files, plus(from, size)));
+        return plus(
+            size,
+            repeat(kind, decimal(script, next), files, plus(from, size)),
+        );
     }
-    write_hex(script, find(script, at, b'='), b' ', files, plus(from, decimal(script, at)));
+    write_hex(
+        script,
+        find(script, at, b'='),
+        b' ',
+        files,
+        plus(from, decimal(script, at)),
+    );
     size
 }

@@ -1,12 +1,12 @@
 // Calls of judging and of the helper on the two files, and what comes of each as one number.
 use super::files::Files;
 use super::files::START;
-use format::bytes::byte;
 use format::bytes::put_byte;
 use helper::Written;
 use testing::answers::ACCEPTED;
 use testing::answers::NONE;
 use testing::answers::code;
+use testing::bytes::copy;
 use testing::numbers::low_word;
 use testing::numbers::plus;
 
@@ -48,15 +48,6 @@ fn kept(buffer: &[u8], from: usize) -> bool {
         i += 1;
     }
     true
-}
-
-// Copies the first bytes.
-fn copy(from: &[u8], to: &mut [u8], size: usize) {
-    let mut i: usize = 0;
-    while i < size {
-        put_byte(to, i, byte(from, i));
-        i += 1;
-    }
 }
 
 // The length, or NONE + k for the refusal k.

@@ -13,14 +13,12 @@ use testing::print;
 // How many networks there are for each question; of every 64 two have all 4096 records.
 const COUNT: usize = 1920;
 
-// One network; names it if it is wrong and few were before.
+// One network; names its seed if it is wrong.
 fn turn(question: usize, seed: usize, tally: &mut [usize; 256]) {
     let before = get(tally, tally::WRONG);
     trial::run(network(question, seed), tally);
-    if before < 3 && before < get(tally, tally::WRONG) {
-        print::number(b"question ", question);
-        print::number(b": wrong at seed ", seed);
-        print::text(b"\n");
+    if before < get(tally, tally::WRONG) {
+        print::number(b"wrong: ", seed);
     }
 }
 
@@ -33,15 +31,16 @@ fn all(question: usize, tally: &mut [usize; 256]) {
     }
 }
 
-fn question(name: &[u8], number: usize) {
+fn question(names: &[u8], number: u32) {
     let mut tally = [0usize; 256];
-    all(number, &mut tally);
-    print::text(name);
-    tally::show(&tally);
+    all(number as usize, &mut tally);
+    tally::show(names, number, &tally);
 }
 
 fn main() {
-    question(b"route", 1);
-    question(b"discharge", 2);
-    question(b"pairing", 3);
+    let mut input = io::buffer();
+    let n = io::read_full(0, &mut input);
+    question(&input[..n], 1);
+    question(&input[..n], 2);
+    question(&input[..n], 3);
 }

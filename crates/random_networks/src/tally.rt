@@ -1,4 +1,5 @@
-// Where each thing is counted in an array of counts, and how it is shown.
+// Where each thing is counted in an array of counts, and how it is shown. The names are a list on standard input: the three questions,
+// what is counted of the networks, what is counted of twists, and the kinds of twists.
 use super::twists::KINDS;
 use reference::array::grow;
 use testing::print;
@@ -24,35 +25,23 @@ pub fn count(tally: &mut [usize; 256], place: usize) {
 }
 
 // What came of one kind of twist.
-fn kind(k: u32, tally: &[usize; 256]) {
+fn kind(names: &[u8], k: u32, tally: &[usize; 256]) {
     print::text(b"  ");
-    print::name(
-        b"amount changed,node number changed,weight changed,record left out,claim changed,another record in place of one,one weight up and another down",
-        k,
-    );
-    print::counts(
-        b"refused,still right,wrong",
-        3,
-        tally,
-        TWISTED + 3 * (k as usize),
-    );
+    print::name(names, std::num::wrapping_add_u32(12, k));
+    print::counts(names, 9, 3, tally, TWISTED + 3 * (k as usize));
 }
 
-fn kinds(tally: &[usize; 256]) {
+fn kinds(names: &[u8], tally: &[usize; 256]) {
     let mut k: u32 = 0;
     while k < KINDS {
-        kind(k, tally);
+        kind(names, k, tally);
         k += 1;
     }
 }
 
 // Sums up the networks of one question.
-pub fn show(tally: &[usize; 256]) {
-    print::counts(
-        b"networks,values,none,compared,judged,wrong",
-        6,
-        tally,
-        NETWORKS,
-    );
-    kinds(tally);
+pub fn show(names: &[u8], question: u32, tally: &[usize; 256]) {
+    print::name(names, std::num::wrapping_sub_u32(question, 1));
+    print::counts(names, 3, 6, tally, NETWORKS);
+    kinds(names, tally);
 }

@@ -16,6 +16,7 @@ use helper::Written;
 use reference::UNKNOWN;
 use reference::arcs::write;
 use reference::array::get;
+use reference::array::grow;
 use reference::array::record;
 use reference::instances::Net;
 use reference::random::below;
@@ -27,6 +28,7 @@ use testing::numbers::as_signed;
 use testing::numbers::low_word;
 use testing::numbers::minus;
 use testing::numbers::plus;
+use testing::numbers::smaller;
 
 // How many networks are twisted, each three times in each of 7 ways.
 const TWISTED_NETWORKS: usize = 640;
@@ -36,21 +38,24 @@ const TWISTS: usize = 21;
 // An answer where there has to be a refusal. No true answer is as large.
 const ACCEPTED: usize = 999999999999;
 
-// Counts an answer, which has to be the wanted one.
-fn compare(said: usize, wanted: usize, tally: &mut [usize; 256]) {
-    count(tally, tally::JUDGED);
-    if said != wanted {
-        count(tally, tally::WRONG);
+// 1 where two numbers differ, else 0.
+fn different(a: usize, b: usize) -> usize {
+    if a == b {
+        return 0;
     }
+    1
 }
 
-// Judges at five points.
-fn everywhere(s: Shape, file: &[u8], ann: &[u8], wanted: usize, tally: &mut [usize; 256]) {
+// Judges at five points: how many answers are not the wanted one.
+fn everywhere(s: Shape, file: &[u8], ann: &[u8], wanted: usize) -> usize {
+    let mut wrong: usize = 0;
     let mut i: usize = 0;
     while i < 5 {
-        compare(judged(file, ann, point(s, file, i)), wanted, tally);
+        let said = judged(file, ann, point(s, file, i));
+        wrong = plus(wrong, different(said, wanted));
         i += 1;
     }
+    wrong
 }
 
 // Exchanges each record with any.
@@ -133,69 +138,87 @@ fn twist_all(s: Shape, file: &[u8], ann: &[u8], wanted: usize, tally: &mut [usiz
     }
 }
 
+// Judges in another order of the records: 1 where the answer is not the wanted one.
+fn shuffled(s: Shape, file: &[u8], ann: &mut [u8], wanted: usize) -> usize {
+    shuffle(s, ann);
+    different(judged(file, ann, any_point(s.seed, 7)), wanted)
+}
+
 // All that is done with an annotation whose answer is known.
 fn try_all(s: Shape, file: &[u8], ann: &mut [u8], wanted: usize, tally: &mut [usize; 256]) {
-    everywhere(s, file, ann, wanted, tally);
-    shuffle(s, ann);
-    compare(judged(file, ann, any_point(s.seed, 7)), wanted, tally);
+    grow(tally, tally::JUDGED, 6);
+    grow(tally, tally::WRONG, everywhere(s, file, ann, wanted));
+    grow(tally, tally::WRONG, shuffled(s, file, ann, wanted));
     if s.seed < TWISTED_NETWORKS {
         twist_all(s, file, ann, wanted, tally);
     }
 }
 
-// Counts a network by its answer.
-fn classify(wanted: usize, tally: &mut [usize; 256]) {
-    count(tally, tally::NETWORKS);
+// Where a network is counted by its answer.
+fn class(wanted: usize) -> usize {
     if wanted < NONE {
-        count(tally, tally::VALUES);
+        return tally::VALUES;
     }
     if wanted == NONE {
-        count(tally, tally::ANSWERED_NONE);
+        return tally::ANSWERED_NONE;
     }
-    if NONE < wanted {
-        count(tally, tally::WRONG);
+    tally::WRONG
+}
+
+// Counts a network, whose true answer may be unknown.
+fn classify(answer: usize, wanted: usize, tally: &mut [usize; 256]) {
+    count(tally, tally::NETWORKS);
+    count(tally, class(wanted));
+    if answer != UNKNOWN {
+        count(tally, tally::COMPARED);
     }
 }
 
 // The answer to expect: the true one, or where it is not known what the annotation comes out as at the point 0.
-fn expected(answer: usize, file: &[u8], ann: &[u8], tally: &mut [usize; 256]) -> usize {
+fn expected(answer: usize, file: &[u8], ann: &[u8]) -> usize {
     if answer == UNKNOWN {
         return judged(file, ann, 0);
     }
-    count(tally, tally::COMPARED);
     answer
 }
 
 // The node number that a route's vertex has to have: its least length, the highest where it is not reached; with none its mark.
 fn number(answer: usize, length: usize) -> usize {
-    if answer == NONE && length < NONE {
-        return 1;
-    }
     if answer == NONE {
-        return 0;
+        return different(length, NONE);
     }
-    if length < NONE {
-        return length;
-    }
-    8322818
+    smaller(length, 8322818)
 }
 
-// Counts node numbers that are not what the least lengths ask for.
-fn compare_lengths(
-    n: usize,
-    answer: usize,
-    lengths: &[usize; 256],
-    ann: &[u8],
-    tally: &mut [usize; 256],
-) {
+// 1 where the node number v is not what its least length asks for.
+fn strays(ann: &[u8], v: usize, y: usize) -> usize {
+    if annotation_file::number(ann, v) == as_signed(low_word(y)) {
+        return 0;
+    }
+    1
+}
+
+// How many node numbers of a route are not what the least lengths ask for.
+fn all_strays(n: usize, answer: usize, lengths: &[usize; 256], ann: &[u8]) -> usize {
+    let mut wrong: usize = 0;
     let mut v: usize = 0;
     while v < n {
-        let y = number(answer, get(lengths, v));
-        if annotation_file::number(ann, v) != as_signed(low_word(y)) {
-            count(tally, tally::WRONG);
-        }
+        wrong = plus(wrong, strays(ann, v, number(answer, get(lengths, v))));
         v += 1;
     }
+    wrong
+}
+
+// All that is done with an annotation.
+fn try_annotation(net: Net, answer: usize, file: &[u8], ann: &mut [u8], tally: &mut [usize; 256]) {
+    let wanted = expected(answer, file, ann);
+    classify(answer, wanted, tally);
+    let s = Shape {
+        n: net.n,
+        m: net.m,
+        seed: net.seed,
+    };
+    try_all(s, file, ann, wanted, tally);
 }
 
 // How many bytes the helper wrote; too many where it refused.
@@ -206,25 +229,28 @@ fn written(w: Written) -> usize {
     }
 }
 
-// The annotation is as many bytes of a buffer as the helper says.
-fn annotate(net: Net, answer: usize, file: &[u8], lengths: &[usize; 256], tally: &mut [usize; 256]) {
+// Has the helper write, over what no annotation has, and tries what it wrote.
+fn annotate(
+    net: Net,
+    answer: usize,
+    file: &[u8],
+    lengths: &[usize; 256],
+    tally: &mut [usize; 256],
+) {
     let mut buffer = [255u8; 25604];
     let size = written(helper::annotate(file, &mut buffer));
     if 25604 < size {
         count(tally, tally::WRONG);
         return;
     }
-    let s = Shape {
-        n: net.n,
-        m: net.m,
-        seed: net.seed,
-    };
-    let wanted = expected(answer, file, &buffer[0..size], tally);
-    classify(wanted, tally);
     if net.question == 1 {
-        compare_lengths(net.n, answer, lengths, &buffer[0..size], tally);
+        grow(
+            tally,
+            tally::WRONG,
+            all_strays(net.n, answer, lengths, &buffer),
+        );
     }
-    try_all(s, file, &mut buffer[0..size], wanted, tally);
+    try_annotation(net, answer, file, &mut buffer[0..size], tally);
 }
 
 // Writes the file of a network.
@@ -238,14 +264,18 @@ fn write_file(net: Net, records: &[u32; 4096], file: &mut [u8]) {
     }
 }
 
-// Makes the network, its true answer and its file.
-pub fn run(net: Net, tally: &mut [usize; 256]) {
+// Makes the network and its file; the true answer.
+fn make(net: Net, file: &mut [u8], lengths: &mut [usize; 256]) -> usize {
     let mut records = [0u32; 4096];
+    write(net, &mut records);
+    write_file(net, &records, file);
+    truth(net, &records, lengths)
+}
+
+pub fn run(net: Net, tally: &mut [usize; 256]) {
     let mut lengths = [NONE; 256];
     let mut file = [0u8; 16395];
-    write(net, &mut records);
-    let answer = truth(net, &records, &mut lengths);
-    write_file(net, &records, &mut file);
+    let answer = make(net, &mut file, &mut lengths);
     let size = network_files::size(net.m);
     if 16395 < size {
         return;

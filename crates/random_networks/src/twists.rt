@@ -1,10 +1,12 @@
 // One thing changed in an annotation.
-use super::annotations::move16;
+use super::annotations::move_amount;
+use super::annotations::move_arc;
 use super::annotations::number_at;
 use super::annotations::record_at;
 use super::points::Shape;
 use format::bytes::byte;
 use format::bytes::number16;
+use format::bytes::number32;
 use format::bytes::put_byte;
 use format::bytes::put16;
 use reference::random::below;
@@ -22,20 +24,12 @@ pub fn applies(kind: usize, m: usize) -> bool {
     kind == 1 || kind == 4 || m != 0
 }
 
-// One less, or 1 for 0.
-fn other_amount(x: u16) -> u16 {
-    if x == 0 {
-        return 1;
+// Another number: of an amount, at kind 0, one less, or 1 for 0; of a weight one more, or one less than the highest.
+fn other(kind: usize, x: u16) -> u16 {
+    if kind == 0 && x == 0 || kind != 0 && x < 32767 {
+        return std::num::wrapping_add_u16(x, 1);
     }
-    x - 1
-}
-
-// One more, or one less than the highest.
-fn other_weight(w: u16) -> u16 {
-    if w < 32767 {
-        return w + 1;
-    }
-    32766
+    std::num::wrapping_sub_u16(x, 1)
 }
 
 // The last byte of a node number one more or one less, by turns.
@@ -52,66 +46,77 @@ fn node(s: Shape, round: usize, ann: &mut [u8]) {
     put_byte(ann, last, other_byte(byte(ann, last), round));
 }
 
+// The other of the claims 1 and 2.
+fn claim(ann: &mut [u8]) {
+    put_byte(ann, 5, std::num::wrapping_sub_u8(3, byte(ann, 5)));
+}
+
+// Changes the amount of a record at kind 0, its weight at kind 2.
+fn number(kind: usize, ann: &mut [u8], record: usize) {
+    let at = plus(record, minus(4, kind));
+    put16(ann, at, other(kind, number16(ann, at)));
+}
+
 // The last record in place of one, and the count one less.
 fn leave_out(ann: &mut [u8], at: usize, last: usize) {
-    move16(ann, at, last);
-    move16(ann, plus(at, 2), plus(last, 2));
-    move16(ann, plus(at, 4), plus(last, 4));
+    move_arc(ann, at, last);
+    move_amount(ann, at, last);
     put16(ann, 6, std::num::wrapping_sub_u16(number16(ann, 6), 1));
 }
 
 // The ends and the weight of another record; are the records the same then?
 fn replace(ann: &mut [u8], at: usize, from: usize) -> bool {
-    let ends = number16(ann, at) == number16(ann, from);
-    let weights = number16(ann, plus(at, 2)) == number16(ann, plus(from, 2));
-    move16(ann, at, from);
-    move16(ann, plus(at, 2), plus(from, 2));
-    ends && weights
+    let old = move_arc(ann, at, from);
+    old == number32(ann, from)
+}
+
+// Adds to the weight of a record.
+fn add(ann: &mut [u8], record: usize, d: u16) {
+    let at = plus(record, 2);
+    put16(ann, at, std::num::wrapping_add_u16(number16(ann, at), d));
 }
 
 // One weight one more and another one less, so that the sum of the keys stays; are the records the same then, in another order?
+// Of one record alone the weight is one less.
 fn two_weights(ann: &mut [u8], at: usize, from: usize) -> bool {
-    let up = std::num::wrapping_add_u16(number16(ann, plus(at, 2)), 1);
-    let w = number16(ann, plus(from, 2));
-    put16(ann, plus(at, 2), up);
-    put16(ann, plus(from, 2), std::num::wrapping_sub_u16(w, 1));
-    number16(ann, at) == number16(ann, from) && up == w
+    let old = number32(ann, from);
+    add(ann, from, 65535);
+    if at == from {
+        return false;
+    }
+    add(ann, at, 1);
+    number32(ann, at) == old
 }
 
 // A record other than e, if there is one.
 fn another(s: Shape, e: usize, round: usize) -> usize {
-    let on = plus(1, below(minus(s.m, 1), s.seed, round, 4));
     if s.m < 2 {
         return e;
     }
-    modulo(plus(e, on), s.m)
+    modulo(
+        plus(plus(e, 1), below(minus(s.m, 1), s.seed, round, 4)),
+        s.m,
+    )
 }
 
 // Changes one record with another; may the annotation be right still?
 fn with_other(kind: usize, round: usize, s: Shape, ann: &mut [u8]) -> bool {
     let e = below(s.m, s.seed, round, 6);
-    let at = record_at(s.n, e);
     let other = record_at(s.n, another(s, e, round));
     if kind == 5 {
-        return replace(ann, at, other);
+        return replace(ann, record_at(s.n, e), other);
     }
-    two_weights(ann, at, other)
+    two_weights(ann, record_at(s.n, e), other)
 }
 
 // Changes one record by itself.
 fn alone(kind: usize, round: usize, s: Shape, ann: &mut [u8]) {
     let at = record_at(s.n, below(s.m, s.seed, round, 6));
-    let w = plus(at, 2);
-    let x = plus(at, 4);
-    if kind == 0 {
-        put16(ann, x, other_amount(number16(ann, x)));
+    if kind == LEFT_OUT {
+        leave_out(ann, at, record_at(s.n, minus(s.m, 1)));
         return;
     }
-    if kind == 2 {
-        put16(ann, w, other_weight(number16(ann, w)));
-        return;
-    }
-    leave_out(ann, at, record_at(s.n, minus(s.m, 1)));
+    number(kind, ann, at);
 }
 
 // Changes one thing of a kind somewhere; may the annotation be right still?
@@ -121,7 +126,7 @@ pub fn twist(kind: usize, round: usize, s: Shape, ann: &mut [u8]) -> bool {
         return true;
     }
     if kind == 4 {
-        put_byte(ann, 5, std::num::wrapping_sub_u8(3, byte(ann, 5)));
+        claim(ann);
         return false;
     }
     if kind < 4 {

@@ -44,12 +44,16 @@ fn counted(names: &[u8], k: u32, count: usize) {
     number(b" ", count);
 }
 
-// The names of a list, of which there are so many, each with its count; the counts stand from an index on.
-pub fn counts(names: &[u8], n: u32, counts: &[usize], from: usize) {
+// So many names of a list from the number `first` on, each with its count; the counts stand from an index on.
+pub fn counts(names: &[u8], first: u32, n: u32, counts: &[usize], from: usize) {
     let mut k: u32 = 0;
     while k < n {
         before(k as usize);
-        counted(names, k, at(counts, plus(from, k as usize)));
+        counted(
+            names,
+            std::num::wrapping_add_u32(first, k),
+            at(counts, plus(from, k as usize)),
+        );
         k += 1;
     }
     text(b"\n");

@@ -7,10 +7,10 @@ use Rattle.random_networks.proofs.tally.kinds.Statement.{statement}
 use Rattle.random_networks.proofs.tally.kinds.Tie as tie
 
 abbrev Inv-loop : tie.InvT-loop
-Inv-loop tally k₀ k = k ≤ 7
+Inv-loop names tally k₀ k = k ≤ 7
 
 abbrev μ-loop : tie.MeasureT-loop
-μ-loop tally k₀ k = 7 - k
+μ-loop names tally k₀ k = 7 - k
 
 pub kinds-spec : {M : Type 1} → statement M
 kinds-spec =

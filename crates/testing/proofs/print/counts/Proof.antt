@@ -7,10 +7,10 @@ use Rattle.testing.proofs.print.counts.Statement.{statement}
 use Rattle.testing.proofs.print.counts.Tie as tie
 
 abbrev Inv-loop : tie.InvT-loop
-Inv-loop names n counts from k₀ t6 k = k ≤ n
+Inv-loop names first n counts from k₀ t7 k = k ≤ n
 
 abbrev μ-loop : tie.MeasureT-loop
-μ-loop names n counts from k₀ t6 k = n - k
+μ-loop names first n counts from k₀ t7 k = n - k
 
 pub counts-spec : {M : Type 1} → statement M
 counts-spec =
@@ -20,6 +20,7 @@ counts-spec =
     μ-loop
     (λ c. search needs)
     (λ c. search needs)
+    (λ c κs. search needs)
     (λ c κs. search needs)
     (λ c. search needs)
     (λ c κs. search needs)
