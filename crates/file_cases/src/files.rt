@@ -1,10 +1,14 @@
-// A file in an array that is longer, changed as a word of the script says.
-use super::script::decimal;
-use super::script::find;
-use super::script::plus;
-use super::script::write_hex;
+// The two files in one array: the network from its front on, the annotation from START on. A kind names a file as the script does:
+// `n` the network, `a` the annotation, `h` the network for the helper.
 use format::bytes::byte;
 use format::bytes::put_byte;
+use testing::numbers::minus;
+use testing::numbers::plus;
+use testing::script::decimal;
+use testing::script::find;
+use testing::script::write_hex;
+
+pub const START: usize = 32768;
 
 // How many bytes the network and the annotation have, and how many results the line has shown.
 pub struct Files {
@@ -13,65 +17,78 @@ pub struct Files {
     pub shown: usize,
 }
 
-// The same with another network length.
-pub fn with_net(f: Files, size: usize) -> Files {
-    Files {
-        net: size,
-        ann: f.ann,
-        shown: f.shown,
+// Where a file starts.
+pub fn start(kind: u8) -> usize {
+    if kind == b'a' {
+        return START;
     }
+    0
 }
 
-pub fn with_ann(f: Files, size: usize) -> Files {
-    Files {
-        net: f.net,
-        ann: size,
-        shown: f.shown,
+pub fn size(kind: u8, f: Files) -> usize {
+    if kind == b'a' {
+        return f.ann;
     }
+    f.net
 }
 
-pub fn with_result(f: Files) -> Files {
-    Files {
-        net: f.net,
-        ann: f.ann,
-        shown: plus(f.shown, 1),
+// The same with another length of one file.
+pub fn sized(kind: u8, f: Files, size: usize) -> Files {
+    let mut g = f;
+    if kind == b'a' {
+        g.ann = size;
+        return g;
     }
+    g.net = size;
+    g
 }
 
-// How many bytes so many records have.
-fn bytes(records: usize, width: usize) -> usize {
-    if width == 4 {
-        return records % 8192 * 4;
+// How many bytes so many records of a file have.
+fn bytes(kind: u8, records: usize) -> usize {
+    if kind == b'a' {
+        return records % 8192 * 6;
     }
-    records % 8192 * 6
+    records % 8192 * 4
 }
 
-// The last record of a file again, so many times; the length then.
-fn repeat(file: &mut [u8], size: usize, width: usize, times: usize) -> usize {
-    let more = bytes(times, width);
+// The last record of a file that ends at an index again, so many times; how many bytes that is.
+fn repeat(kind: u8, times: usize, files: &mut [u8], end: usize) -> usize {
+    let width = bytes(kind, 1);
+    let more = bytes(kind, times);
     let mut i: usize = 0;
     while i < more {
-        let to = plus(size, i);
-        let c = byte(file, std::num::wrapping_sub_usize(to, width));
-        put_byte(file, to, c);
+        let to = plus(end, i);
+        let c = byte(files, minus(to, width));
+        put_byte(files, to, c);
         i += 1;
     }
-    plus(size, more)
+    more
 }
 
-// Changes a file whose records have so many bytes by the word at a place; the length then. `<9` cuts it to 9 bytes, `+00` adds a byte,
-// `*9` repeats the last record 9 times, `9=00` puts a byte at index 9.
-pub fn change(script: &[u8], at: usize, file: &mut [u8], size: usize, width: usize) -> usize {
+// Changes a file by the word at a place; its length then. `<9` cuts it to 9 bytes, `+00` adds a byte, `*9` repeats the last record 9
+// times, `9=00` puts a byte at index 9.
+pub fn change(script: &[u8], at: usize, kind: u8, files: &mut [u8], size: usize) -> usize {
     let next = plus(at, 1);
+    let from = start(kind);
     let c = byte(script, at);
-    match c {
-        b'<' => decimal(script, next),
-        b'+' => write_hex(script, next, b' ', file, size),
-        b'*' => repeat(file, size, width, decimal(script, next)),
-        _ => {
-            let from = find(script, at, b'=');
-            write_hex(script, from, b' ', file, decimal(script, at));
-            size
-        }
+    if c == b'<' {
+        return decimal(script, next);
     }
+    if c == b'+' {
+        return minus(write_hex(script, next, b' ', files, plus(from, size)), from);
+    }
+    if c == b'*' {
+        return plus(
+            size,
+            repeat(kind, decimal(script, next), files, plus(from, size)),
+        );
+    }
+    write_hex(
+        script,
+        find(script, at, b'='),
+        b' ',
+        files,
+        plus(from, decimal(script, at)),
+    );
+    size
 }

@@ -4,7 +4,6 @@ mod cases;
 mod files;
 mod outcomes;
 mod print;
-mod script;
 mod sweeps;
 
 fn main() {

@@ -1,29 +1,37 @@
-// Calls of judging and of the helper on the files in two arrays.
+// Calls of judging and of the helper on the two files, and what comes of each as one number.
 use super::files::Files;
-use super::script::plus;
+use super::files::START;
 use format::bytes::put_byte;
 use helper::Written;
-use session::Answer;
+use testing::answers::ACCEPTED;
+use testing::answers::NONE;
+use testing::answers::code;
+use testing::bytes::copy;
+use testing::numbers::low_word;
+use testing::numbers::plus;
 
-// What the buffer is filled with before the helper writes.
+// What the annotation's part of the array is filled with before the helper writes.
 const FILLING: u8 = 170;
 
-// Judges the first bytes of each array.
-pub fn judged(net: &[u8], ann: &[u8], f: Files, point: usize) -> Answer {
+// What comes of judging at a point.
+pub fn judged(files: &[u8], f: Files, point: usize) -> usize {
     let a = f.net;
-    let b = f.ann;
-    if net.len() < a {
-        return Answer::Refused(0);
+    let b = plus(START, f.ann);
+    if files.len() < a {
+        return NONE;
     }
-    if ann.len() < b {
-        return Answer::Refused(0);
+    if files.len() < b {
+        return NONE;
     }
-    judging::judge(&net[..a], &ann[..b], (point % 4294967296) as u32)
+    if b < START {
+        return NONE;
+    }
+    code(judging::judge(&files[0..a], &files[START..b], low_word(point)))
 }
 
-fn fill(buffer: &mut [u8]) {
+fn fill(buffer: &mut [u8], from: usize) {
     let n = buffer.len();
-    let mut i = 0;
+    let mut i = from;
     while i < n {
         put_byte(buffer, i, FILLING);
         i += 1;
@@ -31,7 +39,7 @@ fn fill(buffer: &mut [u8]) {
 }
 
 // Are all bytes from an index on as they were filled?
-pub fn kept(buffer: &[u8], from: usize) -> bool {
+fn kept(buffer: &[u8], from: usize) -> bool {
     let mut i = from;
     while i < buffer.len() {
         if buffer[i] != FILLING {
@@ -42,51 +50,61 @@ pub fn kept(buffer: &[u8], from: usize) -> bool {
     true
 }
 
-// Calls the helper on the first bytes of one array and so many of the other, which is filled before.
-pub fn helped(net: &[u8], size: usize, buffer: &mut [u8], room: usize) -> Written {
-    fill(buffer);
-    if net.len() < size {
-        return Written::Refused(0);
-    }
-    if buffer.len() < room {
-        return Written::Refused(0);
-    }
-    helper::annotate(&net[..size], &mut buffer[..room])
-}
-
-// What stands for none, and for the value 0; the numbers of refusals are below.
-const NONE: usize = 999;
-
-const VALUE: usize = 1000;
-
-// One number for an answer.
-fn number(answer: Answer) -> usize {
-    match answer {
-        Answer::Accepted => VALUE,
-        Answer::Value(v) => plus(VALUE, v as usize),
-        Answer::None => NONE,
-        Answer::Refused(k) => k as usize,
+// The length, or NONE + k for the refusal k.
+fn helper_code(w: Written) -> usize {
+    match w {
+        Written::Length(k) => k as usize,
+        Written::Refused(k) => plus(NONE, k as usize),
     }
 }
 
-// The helper's refusal, VALUE where it wrote, NONE where it refused and changed the buffer.
-fn helper_number(written: Written, buffer: &[u8]) -> usize {
-    match written {
-        Written::Length(_) => VALUE,
-        Written::Refused(k) => {
-            if kept(buffer, 0) {
-                return k as usize;
-            }
-            NONE
-        }
+// Has the helper write so many bytes at most into the annotation's part of the array.
+fn written(net: &[u8], files: &mut [u8], room: usize) -> usize {
+    let end = plus(START, room);
+    if files.len() < end {
+        return NONE;
     }
+    if end < START {
+        return NONE;
+    }
+    helper_code(helper::annotate(net, &mut files[START..end]))
 }
 
-// What comes of the helper with a buffer of 100 bytes, or of judging at the point 9, as one number.
-pub fn outcome(helps: bool, net: &[u8], ann: &mut [u8], f: Files) -> usize {
-    if helps {
-        let w = helped(net, f.net, ann, 100);
-        return helper_number(w, ann);
+// Calls the helper on the network, with the annotation's part filled before.
+pub fn helped(files: &mut [u8], size: usize, room: usize) -> usize {
+    let mut net = [0u8; 32768];
+    if 32768 < size {
+        return NONE;
     }
-    number(judged(net, ann, f, 9))
+    copy(files, &mut net, size);
+    fill(files, START);
+    written(&net[0..size], files, room)
+}
+
+// Are the bytes that the helper had to keep as they were filled? It writes as many as it says, and none where it refuses.
+pub fn rest_kept(files: &[u8], code: usize) -> bool {
+    if code < NONE {
+        return kept(files, plus(START, code));
+    }
+    kept(files, START)
+}
+
+// What comes of the helper with a buffer of 100 bytes: its refusal, NONE where it changed bytes that it had to keep, else ACCEPTED.
+fn helper_outcome(files: &mut [u8], size: usize) -> usize {
+    let code = helped(files, size, 100);
+    if !rest_kept(files, code) {
+        return NONE;
+    }
+    if code < NONE {
+        return ACCEPTED;
+    }
+    code
+}
+
+// What comes of the helper, or of judging at the point 9.
+pub fn outcome(kind: u8, files: &mut [u8], f: Files) -> usize {
+    if kind == b'h' {
+        return helper_outcome(files, f.net);
+    }
+    judged(files, f, 9)
 }

@@ -1,107 +1,71 @@
 // A file cut to every shorter length, or with every byte of its front changed in every way: how often each outcome comes.
 use super::files::Files;
-use super::files::with_ann;
-use super::files::with_net;
+use super::files::sized;
+use super::files::start;
 use super::outcomes::outcome;
-use super::print;
-use super::script::plus;
+use super::print::counts;
 use format::bytes::byte;
 use format::bytes::put_byte;
+use testing::answers::NONE;
+use testing::numbers::low_byte;
+use testing::numbers::minus;
+use testing::numbers::plus;
 
 // Where outcomes are counted: 0 the same as that of the files as they were, 1 to 29 the refusals, 31 any other.
 const OTHER: usize = 31;
 
-// A byte that is as it was: no outcome.
-const NOTHING: usize = 30;
+// A byte that is as it was: no outcome. It is counted at 30, which nobody reads.
+const NOTHING: usize = 1000000000030;
 
-// One more outcome, where that of the files as they were is known.
-fn count(counts: &mut [usize; 32], usual: usize, o: usize) {
+// Where an outcome is counted, where that of the files as they were is known.
+fn place(usual: usize, o: usize) -> usize {
     if o == usual {
-        counts[0] = plus(counts[0], 1);
-        return;
+        return 0;
     }
-    if o < OTHER {
-        counts[o] = plus(counts[o], 1);
-        return;
+    let k = minus(o, NONE);
+    if 0 < k && k < OTHER {
+        return k;
     }
-    counts[OTHER] = plus(counts[OTHER], 1);
+    OTHER
 }
 
-// Which file is meant: `n` and `h` the network, for judging and for the helper; `a` the annotation.
-fn is_network(kind: u8) -> bool {
-    kind != b'a'
-}
-
-fn length(kind: u8, f: Files) -> usize {
-    if is_network(kind) {
-        return f.net;
+fn count(counts: &mut [usize; 32], at: usize) {
+    if at < 32 {
+        counts[at] = plus(counts[at], 1);
     }
-    f.ann
 }
 
-// The outcome with one file cut to so many bytes.
-fn cut(kind: u8, size: usize, net: &[u8], ann: &mut [u8], f: Files) -> usize {
-    if is_network(kind) {
-        return outcome(kind == b'h', net, ann, with_net(f, size));
-    }
-    outcome(false, net, ann, with_ann(f, size))
-}
-
-// Every shorter length.
-pub fn cuts(kind: u8, net: &[u8], ann: &mut [u8], f: Files) {
-    let mut counts = [0usize; 32];
-    let usual = outcome(kind == b'h', net, ann, f);
-    let end = length(kind, f);
-    let mut k: usize = 0;
-    while k < end {
-        count(&mut counts, usual, cut(kind, k, net, ann, f));
-        k += 1;
-    }
-    print::counts(&counts);
-}
-
-// The outcome with another byte in the network, NOTHING where it is the same.
-fn with_other(helps: bool, at: usize, c: u8, net: &mut [u8], ann: &mut [u8], f: Files) -> usize {
-    let old = byte(net, at);
+// The outcome with the byte k / 256 of a file changed to k % 256 for this once.
+fn changed(kind: u8, k: usize, files: &mut [u8], f: Files) -> usize {
+    let at = plus(start(kind), k / 256);
+    let c = low_byte(k);
+    let old = byte(files, at);
     if old == c {
         return NOTHING;
     }
-    put_byte(net, at, c);
-    let o = outcome(helps, net, ann, f);
-    put_byte(net, at, old);
+    put_byte(files, at, c);
+    let o = outcome(kind, files, f);
+    put_byte(files, at, old);
     o
 }
 
-// The outcome with another byte in the annotation, NOTHING where it is the same.
-fn with_other_there(at: usize, c: u8, net: &[u8], ann: &mut [u8], f: Files) -> usize {
-    let old = byte(ann, at);
-    if old == c {
-        return NOTHING;
+// The outcome of variation k: `<` cuts a file to k bytes, `!` changes a byte.
+fn varied(how: u8, kind: u8, k: usize, files: &mut [u8], f: Files) -> usize {
+    if how == b'<' {
+        return outcome(kind, files, sized(kind, f, k));
     }
-    put_byte(ann, at, c);
-    let o = outcome(false, net, ann, f);
-    put_byte(ann, at, old);
-    o
+    changed(kind, k, files, f)
 }
 
-// The outcome of change number k: the byte k / 256 becomes k % 256.
-fn changed(kind: u8, k: usize, net: &mut [u8], ann: &mut [u8], f: Files) -> usize {
-    let c = (k % 256) as u8;
-    if is_network(kind) {
-        return with_other(kind == b'h', k / 256, c, net, ann, f);
-    }
-    with_other_there(k / 256, c, net, ann, f)
-}
-
-// Every change of one of the first so many bytes.
-pub fn changes(kind: u8, bytes: usize, net: &mut [u8], ann: &mut [u8], f: Files) {
-    let mut counts = [0usize; 32];
-    let usual = outcome(kind == b'h', net, ann, f);
-    let end = bytes % 256 * 256;
+// So many variations.
+pub fn sweep(how: u8, kind: u8, end: usize, files: &mut [u8], f: Files) {
+    let mut outcomes = [0usize; 32];
+    let usual = outcome(kind, files, f);
     let mut k: usize = 0;
     while k < end {
-        count(&mut counts, usual, changed(kind, k, net, ann, f));
+        let o = varied(how, kind, k, files, f);
+        count(&mut outcomes, place(usual, o));
         k += 1;
     }
-    print::counts(&counts);
+    counts(&outcomes);
 }

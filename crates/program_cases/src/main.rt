@@ -1,69 +1,82 @@
-// A test program: the lines of the judging and the annotating program, for files that are there, short, long, missing or no files.
+// The lines of the judging and the annotating program, for files that are there, short, long, missing or no files.
+// The cases are lines of standard input, which says at its top how it is written.
+use format::bytes::byte;
 use plan_files::annotation_line;
 use plan_files::answer_line;
+use testing::numbers::plus;
+use testing::print;
+use testing::script::find;
+use testing::script::starts_line;
 
-fn judged(label: &[u8], point: &[u8], net: &[u8], ann: &[u8]) {
-    io::write_all(1, label);
+// Prints what the judging program does for the three names that start at a place.
+fn judged(script: &[u8], point: usize) {
+    let a = find(script, point, b',');
+    let net = plus(a, 1);
+    let b = find(script, net, b',');
+    let ann = plus(b, 1);
+    let c = find(script, ann, b'\n');
+    if a < point || b < net || c < ann {
+        return;
+    }
+    if script.len() < a || script.len() < b || script.len() < c {
+        return;
+    }
     let mut text = [0u8; 32];
-    let n = answer_line::make(point, net, ann, &mut text);
+    let n = answer_line::make(
+        &script[point..a],
+        &script[net..b],
+        &script[ann..c],
+        &mut text,
+    );
     io::write_all(1, &text[..n]);
 }
 
-fn annotated(label: &[u8], net: &[u8], ann: &[u8]) {
-    io::write_all(1, label);
+// The same for the annotating program and two names.
+fn annotated(script: &[u8], net: usize) {
+    let b = find(script, net, b',');
+    let ann = plus(b, 1);
+    let c = find(script, ann, b'\n');
+    if b < net || c < ann {
+        return;
+    }
+    if script.len() < b || script.len() < c {
+        return;
+    }
     let mut text = [0u8; 32];
-    let n = annotation_line::make(net, ann, &mut text);
+    let n = annotation_line::make(&script[net..b], &script[ann..c], &mut text);
     io::write_all(1, &text[..n]);
 }
 
-fn points() {
-    judged(b"R1: ", b"point.bin", b"r1.drn", b"r1.dra");
-    judged(b"no point: ", b"none", b"r1.drn", b"r1.dra");
-    judged(
-        b"a point of 3 bytes, and no other file: ",
-        b"three.bin",
-        b"none",
-        b"none",
-    );
-    judged(b"a point of 5 bytes: ", b"five.bin", b"r1.drn", b"r1.dra");
-    judged(b"the point p - 1: ", b"last.bin", b"r1.drn", b"r1.dra");
-    judged(b"the point p: ", b"p.bin", b"r1.drn", b"r1.dra");
-    judged(b"a folder for a point: ", b"folder", b"r1.drn", b"r1.dra");
+// One case: a label, and what a program prints.
+fn case(script: &[u8], at: usize) {
+    let colon = find(script, at, b':');
+    let names = plus(colon, 4);
+    print::part(script, at, plus(colon, 2));
+    if byte(script, plus(colon, 2)) == b'j' {
+        judged(script, names);
+        return;
+    }
+    annotated(script, names);
 }
 
-fn plans() {
-    judged(b"R2: ", b"point.bin", b"r2.drn", b"r2.dra");
-    judged(b"R3: ", b"point.bin", b"r3.drn", b"r3.dra");
-    judged(b"no network: ", b"point.bin", b"none", b"r1.dra");
-    judged(b"no annotation: ", b"point.bin", b"r1.drn", b"none");
-    judged(
-        b"a folder for a network: ",
-        b"point.bin",
-        b"folder",
-        b"r1.dra",
-    );
-    judged(
-        b"an annotation that is whole in its first 32768 bytes, and longer: ",
-        b"point.bin",
-        b"n3.drn",
-        b"long.dra",
-    );
+// The case that starts at a place, if one does.
+fn case_at(script: &[u8], at: usize) {
+    if starts_line(script, at) && byte(script, at) != b'#' {
+        case(script, at);
+    }
 }
 
-// Each is annotated in the same file, which the next one finds there.
-fn annotations() {
-    annotated(b"R1 annotated: ", b"r1.drn", b"made.dra");
-    judged(b"judged: ", b"point.bin", b"r1.drn", b"made.dra");
-    annotated(b"version 2 annotated: ", b"version2.drn", b"made.dra");
-    judged(b"R1 judged again: ", b"point.bin", b"r1.drn", b"made.dra");
-    annotated(b"R4 annotated: ", b"r4.drn", b"made.dra");
-    judged(b"R4 judged: ", b"point.bin", b"r4.drn", b"made.dra");
-    annotated(b"no network annotated: ", b"none", b"made.dra");
-    annotated(b"annotated into a folder: ", b"r1.drn", b"folder");
+// All cases.
+fn run(script: &[u8]) {
+    let mut i = 0;
+    while i < script.len() {
+        case_at(script, i);
+        i += 1;
+    }
 }
 
 fn main() {
-    points();
-    plans();
-    annotations();
+    let mut input = io::buffer();
+    let n = io::read_full(0, &mut input);
+    run(&input[..n]);
 }

@@ -1,44 +1,46 @@
 // Has the helper annotate random networks, judges its annotations at several points, in another order and twisted, and compares every answer
 // with another implementation. A network is wrong that gets any answer but the true one.
-mod files;
-mod judged;
-mod print;
+mod annotations;
+mod points;
 mod tally;
 mod trial;
 mod twists;
 
 use reference::array::get;
 use reference::instances::network;
+use testing::print;
 
 // How many networks there are for each question; of every 64 two have all 4096 records.
-const COUNT: usize = 640;
+const COUNT: usize = 1920;
 
-// One network; names it if it is wrong and few were before.
-fn turn(name: &[u8], question: usize, seed: usize, tally: &mut [usize; 256]) {
+// One network; names its seed if it is wrong.
+fn turn(question: usize, seed: usize, tally: &mut [usize; 256]) {
     let before = get(tally, tally::WRONG);
     trial::run(network(question, seed), tally);
-    if before < 3 && before < get(tally, tally::WRONG) {
-        print::wrong(name, seed);
+    if before < get(tally, tally::WRONG) {
+        print::number(b"wrong: ", seed);
     }
 }
 
 // All networks of one question.
-fn all(name: &[u8], question: usize, tally: &mut [usize; 256]) {
+fn all(question: usize, tally: &mut [usize; 256]) {
     let mut seed: usize = 0;
     while seed < COUNT {
-        turn(name, question, seed, tally);
+        turn(question, seed, tally);
         seed += 1;
     }
 }
 
-fn question(name: &[u8], number: usize) {
+fn question(names: &[u8], number: u32) {
     let mut tally = [0usize; 256];
-    all(name, number, &mut tally);
-    print::summary(name, COUNT, &tally);
+    all(number as usize, &mut tally);
+    tally::show(names, number, &tally);
 }
 
 fn main() {
-    question(b"route", 1);
-    question(b"discharge", 2);
-    question(b"pairing", 3);
+    let mut input = io::buffer();
+    let n = io::read_full(0, &mut input);
+    question(&input[..n], 1);
+    question(&input[..n], 2);
+    question(&input[..n], 3);
 }

@@ -1,207 +1,284 @@
 // One network: the helper annotates it, its annotation is judged, shuffled and twisted, and the answers are compared.
-use super::files::exchange;
-use super::files::record_at;
-use super::files::write_network;
-use super::judged::any_point;
-use super::judged::judged;
-use super::judged::key;
-use super::judged::point;
+use super::annotations::exchange;
+use super::annotations::record_at;
+use super::points::Shape;
+use super::points::any_point;
+use super::points::judged;
+use super::points::key;
+use super::points::point;
 use super::tally;
-use super::twists::KINDS;
+use super::tally::count;
 use super::twists::LEFT_OUT;
 use super::twists::applies;
-use super::twists::fewer;
 use super::twists::twist;
-use format::bytes::byte;
-use format::bytes::put_byte;
+use format::annotation_file;
 use helper::Written;
+use reference::UNKNOWN;
 use reference::arcs::write;
-use reference::array::NONE;
-use reference::array::UNKNOWN;
-use reference::array::minus;
-use reference::array::plus;
+use reference::array::get;
+use reference::array::grow;
+use reference::array::record;
 use reference::instances::Net;
 use reference::random::below;
 use reference::truth;
+use testing::answers::NONE;
+use testing::bytes::copy;
+use testing::network_files;
+use testing::numbers::as_signed;
+use testing::numbers::low_word;
+use testing::numbers::minus;
+use testing::numbers::plus;
+use testing::numbers::smaller;
 
-// Each kind of twist comes three times.
+// How many networks are twisted, each three times in each of 7 ways.
+const TWISTED_NETWORKS: usize = 640;
+
 const TWISTS: usize = 21;
 
 // An answer where there has to be a refusal. No true answer is as large.
 const ACCEPTED: usize = 999999999999;
 
-// Counts an answer, which has to be the wanted one.
-fn compare(said: usize, wanted: usize, tally: &mut [usize; 256]) {
-    tally::count(tally, tally::JUDGED);
-    if said != wanted {
-        tally::count(tally, tally::WRONG);
+// 1 where two numbers differ, else 0.
+fn different(a: usize, b: usize) -> usize {
+    if a == b {
+        return 0;
     }
+    1
 }
 
-// Judges at five points.
-fn everywhere(net: Net, file: &[u8], ann: &[u8], wanted: usize, tally: &mut [usize; 256]) {
+// Judges at five points: how many answers are not the wanted one.
+fn everywhere(s: Shape, file: &[u8], ann: &[u8], wanted: usize) -> usize {
+    let mut wrong: usize = 0;
     let mut i: usize = 0;
     while i < 5 {
-        let r = point(net, file, i);
-        compare(judged(file, ann, ann.len(), r), wanted, tally);
+        let said = judged(file, ann, point(s, file, i));
+        wrong = plus(wrong, different(said, wanted));
         i += 1;
     }
+    wrong
 }
 
 // Exchanges each record with any.
-fn shuffle(net: Net, ann: &mut [u8]) {
-    let m = net.m;
-    let n = net.n;
+fn shuffle(s: Shape, ann: &mut [u8]) {
+    let m = s.m;
     let mut i: usize = 0;
     while i < m {
-        let j = below(m, net.seed, i, 7);
-        exchange(ann, record_at(n, i), record_at(n, j));
-        i += 1;
-    }
-}
-
-fn copy(from: &[u8], to: &mut [u8]) {
-    let n = from.len();
-    let mut i: usize = 0;
-    while i < n {
-        put_byte(to, i, byte(from, i));
+        let j = below(m, s.seed, i, 7);
+        exchange(ann, record_at(s.n, i), record_at(s.n, j));
         i += 1;
     }
 }
 
 // Where a twist is judged: with a record left out at the key of one, where the fingerprints may agree; else anywhere.
-fn twist_point(kind: usize, net: Net, file: &[u8], t: usize) -> usize {
+fn twist_point(kind: usize, s: Shape, file: &[u8], t: usize) -> usize {
     if kind == LEFT_OUT {
-        return key(net, file);
+        return key(s, file);
     }
-    any_point(net.seed, plus(t, 8))
+    any_point(s.seed, plus(t, 8))
+}
+
+// How many bytes an annotation has then.
+fn twisted_size(kind: usize, size: usize) -> usize {
+    if kind == LEFT_OUT {
+        return minus(size, 6);
+    }
+    size
 }
 
 // What judging says of twist number t, or ACCEPTED where it had to refuse.
-fn twisted(net: Net, file: &[u8], ann: &[u8], t: usize) -> usize {
+fn twisted(s: Shape, file: &[u8], ann: &[u8], t: usize) -> usize {
     let mut other = [0u8; 25604];
-    copy(ann, &mut other);
-    let kind = t % KINDS;
-    let free = twist(kind, t / KINDS, net, &mut other);
-    let r = twist_point(kind, net, file, t);
-    let said = judged(file, &other, minus(ann.len(), fewer(kind)), r);
-    if free {
-        return said;
+    copy(ann, &mut other, ann.len());
+    let free = twist(t % 7, t / 7, s, &mut other);
+    let size = twisted_size(t % 7, ann.len());
+    if 25604 < size {
+        return ACCEPTED;
     }
-    if NONE < said {
+    let said = judged(file, &other[0..size], twist_point(t % 7, s, file, t));
+    if free || NONE < said {
         return said;
     }
     ACCEPTED
 }
 
-// Counts what was said of a twisted annotation: a refusal, or the true answer still, and never another.
-fn weigh(kind: usize, said: usize, wanted: usize, tally: &mut [usize; 256]) {
-    let place = tally::TWISTED + 3 * (kind % KINDS);
+// What was said of a twisted annotation: 0 a refusal, 1 the true answer still, 2 another.
+fn weighed(said: usize, wanted: usize) -> usize {
     if NONE < said {
-        tally::count(tally, place);
-        return;
+        return 0;
     }
     if said == wanted {
-        tally::count(tally, place + 1);
-        return;
+        return 1;
     }
-    tally::count(tally, place + 2);
-    tally::count(tally, tally::WRONG);
+    2
 }
 
 // Twists the annotation once.
 fn twist_once(
-    net: Net,
+    s: Shape,
     file: &[u8],
     ann: &[u8],
     t: usize,
     wanted: usize,
     tally: &mut [usize; 256],
 ) {
-    if applies(t % KINDS, net.m) {
-        weigh(t % KINDS, twisted(net, file, ann, t), wanted, tally);
+    if applies(t % 7, s.m) {
+        let k = weighed(twisted(s, file, ann, t), wanted);
+        count(tally, plus(tally::TWISTED + 3 * (t % 7), k));
+        if k == 2 {
+            count(tally, tally::WRONG);
+        }
     }
 }
 
-fn twist_all(net: Net, file: &[u8], ann: &[u8], wanted: usize, tally: &mut [usize; 256]) {
+fn twist_all(s: Shape, file: &[u8], ann: &[u8], wanted: usize, tally: &mut [usize; 256]) {
     let mut t: usize = 0;
     while t < TWISTS {
-        twist_once(net, file, ann, t, wanted, tally);
+        twist_once(s, file, ann, t, wanted, tally);
         t += 1;
     }
 }
 
-// The answer to expect: the true one, or where it is not known what the annotation comes out as at the point 0.
-fn expected(answer: usize, file: &[u8], ann: &[u8], tally: &mut [usize; 256]) -> usize {
-    if answer == UNKNOWN {
-        return judged(file, ann, ann.len(), 0);
+// Judges in another order of the records: 1 where the answer is not the wanted one.
+fn shuffled(s: Shape, file: &[u8], ann: &mut [u8], wanted: usize) -> usize {
+    shuffle(s, ann);
+    different(judged(file, ann, any_point(s.seed, 7)), wanted)
+}
+
+// All that is done with an annotation whose answer is known.
+fn try_all(s: Shape, file: &[u8], ann: &mut [u8], wanted: usize, tally: &mut [usize; 256]) {
+    grow(tally, tally::JUDGED, 6);
+    grow(tally, tally::WRONG, everywhere(s, file, ann, wanted));
+    grow(tally, tally::WRONG, shuffled(s, file, ann, wanted));
+    if s.seed < TWISTED_NETWORKS {
+        twist_all(s, file, ann, wanted, tally);
     }
-    tally::count(tally, tally::COMPARED);
+}
+
+// Where a network is counted by its answer.
+fn class(wanted: usize) -> usize {
+    if wanted < NONE {
+        return tally::VALUES;
+    }
+    if wanted == NONE {
+        return tally::ANSWERED_NONE;
+    }
+    tally::WRONG
+}
+
+// Counts a network, whose true answer may be unknown.
+fn classify(answer: usize, wanted: usize, tally: &mut [usize; 256]) {
+    count(tally, tally::NETWORKS);
+    count(tally, class(wanted));
+    if answer != UNKNOWN {
+        count(tally, tally::COMPARED);
+    }
+}
+
+// The answer to expect: the true one, or where it is not known what the annotation comes out as at the point 0.
+fn expected(answer: usize, file: &[u8], ann: &[u8]) -> usize {
+    if answer == UNKNOWN {
+        return judged(file, ann, 0);
+    }
     answer
 }
 
-// Counts a network whose answer is none, and one whose annotation is refused.
-fn classify(wanted: usize, tally: &mut [usize; 256]) {
-    if wanted == NONE {
-        tally::count(tally, tally::ANSWERED_NONE);
+// The node number that a route's vertex has to have: its least length, the highest where it is not reached; with none its mark.
+fn number(answer: usize, length: usize) -> usize {
+    if answer == NONE {
+        return different(length, NONE);
     }
-    if NONE < wanted {
-        tally::count(tally, tally::WRONG);
+    smaller(length, 8322818)
+}
+
+// 1 where the node number v is not what its least length asks for.
+fn strays(ann: &[u8], v: usize, y: usize) -> usize {
+    if annotation_file::number(ann, v) == as_signed(low_word(y)) {
+        return 0;
     }
+    1
+}
+
+// How many node numbers of a route are not what the least lengths ask for.
+fn all_strays(n: usize, answer: usize, lengths: &[usize; 256], ann: &[u8]) -> usize {
+    let mut wrong: usize = 0;
+    let mut v: usize = 0;
+    while v < n {
+        wrong = plus(wrong, strays(ann, v, number(answer, get(lengths, v))));
+        v += 1;
+    }
+    wrong
 }
 
 // All that is done with an annotation.
-fn try_all(net: Net, answer: usize, file: &[u8], ann: &mut [u8], tally: &mut [usize; 256]) {
-    let wanted = expected(answer, file, ann, tally);
-    classify(wanted, tally);
-    everywhere(net, file, ann, wanted, tally);
-    shuffle(net, ann);
-    let r = any_point(net.seed, 7);
-    compare(judged(file, ann, ann.len(), r), wanted, tally);
-    twist_all(net, file, ann, wanted, tally);
-}
-
-// The annotation is as many bytes of the buffer as the helper says.
-fn try_written(
-    net: Net,
-    answer: usize,
-    file: &[u8],
-    buffer: &mut [u8],
-    size: usize,
-    tally: &mut [usize; 256],
-) {
-    if buffer.len() < size {
-        tally::count(tally, tally::WRONG);
-        return;
-    }
-    try_all(net, answer, file, &mut buffer[..size], tally);
+fn try_annotation(net: Net, answer: usize, file: &[u8], ann: &mut [u8], tally: &mut [usize; 256]) {
+    let wanted = expected(answer, file, ann);
+    classify(answer, wanted, tally);
+    let s = Shape {
+        n: net.n,
+        m: net.m,
+        seed: net.seed,
+    };
+    try_all(s, file, ann, wanted, tally);
 }
 
 // How many bytes the helper wrote; too many where it refused.
-fn length(w: Written) -> usize {
+fn written(w: Written) -> usize {
     match w {
         Written::Length(k) => k as usize,
         Written::Refused(_) => 100000,
     }
 }
 
-fn annotate(net: Net, answer: usize, file: &[u8], size: usize, tally: &mut [usize; 256]) {
-    if file.len() < size {
-        tally::count(tally, tally::WRONG);
+// Has the helper write, over what no annotation has, and tries what it wrote.
+fn annotate(
+    net: Net,
+    answer: usize,
+    file: &[u8],
+    lengths: &[usize; 256],
+    tally: &mut [usize; 256],
+) {
+    let mut buffer = [255u8; 25604];
+    let size = written(helper::annotate(file, &mut buffer));
+    if 25604 < size {
+        count(tally, tally::WRONG);
         return;
     }
-    let mut buffer = [0u8; 25604];
-    let w = helper::annotate(&file[..size], &mut buffer);
-    try_written(net, answer, &file[..size], &mut buffer, length(w), tally);
+    if net.question == 1 {
+        grow(
+            tally,
+            tally::WRONG,
+            all_strays(net.n, answer, lengths, &buffer),
+        );
+    }
+    try_annotation(net, answer, file, &mut buffer[0..size], tally);
 }
 
-// Makes the network and its file.
-pub fn run(net: Net, tally: &mut [usize; 256]) {
+// Writes the file of a network.
+fn write_file(net: Net, records: &[u32; 4096], file: &mut [u8]) {
+    let m = net.m;
+    network_files::write_header(net.question, net.n, net.s, net.t, m, file);
+    let mut i: usize = 0;
+    while i < m {
+        network_files::write_record(file, i, record(records, i));
+        i += 1;
+    }
+}
+
+// Makes the network and its file; the true answer.
+fn make(net: Net, file: &mut [u8], lengths: &mut [usize; 256]) -> usize {
     let mut records = [0u32; 4096];
+    write(net, &mut records);
+    write_file(net, &records, file);
+    truth(net, &records, lengths)
+}
+
+pub fn run(net: Net, tally: &mut [usize; 256]) {
     let mut lengths = [NONE; 256];
     let mut file = [0u8; 16395];
-    write(net, &mut records);
-    let answer = truth(net, &records, &mut lengths);
-    let size = write_network(net, &records, &mut file);
-    annotate(net, answer, &file, size, tally);
+    let answer = make(net, &mut file, &mut lengths);
+    let size = network_files::size(net.m);
+    if 16395 < size {
+        return;
+    }
+    annotate(net, answer, &file[0..size], &lengths, tally);
 }

@@ -1,13 +1,6 @@
-// Arrays read and written at any index, the parts of a record, and sums that never fail.
-
-// No chain, no pairing: larger than any answer, and a few of them add up without wrapping.
-pub const NONE: usize = 1000000000000;
-
-// Where there is no other implementation for a network of its size.
-pub const UNKNOWN: usize = 2000000000000;
-
-// The largest node number.
-pub const TOP: usize = 8322818;
+// Arrays read and written at any index, and the parts of a record.
+use testing::numbers::low_word;
+use testing::numbers::plus;
 
 pub fn get(a: &[usize; 256], i: usize) -> usize {
     if i < 256 {
@@ -35,30 +28,6 @@ pub fn lower(a: &mut [usize; 256], i: usize, v: usize) -> usize {
     }
     put(a, i, v);
     1
-}
-
-// The sum, 0 where it is too large.
-pub fn plus(a: usize, b: usize) -> usize {
-    if 18446744073709551615 - a < b {
-        return 0;
-    }
-    a + b
-}
-
-// The difference, 0 where b is larger.
-pub fn minus(a: usize, b: usize) -> usize {
-    if a < b {
-        return 0;
-    }
-    a - b
-}
-
-// 1 for true, 0 for false.
-pub fn flag(yes: bool) -> usize {
-    if yes {
-        return 1;
-    }
-    0
 }
 
 // Bit i of a set of at most 64.
@@ -90,7 +59,12 @@ pub fn weight(r: usize) -> usize {
     r % 65536
 }
 
-// The record of an arc from a to b.
-pub fn joined(a: usize, b: usize, w: usize) -> u32 {
-    ((a % 256) * 16777216 + (b % 256) * 65536 + w % 65536) as u32
+// Two ends as one number.
+pub fn pair(a: usize, b: usize) -> usize {
+    a % 256 * 256 + b % 256
+}
+
+// The record of two ends and a weight.
+pub fn joined(ends: usize, w: usize) -> u32 {
+    low_word(ends % 65536 * 65536 + w % 65536)
 }

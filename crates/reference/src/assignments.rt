@@ -1,17 +1,18 @@
 // The least pairing over all assignments, for at most 8 pumps: the best for the first pumps with each set of sites.
-use super::array::NONE;
 use super::array::bit;
 use super::array::get;
 use super::array::head;
 use super::array::lower;
-use super::array::minus;
-use super::array::plus;
 use super::array::put;
 use super::array::record;
 use super::array::tail;
 use super::array::weight;
 use super::array::wide;
 use super::instances::Net;
+use testing::answers::NONE;
+use testing::numbers::minus;
+use testing::numbers::plus;
+use testing::numbers::smaller;
 
 // The cheapest record from each pump to each site, at pump × 16 + site.
 fn cheapest(net: Net, records: &[u32; 4096], costs: &mut [usize; 256]) {
@@ -61,13 +62,6 @@ fn for_set(h: usize, set: usize, costs: &[usize; 256], best: &[usize; 256]) -> u
         site += 1;
     }
     least
-}
-
-fn smaller(a: usize, b: usize) -> usize {
-    if a < b {
-        return a;
-    }
-    b
 }
 
 // The least cost of a pairing, or NONE.

@@ -1,12 +1,13 @@
 // The greatest discharge as the least cut, by trying all sets of vertices.
-use super::array::NONE;
 use super::array::bit;
 use super::array::head;
-use super::array::plus;
 use super::array::record;
 use super::array::tail;
 use super::array::weight;
 use super::instances::Net;
+use testing::answers::NONE;
+use testing::numbers::plus;
+use testing::numbers::smaller;
 
 // The capacity of a record that leaves the set, else 0.
 fn leaving(r: usize, set: usize) -> usize {
@@ -32,11 +33,7 @@ fn better(net: Net, records: &[u32; 4096], set: usize, best: usize) -> usize {
     if !bit(set, net.s) || bit(set, net.t) {
         return best;
     }
-    let c = cut(net.m, records, set);
-    if c < best {
-        return c;
-    }
-    best
+    smaller(cut(net.m, records, set), best)
 }
 
 // The least cut of at most 12 vertices.

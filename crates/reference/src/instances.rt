@@ -1,6 +1,6 @@
 // Which network a seed stands for: its size, its source and sink, the shape of its arcs and the kind of its weights.
-use super::array::plus;
 use super::random::below;
+use testing::numbers::plus;
 
 pub struct Net {
     pub question: usize,

@@ -1,5 +1,4 @@
 // For test programs: another implementation of the three questions, and networks that look random to try it on.
-use array::UNKNOWN;
 use instances::Net;
 
 pub mod arcs;
@@ -10,6 +9,10 @@ pub mod instances;
 pub mod pairs;
 pub mod random;
 pub mod routes;
+pub mod shapes;
+
+// What is the answer where the network is too large to try every cut or every assignment.
+pub const UNKNOWN: usize = 2000000000000;
 
 // The true answer, or NONE, or UNKNOWN where the network is too large to try every cut or every assignment.
 // `lengths` comes with NONE everywhere; for a route it leaves with the least lengths.

@@ -1,88 +1,67 @@
-// The records of a pairing: each leads from a pump to a site.
-use super::arcs::weight;
-use super::array::joined;
-use super::array::plus;
-use super::instances::Net;
+// The ends of the records of a pairing of h pumps with h sites, 256 × pump + site.
+use super::array::pair;
 use super::random::below;
+use testing::numbers::modulo;
+use testing::numbers::plus;
 
-// The record from pump p to site q of h each.
-fn between(net: Net, i: usize, p: usize, q: usize) -> u32 {
-    let h = net.n / 2;
-    if h == 0 {
-        return 0;
-    }
-    joined(p % h, plus(h, q % h), weight(net, i))
+// From pump p to site q.
+fn between(h: usize, p: usize, q: usize) -> usize {
+    pair(modulo(p, h), plus(h, modulo(q, h)))
 }
 
 // Any pump with any site.
-fn any(net: Net, i: usize) -> u32 {
-    let h = net.n / 2;
-    between(net, i, below(h, net.seed, i, 1), below(h, net.seed, i, 2))
+fn any(h: usize, seed: usize, i: usize) -> usize {
+    between(h, below(h, seed, i, 1), below(h, seed, i, 2))
 }
 
 // Pump k with sites up to the k-th alone: one assignment at most.
-fn forced(net: Net, i: usize) -> u32 {
-    let h = net.n / 2;
+fn forced(h: usize, seed: usize, i: usize) -> usize {
     if i < h {
-        return between(net, i, i, i);
+        return between(h, i, i);
     }
-    let p = below(h, net.seed, i, 1);
-    between(net, i, p, below(plus(p, 1), net.seed, i, 2))
+    let p = below(h, seed, i, 1);
+    between(h, p, below(plus(p, 1), seed, i, 2))
 }
 
 // The first h / 2 + 1 pumps with the first h / 2 sites alone: no assignment, if there are two pumps or more.
-fn crowded(net: Net, i: usize) -> u32 {
-    let h = net.n / 2;
-    let p = below(h, net.seed, i, 1);
+fn crowded(h: usize, seed: usize, i: usize) -> usize {
+    let p = below(h, seed, i, 1);
     if p <= h / 2 {
-        return between(net, i, p, below(h / 2, net.seed, i, 2));
+        return between(h, p, below(h / 2, seed, i, 2));
     }
-    between(net, i, p, below(h, net.seed, i, 2))
+    between(h, p, below(h, seed, i, 2))
 }
 
 // An assignment first, then any.
-fn assigned(net: Net, i: usize) -> u32 {
-    let h = net.n / 2;
+fn assigned(h: usize, seed: usize, i: usize) -> usize {
     if i < h {
-        return between(net, i, i, plus(i, net.seed));
+        return between(h, i, plus(i, seed));
     }
-    any(net, i)
+    any(h, seed, i)
 }
 
 // Each pump with three sites that follow one another.
-fn band(net: Net, i: usize) -> u32 {
-    between(net, i, i, plus(i, below(3, net.seed, i, 2)))
+fn band(h: usize, seed: usize, i: usize) -> usize {
+    between(h, i, plus(i, below(3, seed, i, 2)))
 }
 
-// Every pump with every site.
-fn full(net: Net, i: usize) -> u32 {
-    let h = net.n / 2;
+// How many whole rounds of h come before i.
+fn rounds(h: usize, i: usize) -> usize {
     if h == 0 {
         return 0;
     }
-    between(net, i, i / h, i)
+    i / h
 }
 
-// One assignment after another.
-fn turned(net: Net, i: usize) -> u32 {
-    let h = net.n / 2;
-    if h == 0 {
-        return 0;
-    }
-    between(net, i, i, plus(i, i / h))
-}
-
-// Record i of a pairing.
-pub fn pair(net: Net, i: usize) -> u32 {
-    let shape = net.shape;
+// The ends of record i of a pairing of a shape: among them every pump with every site, and one assignment after another.
+pub fn ends(shape: usize, h: usize, seed: usize, i: usize) -> usize {
     match shape {
-        1 => forced(net, i),
-        2 => full(net, i),
-        3 => crowded(net, i),
-        4 => assigned(net, i),
-        5 => any(net, i / 3),
-        6 => band(net, i),
-        7 => turned(net, i),
-        _ => any(net, i),
+        1 => forced(h, seed, i),
+        2 => between(h, rounds(h, i), i),
+        3 => crowded(h, seed, i),
+        4 => assigned(h, seed, i),
+        6 => band(h, seed, i),
+        7 => between(h, i, plus(i, rounds(h, i))),
+        _ => any(h, seed, i),
     }
 }

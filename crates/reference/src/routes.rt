@@ -1,14 +1,14 @@
 // Least lengths by Bellman and Ford: every arc again and again, until nothing changes.
-use super::array::NONE;
 use super::array::get;
 use super::array::head;
 use super::array::lower;
-use super::array::plus;
 use super::array::put;
 use super::array::record;
 use super::array::tail;
 use super::array::weight;
 use super::instances::Net;
+use testing::answers::NONE;
+use testing::numbers::plus;
 
 // Tries one arc; 1 where it shortens a chain.
 fn try_arc(r: usize, lengths: &mut [usize; 256]) -> usize {

@@ -1,16 +1,11 @@
-// Drives sessions step by step through every refusal of every step, and prints a line for each answer; the gate compares what is printed.
-mod finishing;
-mod limits;
-mod opening;
-mod print;
-mod reading;
-mod repeating;
-mod sample;
+// Drives sessions step by step through every refusal of every step.
+// The cases are lines of standard input, which says at its top how it is written; a line is printed for each.
+mod cases;
+mod runs;
+mod steps;
 
 fn main() {
-    opening::run();
-    reading::run();
-    limits::run();
-    repeating::run();
-    finishing::run();
+    let mut input = io::large_buffer();
+    let n = io::read_full(0, &mut input);
+    cases::run(&input[..n]);
 }

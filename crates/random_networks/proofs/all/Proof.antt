@@ -1,4 +1,4 @@
--- `random_networks::all` is safe and ends: it counts to 640.
+-- `random_networks::all` is safe and ends: it counts to 1920.
 -- Assumes nothing.
 use Prim.Native.Nat.{_-_, _≤_}
 use native.Mathlib.Omega.{arith}
@@ -7,10 +7,10 @@ use Rattle.random_networks.proofs.all.Statement.{statement}
 use Rattle.random_networks.proofs.all.Tie as tie
 
 abbrev Inv-loop : tie.InvT-loop
-Inv-loop name question tally₀ seed₀ tally seed = seed ≤ 640
+Inv-loop question tally₀ seed₀ tally seed = seed ≤ 1920
 
 abbrev μ-loop : tie.MeasureT-loop
-μ-loop name question tally₀ seed₀ tally seed = 640 - seed
+μ-loop question tally₀ seed₀ tally seed = 1920 - seed
 
 pub all-spec : {M : Type 1} → statement M
 all-spec =
@@ -18,9 +18,9 @@ all-spec =
     (tie.spec
     Inv-loop
     μ-loop
-    (λ c. omega arith)
+    (λ c. search needs)
     (λ c κs. search needs)
     (λ c. omega arith)
     (λ c. omega arith)
-    (λ c. omega arith)
+    (λ c. search needs)
     (λ c. search needs))

@@ -9,10 +9,10 @@ use Rattle.file_cases.proofs.cases.words.Statement.{statement}
 use Rattle.file_cases.proofs.cases.words.Tie as tie
 
 abbrev Inv-loop : tie.InvT-loop
-Inv-loop script from net₀ ann₀ end f₀ i₀ net ann f i = (length net ≡ length net₀) × (length ann ≡ length ann₀)
+Inv-loop script from files₀ end f₀ i₀ files f i = length files ≡ length files₀
 
 abbrev μ-loop : tie.MeasureT-loop
-μ-loop script from net₀ ann₀ end f₀ i₀ net ann f i = end - i
+μ-loop script from files₀ end f₀ i₀ files f i = end - i
 
 pub words-spec : {M : Type 1} → statement M
 words-spec =
@@ -25,7 +25,6 @@ words-spec =
     (λ c κs. search needs)
     (λ c. omega arith)
     (λ c. omega arith)
-    (λ c. search needs)
     (λ c. search needs)
     (λ c. search needs)
     (λ c. search needs))

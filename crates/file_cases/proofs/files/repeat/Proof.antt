@@ -9,10 +9,10 @@ use Rattle.file_cases.proofs.files.repeat.Statement.{statement}
 use Rattle.file_cases.proofs.files.repeat.Tie as tie
 
 abbrev Inv-loop : tie.InvT-loop
-Inv-loop file₀ size width times more i₀ file i = (i ≤ more) × (length file ≡ length file₀)
+Inv-loop kind times files₀ end width more i₀ files i = (i ≤ more) × (length files ≡ length files₀)
 
 abbrev μ-loop : tie.MeasureT-loop
-μ-loop file₀ size width times more i₀ file i = more - i
+μ-loop kind times files₀ end width more i₀ files i = more - i
 
 pub repeat-spec : {M : Type 1} → statement M
 repeat-spec =
@@ -21,6 +21,7 @@ repeat-spec =
     Inv-loop
     μ-loop
     (λ c κs. search needs)
+    (λ c κs. search needs)
     (λ c. search needs)
     (λ c κs. search needs)
     (λ c κs. search needs)
@@ -29,6 +30,5 @@ repeat-spec =
     (λ c. omega arith)
     (λ c. omega arith)
     (λ c. search needs)
-    (λ c κs. search needs)
     (λ c. search needs)
     (λ c. search needs))

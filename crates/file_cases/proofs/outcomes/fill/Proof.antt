@@ -1,6 +1,6 @@
--- `file_cases::outcomes::fill` is safe and ends: it goes through the buffer.
+-- `file_cases::outcomes::fill` is safe and ends: it goes through the buffer from an index on.
 -- Assumes nothing.
-use Prim.Native.Nat.{_-_, _≤_}
+use Prim.Native.Nat.{_-_}
 use mathlib.Core.Path.{_≡_}
 use native.Mathlib.Omega.{arith}
 use lib.ListN.{length}
@@ -9,10 +9,10 @@ use Rattle.file_cases.proofs.outcomes.fill.Statement.{statement}
 use Rattle.file_cases.proofs.outcomes.fill.Tie as tie
 
 abbrev Inv-loop : tie.InvT-loop
-Inv-loop buffer₀ n i₀ buffer i = (i ≤ n) × (length buffer ≡ length buffer₀)
+Inv-loop buffer₀ from n i₀ buffer i = length buffer ≡ length buffer₀
 
 abbrev μ-loop : tie.MeasureT-loop
-μ-loop buffer₀ n i₀ buffer i = n - i
+μ-loop buffer₀ from n i₀ buffer i = n - i
 
 pub fill-spec : {M : Type 1} → statement M
 fill-spec =

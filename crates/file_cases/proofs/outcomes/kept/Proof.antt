@@ -20,7 +20,7 @@ kept-spec =
     Inv-loop
     μ-loop
     (λ c. tt)
-    (λ c. omega arith)
+    (λ c. search needs)
     (λ c. search needs)
     (λ c. omega arith)
     (λ c. omega arith)

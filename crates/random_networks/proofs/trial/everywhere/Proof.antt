@@ -7,10 +7,10 @@ use Rattle.random_networks.proofs.trial.everywhere.Statement.{statement
 use Rattle.random_networks.proofs.trial.everywhere.Tie as tie
 
 abbrev Inv-loop : tie.InvT-loop
-Inv-loop net file ann wanted tally₀ i₀ tally i = i ≤ 5
+Inv-loop s file ann wanted wrong₀ i₀ wrong i = i ≤ 5
 
 abbrev μ-loop : tie.MeasureT-loop
-μ-loop net file ann wanted tally₀ i₀ tally i = 5 - i
+μ-loop s file ann wanted wrong₀ i₀ wrong i = 5 - i
 
 pub everywhere-spec : {M : Type 1} → statement M
 everywhere-spec =
@@ -18,11 +18,12 @@ everywhere-spec =
     (tie.spec
     Inv-loop
     μ-loop
-    (λ c. omega arith)
+    (λ c. search needs)
     (λ c κs. search needs)
     (λ c κs. search needs)
     (λ c κs. search needs)
+    (λ c κs. search needs)
     (λ c. omega arith)
     (λ c. omega arith)
-    (λ c. omega arith)
+    (λ c. search needs)
     (λ c. search needs))

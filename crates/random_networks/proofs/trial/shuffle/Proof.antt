@@ -9,10 +9,10 @@ use Rattle.random_networks.proofs.trial.shuffle.Statement.{statement}
 use Rattle.random_networks.proofs.trial.shuffle.Tie as tie
 
 abbrev Inv-loop : tie.InvT-loop
-Inv-loop net ann₀ m n i₀ ann i = (i ≤ m) × (length ann ≡ length ann₀)
+Inv-loop s ann₀ m i₀ ann i = (i ≤ m) × (length ann ≡ length ann₀)
 
 abbrev μ-loop : tie.MeasureT-loop
-μ-loop net ann₀ m n i₀ ann i = m - i
+μ-loop s ann₀ m i₀ ann i = m - i
 
 pub shuffle-spec : {M : Type 1} → statement M
 shuffle-spec =

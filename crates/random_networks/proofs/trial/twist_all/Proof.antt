@@ -7,10 +7,10 @@ use Rattle.random_networks.proofs.trial.twist_all.Statement.{statement}
 use Rattle.random_networks.proofs.trial.twist_all.Tie as tie
 
 abbrev Inv-loop : tie.InvT-loop
-Inv-loop net file ann wanted tally₀ t₀ tally t = t ≤ 21
+Inv-loop s file ann wanted tally₀ t₀ tally t = t ≤ 21
 
 abbrev μ-loop : tie.MeasureT-loop
-μ-loop net file ann wanted tally₀ t₀ tally t = 21 - t
+μ-loop s file ann wanted tally₀ t₀ tally t = 21 - t
 
 pub twist-all-spec : {M : Type 1} → statement M
 twist-all-spec =
@@ -18,9 +18,9 @@ twist-all-spec =
     (tie.spec
     Inv-loop
     μ-loop
-    (λ c. omega arith)
+    (λ c. search needs)
     (λ c κs. search needs)
     (λ c. omega arith)
     (λ c. omega arith)
-    (λ c. omega arith)
+    (λ c. search needs)
     (λ c. search needs))

@@ -1,4 +1,4 @@
--- `reference::arcs::write` is safe and ends: it goes through the places.
+-- `reference::arcs::write` is safe and ends: it goes through the records.
 -- Assumes nothing.
 use Prim.Native.Nat.{_-_, _≤_}
 use native.Mathlib.Omega.{arith}
@@ -18,10 +18,13 @@ write-spec =
     (tie.spec
     Inv-loop
     μ-loop
-    (λ c. omega arith)
+    (λ c. search needs)
     (λ c κs. search needs)
     (λ c κs. search needs)
+    (λ c κs. search needs)
+    (λ c κs. search needs)
+    (λ c κs. search needs)
     (λ c. omega arith)
     (λ c. omega arith)
-    (λ c. omega arith)
+    (λ c. search needs)
     (λ c. search needs))

@@ -1,0 +1,26 @@
+-- `random_networks::tally::kinds` is safe and ends: it goes through the kinds.
+-- Assumes nothing.
+use Prim.Native.Nat.{_-_, _≤_}
+use native.Mathlib.Omega.{arith}
+use borrow.Author.Needs.{needs}
+use Rattle.random_networks.proofs.tally.kinds.Statement.{statement}
+use Rattle.random_networks.proofs.tally.kinds.Tie as tie
+
+abbrev Inv-loop : tie.InvT-loop
+Inv-loop names tally k₀ k = k ≤ 7
+
+abbrev μ-loop : tie.MeasureT-loop
+μ-loop names tally k₀ k = 7 - k
+
+pub kinds-spec : {M : Type 1} → statement M
+kinds-spec =
+    tie.close
+    (tie.spec
+    Inv-loop
+    μ-loop
+    (λ c. search needs)
+    (λ c κs. search needs)
+    (λ c. omega arith)
+    (λ c. omega arith)
+    (λ c. search needs)
+    (λ c. search needs))

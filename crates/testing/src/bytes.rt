@@ -1,0 +1,12 @@
+// Bytes copied from one slice to another.
+use format::bytes::byte;
+use format::bytes::put_byte;
+
+// Copies the first bytes.
+pub fn copy(from: &[u8], to: &mut [u8], size: usize) {
+    let mut i: usize = 0;
+    while i < size {
+        put_byte(to, i, byte(from, i));
+        i += 1;
+    }
+}
