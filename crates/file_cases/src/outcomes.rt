@@ -3,6 +3,7 @@ use super::files::Files;
 use super::files::START;
 use format::bytes::put_byte;
 use helper::Written;
+use points::Point;
 use testing::answers::ACCEPTED;
 use testing::answers::NONE;
 use testing::answers::code;
@@ -26,7 +27,7 @@ pub fn judged(files: &[u8], f: Files, point: usize) -> usize {
     if b < START {
         return NONE;
     }
-    code(judging::judge(&files[0..a], &files[START..b], low_word(point)))
+    code(judging::judge(&files[0..a], &files[START..b], Point { r: low_word(point) }))
 }
 
 fn fill(buffer: &mut [u8], from: usize) {

@@ -2,7 +2,7 @@
 -- Assumes nothing.
 use Prim.Native.Nat.{ℕ, _+_}
 use Rattle.network.specs.Question.{value, none}
-use Rattle.session.specs.Session.{Said, accepted, gives, refused}
+use Rattle.state.specs.Answers.{Said, accepted, gives, refused}
 use Rattle.helper.specs.Helper.{Done, wrote}
 use Rattle.helper.specs.Helper.{refused as declined}
 

@@ -1,12 +1,13 @@
 // Judging and the helper for callers in C: each slice is a pointer and a count, each reply one number. The pointer of an empty slice is not null either.
 ghost use mathlib.Core.Path.{_≡_};
 ghost use lib.ListN.{length};
-ghost use Rattle.session.specs.Session.{said};
+ghost use Rattle.state.specs.Answers.{said};
 ghost use Rattle.judging.specs.Judging.{judged};
 ghost use Rattle.helper.specs.Helper.{done, annotated, Held};
 ghost use Rattle.panel_export.specs.Codes.{saidCode, doneCode};
 use helper::Written;
-use session::Answer;
+use points::Point;
+use state::Answer;
 
 // An answer as one number: the value, 4294967296 for none, that plus k for the refusal k.
 fn answer_code(answer: Answer) -> u64
@@ -32,9 +33,9 @@ fn written_code(written: Written) -> u64
 
 #[no_mangle]
 pub extern "C" fn panel_judge(net: &[u8], ann: &[u8], point: u32) -> u64
-    ensures { λ r. ⌜ r ≡ saidCode (judged (now (net .entry)) (now (ann .entry)) point) ⌝ }
+    ensures { λ r. ⌜ r ≡ saidCode (judged (now (net .entry)) (now (ann .entry)) (record { r = point })) ⌝ }
 {
-    answer_code(judging::judge(net, ann, point))
+    answer_code(judging::judge(net, ann, Point { r: point }))
 }
 
 #[no_mangle]

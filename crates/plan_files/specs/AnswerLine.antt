@@ -1,21 +1,21 @@
--- What the judging program answers and what it prints, for files of any names. Quotations are of the scope's section "Files and the helper".
+-- What the judging program answers and what it prints, for files of any names (document 01, Files and the helper).
 -- Assumes nothing.
 use mathlib.Core.Path.{_≡_}
 use mathlib.Core.List.{List, [], _∷_}
-use Prim.Native.Nat.{ℕ, _+_, _*_, _≤_, _<_}
+use Prim.Native.Nat.{ℕ, _≤_, _<_}
 use lib.ListN.{length}
 use Rattle.network.specs.Question.{value, none}
-use Rattle.session.specs.Print.{Point}
-use Rattle.session.specs.Session.{Said, accepted, gives, refused}
-use Rattle.format.specs.Bytes.{read16}
+use Rattle.points.specs.declared.Point.{Point}
+use Rattle.state.specs.Answers.{Said, accepted, gives, refused}
+use Rattle.format.specs.Bytes.{read32}
 use Rattle.judging.specs.Judging.{judged}
 use Rattle.program_io.specs.Line.{Numbered, RefusedLine}
 
--- "point.bin (r as four bytes)", "most significant byte first".
+-- The point in four bytes, most significant first.
 abbrev pub pointIn : List ℕ → Point
-pointIn file = 65536 * read16 file 0 + read16 file 2
+pointIn file = record { r = read32 file 0 }
 
--- "Of each of those the first 32768 bytes count": the answer is judging's, of two files of no more bytes, at the point r.
+-- The answer is judging's, of two files of which no more than 32768 bytes count, at the point r.
 pub record JudgedAt (r : Point) (answer : Said) : Type 0 where
   pub net : List ℕ
   pub ann : List ℕ
@@ -23,26 +23,26 @@ pub record JudgedAt (r : Point) (answer : Said) : Type 0 where
   pub ann-counts : length ann ≤ 32768
   pub judges : answer ≡ judged net ann r
 
--- "Of point.bin the first four bytes count; if there are fewer, it prints `refused 4` before it looks at the other two."
+-- Refusal 4 where the point has fewer than four bytes, whatever the other two files hold.
 pub record Answered (file : List ℕ) (answer : Said) : Type 0 where
   pub short : length file < 4 → answer ≡ refused 4
   pub whole : 4 ≤ length file → JudgedAt (pointIn file) answer
 
--- "value ", and "none" with a line end.
+-- The word `value` with a blank, and `none` with a line end.
 abbrev pub valueWord : List ℕ
 valueWord = 118 ∷ 97 ∷ 108 ∷ 117 ∷ 101 ∷ 32 ∷ []
 
 abbrev pub noneLine : List ℕ
 noneLine = 110 ∷ 111 ∷ 110 ∷ 101 ∷ 10 ∷ []
 
--- "Prints one line: `value` and the number, or `none`, or `refused` and the number." An acceptance has no line.
+-- The line of an answer. An acceptance has none.
 abbrev pub Line : Said → List ℕ → Type 0
 Line (gives (value v)) text = Numbered valueWord v text
 Line (gives none) text = text ≡ noneLine
 Line (refused k) text = RefusedLine k text
 Line accepted text = ⊥
 
--- The line that is printed is that of the answer for what the point's file held, of which "the first four bytes count".
+-- The line that is printed is that of the answer for what the point's file held, of which four bytes count.
 pub record Printed (text : List ℕ) : Type 0 where
   pub file : List ℕ
   pub answer : Said

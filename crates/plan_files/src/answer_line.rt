@@ -2,25 +2,24 @@
 ghost use mathlib.Core.Path.{_≡_};
 ghost use lib.ListN.{take};
 ghost use Rattle.io.specs.Counts.{Counts};
-ghost use Rattle.session.specs.Session.{said, accepted};
+ghost use Rattle.state.specs.Answers.{said, accepted};
 ghost use Rattle.plan_files.specs.AnswerLine.{pointIn, JudgedAt, Answered, Line, Printed};
-use format::bytes::number16;
+use format::bytes::bits32;
+use points::Point;
 use program_io::front::read_front;
 use program_io::front::room;
 use program_io::line;
-use session::Answer;
+use state::Answer;
 
 // The point in the first four bytes of a file.
-fn point(file: &[u8]) -> u32
+fn point(file: &[u8]) -> Point
     ensures { λ r. ⌜ r ≡ pointIn (now (file .entry)) ⌝ }
 {
-    let high = number16(file, 0) as u32;
-    let low = number16(file, 2) as u32;
-    65536 * high + low
+    Point { r: bits32(file, 0) }
 }
 
 // What the two files come out as at the point.
-fn answer_at(point: u32, net_name: &[u8], ann_name: &[u8]) -> Answer
+fn answer_at(point: Point, net_name: &[u8], ann_name: &[u8]) -> Answer
     ensures { λ r. ⌜ JudgedAt point (said r) ⌝ }
 {
     let mut net = room();

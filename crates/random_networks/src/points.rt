@@ -1,5 +1,6 @@
 // The points to judge at, and what judging says there as one number.
 use format::network_file;
+use points::Point;
 use reference::random::below;
 use testing::answers::code;
 use testing::numbers::low_word;
@@ -12,7 +13,7 @@ pub struct Shape {
 }
 
 pub fn judged(file: &[u8], ann: &[u8], point: usize) -> usize {
-    code(judging::judge(file, ann, low_word(point)))
+    code(judging::judge(file, ann, Point { r: low_word(point) }))
 }
 
 // A point that looks random.
@@ -23,7 +24,7 @@ pub fn any_point(seed: usize, place: usize) -> usize {
 // The key of a record of the network file, at which the fingerprints are 0.
 pub fn key(s: Shape, file: &[u8]) -> usize {
     let r = network_file::arc(file, below(s.m, s.seed, 0, 6));
-    (r.a as usize) * 8388608 + (r.b as usize) * 32768 + r.w as usize
+    (r.tail as usize) * 8388608 + (r.head as usize) * 32768 + r.weight as usize
 }
 
 // 0, 1, p - 1, the key of a record, and any.

@@ -1,7 +1,9 @@
 // All that is called of a session: opening and the six steps.
-use session::Answer;
+use checks::Opening;
+use points::Point;
 use session::Reply;
 use session::Session;
+use state::Answer;
 use testing::numbers::as_signed;
 
 // The numbers of a step, as many as it takes.
@@ -13,9 +15,20 @@ pub struct Numbers {
     pub e: u32,
 }
 
+// Opening.
+fn opened(question: u32, n: u32, s: u32, t: u32, r: u32) -> Reply {
+    let o = Opening {
+        question: question,
+        n: n,
+        s: s,
+        t: t,
+    };
+    Session::open(o, Point { r: r })
+}
+
 // The session that a case starts with: void.
 pub fn void() -> Session {
-    let r = Session::open(0, 0, 0, 0, 0);
+    let r = opened(0, 0, 0, 0, 0);
     r.session
 }
 
@@ -23,14 +36,14 @@ pub fn void() -> Session {
 fn extended(x: Session, point: u32, fingerprint: u32, key: u32) -> Reply {
     Reply {
         session: x,
-        answer: Answer::Value(field::extend(point, fingerprint, key) as u64),
+        answer: Answer::Value(field::extend(point, fingerprint, key as u64) as u64),
     }
 }
 
 // The step that a letter stands for.
 pub fn step(x: Session, letter: u8, v: Numbers) -> Reply {
     match letter {
-        b'O' => Session::open(v.a, v.b, v.c, v.d, v.e),
+        b'O' => opened(v.a, v.b, v.c, v.d, v.e),
         b'R' => x.read_channel(v.a, v.b, v.c),
         b'E' => x.end_reading(),
         b'C' => x.claim(v.a),

@@ -1,7 +1,9 @@
 // Whole sessions of 4096 channels, as many as there are bytes on standard input: an 'r' reads only, any other byte goes through to finishing.
 // For measuring; the gate runs it on two bytes.
-use session::Answer;
+use checks::Opening;
+use points::Point;
 use session::Session;
+use state::Answer;
 
 // The tail, head and weight of the i-th channel.
 fn tail(i: u32) -> u32 {
@@ -18,7 +20,13 @@ fn weight(i: u32) -> u32 {
 
 // All channels read.
 fn read(point: u32) -> Session {
-    let r = Session::open(2, 255, 0, 254, point);
+    let o = Opening {
+        question: 2,
+        n: 255,
+        s: 0,
+        t: 254,
+    };
+    let r = Session::open(o, Point { r: point });
     let mut x = r.session;
     let mut i: u32 = 0;
     while i < 4096 {

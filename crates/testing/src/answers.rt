@@ -1,6 +1,6 @@
 // An answer as one number: a value as it is, and none, accepted and refusals above every value.
 use super::numbers::plus;
-use session::Answer;
+use state::Answer;
 
 // None. A few of these add up without becoming too large.
 pub const NONE: usize = 1000000000000;
