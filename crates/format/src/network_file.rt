@@ -1,6 +1,6 @@
 // A network file: its layout, its header and its arcs, read and written.
 ghost use mathlib.Core.Path.{_≡_};
-ghost use Prim.Native.Nat.{_*_};
+ghost use Prim.Native.Nat.{_-_, _*_, _/_};
 ghost use lib.Seq.{sets};
 ghost use Rattle.prelude.specs.Checks.{firstBroken};
 ghost use Rattle.network.specs.Network.{arcHeld, wordArc};
@@ -58,12 +58,19 @@ pub fn network_check(file: &[u8]) -> u8
     layout_check(file, 11, b'N', 11 + 4 * arcs)
 }
 
+// How many records of a file of so many bytes are whole.
+fn whole_records(size: usize) -> usize
+    ensures { λ r. ⌜ r ≡ (size - 11) / 4 ⌝ }
+{
+    bytes_after(11, size) / 4
+}
+
 // The arc number e, all zeros past the end. A record that is whole is read with no further test.
 pub fn arc(file: &[u8], e: usize) -> Record
     ensures { λ r. ⌜ arcHeld r ≡ arcIn (now (file .entry)) e ⌝ }
 {
     let size = file.len();
-    if e < bytes_after(11, size) / 4 {
+    if e < whole_records(size) {
         return inner_record(file, 11 + 4 * e);
     }
     if size / 4 < e {
@@ -77,7 +84,7 @@ pub fn word(file: &[u8], e: usize) -> u32
     ensures { λ r. ⌜ wordArc r ≡ arcIn (now (file .entry)) e ⌝ }
 {
     let size = file.len();
-    if e < bytes_after(11, size) / 4 {
+    if e < whole_records(size) {
         return inner_bits32(file, 11 + 4 * e);
     }
     if size / 4 < e {

@@ -1,0 +1,3 @@
+pub mod AcceptedFiles
+pub mod RecordsChecked
+pub mod Promises

@@ -1,0 +1,60 @@
+-- The promises of specs/Promises.antt, kept.
+-- Assumes nothing.
+use mathlib.Core.Path.{_≡_, sym, subst}
+use mathlib.Core.List.{List}
+use Prim.Native.Nat.{ℕ, _<_}
+use native.Mathlib.Omega.{arith}
+use Rattle.prelude.specs.Checks.{Hold}
+use Rattle.prelude.specs.Lists.{Every}
+use Rattle.prelude.proofs.Lists.{every-map}
+use Rattle.network.specs.Network.{Arc}
+use Rattle.network.specs.Question.{Question, shortestPath, maximumFlow, assignment, unasked, Setting, asks, EndsFor, Opened, Allowed}
+use Rattle.network.specs.Tests.{openingChecks, readingAll}
+use Rattle.network.proofs.Allowed.{asked-least, opening-test, reading-test}
+use Rattle.format.specs.Files.{networkFile, arcsIn}
+use Rattle.format.specs.Promises.{Byte, ArcFits}
+use Rattle.format.proofs.Promises.{network-round-trip}
+use Rattle.acceptance.specs.Acceptance.{settingIn}
+use Rattle.acceptance.specs.Promises.{Readable, WrittenAccepted, AcceptedMeans}
+use Rattle.acceptance.proofs.AcceptedFiles.{accepted, file-opened, file-allowed, file-few}
+
+-- ---- what may be read fits its fields
+
+module _ (st : Setting) (o : Opened st) where
+  ends-below : (q : Question) → EndsFor q st → (st .s < 255) × (st .t < 255)
+  ends-below shortestPath e = (omega (arith, o .sized .at-most, e .source-below), omega (arith, o .sized .at-most, e .sink-below))
+  ends-below maximumFlow e = (omega (arith, o .sized .at-most, e .source-below), omega (arith, o .sized .at-most, e .sink-below))
+  ends-below assignment e = (omega (arith, e .source-zero), omega (arith, e .sink-zero))
+  ends-below unasked e = absurd e
+
+  pub arc-fits : (a : Arc) → Allowed st a → ArcFits a
+  arc-fits a h = record {
+    tail = omega (arith, o .sized .at-most, h .joins .tail-below);
+    head = omega (arith, o .sized .at-most, h .joins .head-below);
+    weight = omega (arith, h .weight-within);
+  }
+
+-- ---- kept
+
+pub written-accepted : WrittenAccepted
+written-accepted st net r =
+    let o = r .opened in
+    let ends = ends-below st o (asks st) (o .ends) in
+    let opens = opening-test st o in
+    let file = networkFile (st .question) (st .n) (st .s) (st .t) net in
+    let back =
+        network-round-trip (st .question) (st .n) (st .s) (st .t) net (omega (arith, asked-least (st .question) (opens .0))) (omega (arith, o .sized .at-most))
+        (omega (arith, ends .0)) (omega (arith, ends .1)) (omega (arith, r .few)) (every-map (arc-fits st o) net (r .allowed)) in
+    let same : settingIn file ≡ st = λ i. record { question = back .question-back i; n = back .n-back i; s = back .s-back i; t = back .t-back i } in
+    record {
+      bytes = back .bytes;
+      accepted = accepted file (back .passes) (subst (λ (x : Setting). Hold (openingChecks x)) (sym same) opens) (readings file same (back .arcs-back) (reading-test st 0 net (r .allowed) (omega (arith, r .few))));
+      setting-is = same;
+      arcs-are = back .arcs-back;
+    }
+  where
+    readings : (file : List ℕ) → settingIn file ≡ st → arcsIn file ≡ net → Hold (readingAll st 0 net) → Hold (readingAll (settingIn file) 0 (arcsIn file))
+    readings file p q h = rw (p, q) h
+
+pub accepted-means : AcceptedMeans
+accepted-means file h = record { opened = file-opened file h; allowed = file-allowed file h; few = file-few file h }

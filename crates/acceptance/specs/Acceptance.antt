@@ -1,0 +1,20 @@
+-- The network files that the panel accepts: document 01, What demand 3 counts, by the checks of Files and the helper.
+-- Assumes nothing.
+use mathlib.Core.List.{List, _++_}
+use Prim.Native.Nat.{ℕ}
+use Rattle.prelude.specs.Checks.{Check, Hold}
+use Rattle.network.specs.Question.{Setting}
+use Rattle.network.specs.Tests.{openingChecks, readingAll}
+use Rattle.format.specs.Files.{questionIn, nIn, sIn, tIn, arcsIn, networkLayout}
+
+-- What the header asks.
+abbrev pub settingIn : List ℕ → Setting
+settingIn net = record { question = questionIn net; n = nIn net; s = sIn net; t = tIn net }
+
+-- The checks of a network file, which the helper makes before 20: 17, 18 and 19 of its layout, 1, 2 and 3 of its header, then 6, 7 and 8 of each record in turn.
+abbrev pub acceptanceChecks : List ℕ → List Check
+acceptanceChecks net = networkLayout net ++ (openingChecks (settingIn net) ++ readingAll (settingIn net) 0 (arcsIn net))
+
+-- The panel accepts the file: none of these checks refuses it.
+abbrev pub AcceptedFile : List ℕ → Type 0
+AcceptedFile net = Hold (acceptanceChecks net)

@@ -1,0 +1,34 @@
+-- What is promised of accepted network files; proofs/Promises.antt keeps it.
+-- Assumes nothing.
+use mathlib.Core.Path.{_≡_}
+use mathlib.Core.List.{List}
+use Prim.Native.Nat.{ℕ, _≤_}
+use lib.ListN.{length}
+use Rattle.prelude.specs.Lists.{Every}
+use Rattle.network.specs.Limits.{mostArcs}
+use Rattle.network.specs.Network.{Arc}
+use Rattle.network.specs.Question.{Setting, Opened, Allowed}
+use Rattle.format.specs.Files.{networkFile, arcsIn}
+use Rattle.format.specs.Promises.{Byte}
+use Rattle.acceptance.specs.Acceptance.{settingIn, AcceptedFile}
+
+-- A list of arcs that may be read in a setting: opening accepts the setting, reading each arc, and there are not too many.
+pub record Readable (st : Setting) (net : List Arc) : Type 0 where
+  pub opened : Opened st
+  pub allowed : Every (Allowed st) net
+  pub few : length net ≤ mostArcs
+
+-- The file is accepted, and says this setting and these arcs.
+pub record Says (st : Setting) (net : List Arc) (file : List ℕ) : Type 0 where
+  pub bytes : Every Byte file
+  pub accepted : AcceptedFile file
+  pub setting-is : settingIn file ≡ st
+  pub arcs-are : arcsIn file ≡ net
+
+-- Whatever may be read can be written: the bytes of its network file are accepted and say just that.
+abbrev pub WrittenAccepted : Type 0
+WrittenAccepted = (st : Setting) (net : List Arc) → Readable st net → Says st net (networkFile (st .question) (st .n) (st .s) (st .t) net)
+
+-- An accepted file says what may be read.
+abbrev pub AcceptedMeans : Type 0
+AcceptedMeans = (file : List ℕ) → AcceptedFile file → Readable (settingIn file) (arcsIn file)
