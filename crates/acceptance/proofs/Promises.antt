@@ -15,7 +15,7 @@ use Rattle.format.specs.Files.{networkFile, arcsIn}
 use Rattle.format.specs.Promises.{Byte, ArcFits}
 use Rattle.format.proofs.Promises.{network-round-trip}
 use Rattle.acceptance.specs.Acceptance.{settingIn}
-use Rattle.acceptance.specs.Promises.{Readable, WrittenAccepted, AcceptedMeans}
+use Rattle.acceptance.specs.Promises.{Admissible, WrittenAccepted, AcceptedMeans}
 use Rattle.acceptance.proofs.AcceptedFiles.{accepted, file-opened, file-allowed, file-few}
 
 -- ---- what may be read fits its fields

@@ -13,7 +13,7 @@ use Rattle.format.specs.Promises.{Byte}
 use Rattle.acceptance.specs.Acceptance.{settingIn, AcceptedFile}
 
 -- A list of arcs that may be read in a setting: opening accepts the setting, reading each arc, and there are not too many.
-pub record Readable (st : Setting) (net : List Arc) : Type 0 where
+pub record Admissible (st : Setting) (net : List Arc) : Type 0 where
   pub opened : Opened st
   pub allowed : Every (Allowed st) net
   pub few : length net ≤ mostArcs
@@ -27,8 +27,8 @@ pub record Says (st : Setting) (net : List Arc) (file : List ℕ) : Type 0 where
 
 -- Whatever may be read can be written: the bytes of its network file are accepted and say just that.
 abbrev pub WrittenAccepted : Type 0
-WrittenAccepted = (st : Setting) (net : List Arc) → Readable st net → Says st net (networkFile (st .question) (st .n) (st .s) (st .t) net)
+WrittenAccepted = (st : Setting) (net : List Arc) → Admissible st net → Says st net (networkFile (st .question) (st .n) (st .s) (st .t) net)
 
 -- An accepted file says what may be read.
 abbrev pub AcceptedMeans : Type 0
-AcceptedMeans = (file : List ℕ) → AcceptedFile file → Readable (settingIn file) (arcsIn file)
+AcceptedMeans = (file : List ℕ) → AcceptedFile file → Admissible (settingIn file) (arcsIn file)

@@ -1,4 +1,4 @@
--- What the helper replies and what it leaves in the buffer: the scope's section "Files and the helper".
+-- What the helper replies and what it leaves in the buffer (document 01, Files and the helper).
 -- Assumes nothing.
 use mathlib.Core.Path.{_≡_}
 use mathlib.Core.List.{List, [], _∷_, _++_}
@@ -9,40 +9,35 @@ use lib.ListN.{length, take, drop}
 use Rattle.prelude.specs.Checks.{Check, _unless_, settle}
 use Rattle.prelude.specs.Lists.{at}
 use Rattle.network.specs.Network.{Load, arcs}
-use Rattle.network.specs.Question.{Answer}
-use Rattle.network.specs.Certificate.{Certified}
-use Rattle.network.specs.Tests.{claimNumber, claimFor}
-use Rattle.checks.specs.declared.Setting.{Setting as Header}
+use Rattle.network.specs.Question.{asks, Answer}
+use Rattle.network.specs.Certificate.{claimFor, Certified}
+use Rattle.network.specs.Tests.{claimNumber}
+use Rattle.format.specs.Files.{nIn, countIn, arcsIn, annotationFile, annotationSize}
+use Rattle.acceptance.specs.Acceptance.{settingIn, acceptanceChecks}
 use Rattle.solver.specs.Certify.{LengthsFor}
-use Rattle.format.specs.Files.{questionIn, nIn, sIn, tIn, countIn, arcsIn, annotationFile, annotationSize}
-use Rattle.judging.specs.Judging.{settingIn, helperChecks}
 use Rattle.helper.specs.declared.Written.{Written}
 use Rattle.helper.specs.declared.Written.the-variants.{Length, Refused}
 
--- The helper's reply: a length, or the number of a refusal.
-pub data Done : Type 0 where
-  wrote : ℕ → Done
-  refused : ℕ → Done
+-- The helper's reply: how many bytes it wrote, or the number of a refusal.
+pub data HelperSaid : Type 0 where
+  wrote : ℕ → HelperSaid
+  declined : ℕ → HelperSaid
 
-abbrev pub done : Written → Done
-done (Length k) = wrote k
-done (Refused k) = refused k
+abbrev pub helperSaid : Written → HelperSaid
+helperSaid (Length k) = wrote k
+helperSaid (Refused k) = declined k
 
--- The header of a network file, as the code holds it.
-abbrev pub headerIn : List ℕ → Header
-headerIn net = record { question = questionIn net; n = nIn net; s = sIn net; t = tIn net }
-
--- "That length": 8 + 4n + 6m.
+-- The length of the annotation: 8 + 4n + 6m.
 abbrev pub sizeFor : List ℕ → ℕ
 sizeFor net = annotationSize (nIn net) (countIn net)
 
--- "17, 18, 19, then 1, 2, 3, then 6, 7, 8 per record, then 20: buffer shorter than 8 + 4n + 6m", for a buffer of so many bytes.
+-- The checks by which the panel accepts the file, then 20: is the buffer of so many bytes large enough?
 abbrev pub annotateChecks : List ℕ → ℕ → List Check
-annotateChecks net room = helperChecks net ++ (20 unless leb (sizeFor net) room ∷ [])
+annotateChecks net room = acceptanceChecks net ++ (20 unless leb (sizeFor net) room ∷ [])
 
--- The reply: the first refusal, or "that length is returned".
-abbrev pub annotated : List ℕ → ℕ → Done
-annotated net room = settle refused (annotateChecks net room) (wrote (sizeFor net))
+-- The reply: the first refusal, or the length.
+abbrev pub annotated : List ℕ → ℕ → HelperSaid
+annotated net room = settle declined (annotateChecks net room) (wrote (sizeFor net))
 
 -- The bytes are an annotation that meets every rule of the certificate, for some answer, with the records in file order. Node numbers of a route are the least lengths.
 pub record Annotation (net ann : List ℕ) : Type 0 where
@@ -52,15 +47,15 @@ pub record Annotation (net ann : List ℕ) : Type 0 where
   pub one-each : length numbers ≡ nIn net
   pub in-order : arcs loads ≡ arcsIn net
   pub certified : Certified (settingIn net) (at numbers) loads answer
-  pub lengths : LengthsFor (settingIn net .question) (settingIn net) (arcsIn net) (claimFor answer) (at numbers)
+  pub lengths : LengthsFor (asks (settingIn net)) (settingIn net) (arcsIn net) (claimFor answer) (at numbers)
   pub bytes : ann ≡ annotationFile (claimNumber (claimFor answer)) numbers loads
 
--- "The helper's annotation is the bytes of the buffer below the returned length"; "bytes beyond the length stay".
-pub record Filled (net before after : List ℕ) : Type 0 where
+-- The annotation stands in the buffer below its length, and the bytes beyond are as they were.
+pub record AnnotationIn (net before after : List ℕ) : Type 0 where
   pub annotation : Annotation net (take (sizeFor net) after)
   pub beyond : drop (sizeFor net) after ≡ drop (sizeFor net) before
 
--- What the buffer holds afterwards. "A refusal leaves the buffer unchanged."
-abbrev pub Held : Done → List ℕ → List ℕ → List ℕ → Type 0
-Held (refused k) net before after = after ≡ before
-Held (wrote k) net before after = Filled net before after
+-- What the buffer holds afterwards: a refusal leaves it as it was.
+abbrev pub BufferAfter : HelperSaid → List ℕ → List ℕ → List ℕ → Type 0
+BufferAfter (declined k) net before after = after ≡ before
+BufferAfter (wrote k) net before after = AnnotationIn net before after

@@ -1,2 +1,1 @@
 pub mod Helper
-pub mod Promises

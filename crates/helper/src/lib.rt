@@ -1,12 +1,11 @@
 // The helper: it finds an answer for a network file and writes the annotation for it into a lent buffer.
 ghost use mathlib.Core.Path.{_≡_};
 ghost use lib.ListN.{length};
-ghost use Rattle.helper.specs.Helper.{done, annotated, Held};
-use accepting::acceptance_check;
+ghost use Rattle.helper.specs.Helper.{helperSaid, annotated, BufferAfter};
+use acceptance::acceptance_check;
 use format::network_file;
 use writing::write_annotation;
 
-mod accepting;
 mod writing;
 
 // How many bytes the annotation has, or the number of the check that refuses.
@@ -17,7 +16,7 @@ pub enum Written {
 
 // Writes an annotation for the network file into the front of the buffer. A refusal leaves the buffer as it is.
 pub fn annotate(net: &[u8], buffer: &mut [u8]) -> Written
-    ensures { λ r. ⌜ (done r ≡ annotated (now (net .entry)) (length (now (buffer .entry)))) × Held (done r) (now (net .entry)) (now (buffer .entry)) (now (buffer .exit)) ⌝ }
+    ensures { λ r. ⌜ (helperSaid r ≡ annotated (now (net .entry)) (length (now (buffer .entry)))) × BufferAfter (helperSaid r) (now (net .entry)) (now (buffer .entry)) (now (buffer .exit)) ⌝ }
 {
     let why = acceptance_check(net);
     if why != 0 {

@@ -4,31 +4,23 @@ ghost use mathlib.Core.List.{flatMap, _++_};
 ghost use Prim.Native.Nat.{_+_, _*_, _≤_};
 ghost use lib.ListN.{length};
 ghost use lib.Seq.{sets};
-ghost use Rattle.solver.specs.Certify.{recordArc, recordArcs};
-ghost use Rattle.solver.specs.Instance.{loadsOf};
-ghost use Rattle.format.specs.Bytes.{byte32, listTo};
+ghost use Rattle.prelude.specs.Lists.{listTo};
+ghost use Rattle.network.specs.Network.{wordArcs, loadsOf};
+ghost use Rattle.format.specs.Bytes.{byte32};
 ghost use Rattle.format.specs.Files.{nIn, countIn, arcIn, arcsIn, annotationHeader, loadBytes};
-ghost use Rattle.judging.specs.Judging.{AcceptedFile};
-ghost use Rattle.helper.specs.Helper.{sizeFor, Filled};
-use super::accepting::setting;
+ghost use Rattle.acceptance.specs.Acceptance.{AcceptedFile};
+ghost use Rattle.helper.specs.Helper.{sizeFor, AnnotationIn};
+use acceptance::setting;
 use format::annotation_file;
 use format::network_file;
 
-// The record number e as one number: tail × 16777216 + head × 65536 + weight.
-fn word(net: &[u8], e: usize) -> u32
-    ensures { λ r. ⌜ recordArc r ≡ arcIn (now (net .entry)) e ⌝ }
-{
-    let arc = network_file::arc(net, e);
-    arc.tail * 16777216 + arc.head * 65536 + arc.weight
-}
-
-// The records of the file, as many as there is room for.
+// The records of the file, as many as there is room for, each as one number.
 fn gather(net: &[u8], records: &mut [u32])
-    ensures { λ _. ⌜ recordArcs (now (records .exit)) ≡ listTo (length (now (records .entry))) (arcIn (now (net .entry))) ⌝ }
+    ensures { λ _. ⌜ wordArcs (now (records .exit)) ≡ listTo (length (now (records .entry))) (arcIn (now (net .entry))) ⌝ }
 {
     let mut e = 0;
     while e < records.len() {
-        records[e] = word(net, e);
+        records[e] = network_file::word(net, e);
         e += 1;
     }
 }
@@ -44,36 +36,44 @@ fn write_numbers(part: &mut [u8], numbers: &[i32])
     }
 }
 
-// The records in file order with their amounts, one after the other from the front of the part.
-fn write_loads(part: &mut [u8], net: &[u8], amounts: &[u16])
-    ensures { λ _. ⌜ now (part .exit) ≡ sets (now (part .entry)) 0 (flatMap loadBytes (loadsOf (listTo (length (now (amounts .entry))) (arcIn (now (net .entry)))) (now (amounts .entry)))) ⌝ }
+// The records with their amounts, one after the other from the front of the part, as many as both have.
+fn write_loads(part: &mut [u8], records: &[u32], amounts: &[u16])
+    requires { ⌜ length (now records) ≡ length (now amounts) ⌝ }
+    ensures { λ _. ⌜ now (part .exit) ≡ sets (now (part .entry)) 0 (flatMap loadBytes (loadsOf (wordArcs (now (records .entry))) (now (amounts .entry)))) ⌝ }
 {
     let mut e = 0;
     while e < amounts.len() {
-        let arc = network_file::arc(net, e);
-        annotation_file::write_load(part, e, arc, amounts[e] as u32);
+        annotation_file::write_load(part, e, records[e], amounts[e]);
         e += 1;
     }
 }
 
 // What follows the header: the node numbers, then the records, in the part that is lent on.
-fn write_body(rest: &mut [u8], net: &[u8], numbers: &[i32], amounts: &[u16])
+fn write_body(rest: &mut [u8], records: &[u32], numbers: &[i32], amounts: &[u16])
     requires { ⌜ 4 * length (now numbers) ≤ length (now rest) ⌝ }
-    ensures { λ _. ⌜ now (rest .exit) ≡ sets (now (rest .entry)) 0 (flatMap byte32 (now (numbers .entry)) ++ flatMap loadBytes (loadsOf (listTo (length (now (amounts .entry))) (arcIn (now (net .entry)))) (now (amounts .entry)))) ⌝ }
+    requires { ⌜ length (now records) ≡ length (now amounts) ⌝ }
+    ensures { λ _. ⌜ now (rest .exit) ≡ sets (now (rest .entry)) 0 (flatMap byte32 (now (numbers .entry)) ++ flatMap loadBytes (loadsOf (wordArcs (now (records .entry))) (now (amounts .entry)))) ⌝ }
 {
     write_numbers(rest, numbers);
     let at = 4 * numbers.len();
-    write_loads(&mut rest[at..], net, amounts);
+    write_loads(&mut rest[at..], records, amounts);
 }
 
 // The whole file. The node numbers go after the eighth byte.
-fn write_file(buffer: &mut [u8], net: &[u8], claim: u8, numbers: &[i32], amounts: &[u16])
+fn write_file(
+    buffer: &mut [u8],
+    claim: u8,
+    count: u16,
+    records: &[u32],
+    numbers: &[i32],
+    amounts: &[u16],
+)
     requires { ⌜ 8 + 4 * length (now numbers) ≤ length (now buffer) ⌝ }
-    ensures { λ _. ⌜ now (buffer .exit) ≡ sets (now (buffer .entry)) 0 (annotationHeader claim (countIn (now (net .entry))) ++ (flatMap byte32 (now (numbers .entry)) ++ flatMap loadBytes (loadsOf (listTo (length (now (amounts .entry))) (arcIn (now (net .entry)))) (now (amounts .entry))))) ⌝ }
+    requires { ⌜ length (now records) ≡ length (now amounts) ⌝ }
+    ensures { λ _. ⌜ now (buffer .exit) ≡ sets (now (buffer .entry)) 0 (annotationHeader claim count ++ (flatMap byte32 (now (numbers .entry)) ++ flatMap loadBytes (loadsOf (wordArcs (now (records .entry))) (now (amounts .entry))))) ⌝ }
 {
-    let count = network_file::count(net);
     annotation_file::write_header(buffer, claim, count);
-    write_body(&mut buffer[8..], net, numbers, amounts);
+    write_body(&mut buffer[8..], records, numbers, amounts);
 }
 
 // The annotation that the solver finds for the records of the file.
@@ -85,21 +85,21 @@ fn write_solution(
     buffer: &mut [u8],
 )
     requires { ⌜ AcceptedFile (now net) ⌝ }
-    requires { ⌜ recordArcs (now records) ≡ arcsIn (now net) ⌝ }
+    requires { ⌜ wordArcs (now records) ≡ arcsIn (now net) ⌝ }
     requires { ⌜ (length (now numbers) ≡ nIn (now net)) × (length (now amounts) ≡ countIn (now net)) ⌝ }
     requires { ⌜ sizeFor (now net) ≤ length (now buffer) ⌝ }
-    ensures { λ _. ⌜ Filled (now (net .entry)) (now (buffer .entry)) (now (buffer .exit)) ⌝ }
+    ensures { λ _. ⌜ AnnotationIn (now (net .entry)) (now (buffer .entry)) (now (buffer .exit)) ⌝ }
 {
-    let st = setting(net);
-    let claim = solver::claim_number(solver::certify(st, records, numbers, amounts));
-    write_file(buffer, net, claim, numbers, amounts);
+    let finding = solver::certify(setting(net), records, numbers, amounts);
+    let claim = solver::claim_number(finding);
+    write_file(buffer, claim, network_file::count(net), records, numbers, amounts);
 }
 
 // The annotation of an accepted file.
 pub(crate) fn write_annotation(net: &[u8], buffer: &mut [u8])
     requires { ⌜ AcceptedFile (now net) ⌝ }
     requires { ⌜ sizeFor (now net) ≤ length (now buffer) ⌝ }
-    ensures { λ _. ⌜ Filled (now (net .entry)) (now (buffer .entry)) (now (buffer .exit)) ⌝ }
+    ensures { λ _. ⌜ AnnotationIn (now (net .entry)) (now (buffer .entry)) (now (buffer .exit)) ⌝ }
 {
     let n = network_file::vertices(net) as usize;
     let m = network_file::count(net) as usize;

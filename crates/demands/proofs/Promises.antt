@@ -1,0 +1,119 @@
+-- The promise of specs/Promises.antt, kept: what the helper wrote fits the layout, and judging answers it truly.
+-- Assumes nothing.
+use mathlib.Core.Path.{_≡_, sym, _∙_, subst}
+use mathlib.Core.List.{List, [], _∷_}
+use Prim.Native.Nat.{ℕ, suc, _+_, _≤_, _<_}
+use native.Mathlib.Nat.{le-trans}
+use native.Mathlib.Omega.{arith}
+use lib.Dec.{leb, le→leb}
+use lib.IntN.{ℤ, pos, negℤ}
+use lib.ListN.{length, take}
+use lib.Signed.{_≤ℤ_, leZ, leZ-yes}
+use Rattle.prelude.specs.Checks.{_unless_}
+use Rattle.prelude.specs.Integers.{between}
+use Rattle.prelude.specs.Lists.{Every, Perm, at}
+use Rattle.prelude.proofs.Booleans.{and-left, and-right}
+use Rattle.prelude.proofs.Settle.{settled, hold-append}
+use Rattle.prelude.proofs.Integers.{signed, parts-mag, parts-min}
+use Rattle.prelude.proofs.Lists.{every-map, every-zip, every-image}
+use Rattle.prelude.proofs.Permutations.{perm-refl}
+use Rattle.network.specs.Network.{Arc, Load, arcs}
+use Rattle.network.specs.Question.{Question, shortestPath, maximumFlow, assignment, unasked, Setting, asks, Opened, Allowed, Answer, TrueAnswer}
+use Rattle.network.specs.Certificate.{Claim, ofValue, ofNone, rulesFor, CertifiedBy, claimFor}
+use Rattle.network.specs.Tests.{claimNumber}
+use Rattle.points.specs.Points.{IsPoint}
+use Rattle.points.specs.declared.Point.{Point}
+use Rattle.state.specs.Answers.{gives}
+use Rattle.format.specs.Files.{arcsIn, annotationFile}
+use Rattle.format.specs.Promises.{Signed32, LoadFits}
+use Rattle.acceptance.specs.Acceptance.{settingIn, acceptanceChecks, AcceptedFile}
+use Rattle.acceptance.proofs.AcceptedFiles.{file-opened, file-allowed}
+use Rattle.judging.specs.Judging.{judged}
+use Rattle.judging.proofs.Promises.{certificates-judged}
+use Rattle.helper.specs.Helper.{HelperSaid, wrote, declined, sizeFor, annotateChecks, Annotation, BufferAfter}
+use Rattle.demands.specs.Promises.{JudgedTruly, HelperServes}
+
+-- ---- the fields are wide enough for what meets the rules
+
+-- the range of every row
+range-fits : (q : Question) (c : Claim) (z : ℤ) → rulesFor q c .lowest ≤ℤ z → z ≤ℤ rulesFor q c .highest → Signed32 z
+range-fits shortestPath ofValue z l u = omega (signed, l, u, parts-mag z, parts-min z)
+range-fits shortestPath ofNone z l u = omega (signed, l, u, parts-mag z, parts-min z)
+range-fits maximumFlow ofValue z l u = omega (signed, l, u, parts-mag z, parts-min z)
+range-fits maximumFlow ofNone z l u = omega (signed, l, u, parts-mag z, parts-min z)
+range-fits assignment ofValue z l u = omega (signed, l, u, parts-mag z, parts-min z)
+range-fits assignment ofNone z l u = omega (signed, l, u, parts-mag z, parts-min z)
+range-fits unasked c z l u = omega (signed, l, u, parts-mag z, parts-min z)
+
+-- the most amount of every row
+most-bounded : (q : Question) (c : Claim) (e : Arc) → rulesFor q c .most e ≤ 1 + e .weight
+most-bounded shortestPath ofValue e = omega arith
+most-bounded shortestPath ofNone e = omega arith
+most-bounded maximumFlow ofValue e = omega arith
+most-bounded maximumFlow ofNone e = omega arith
+most-bounded assignment ofValue e = omega arith
+most-bounded assignment ofNone e = omega arith
+most-bounded unasked c e = omega arith
+
+module _ (q : Question) (k : Claim) (st : Setting) (y : ℕ → ℤ) (f : List Load) (a : Answer) (c : CertifiedBy (rulesFor q k) q st y f a) where
+  number-fits : (v : ℕ) → v < st .n → Signed32 (y v)
+  number-fits v h =
+      let low = rulesFor q k .lowest in
+      let high = rulesFor q k .highest in
+      let t = and-left (between low high (y v)) (rulesFor q k .onNode st v (y v)) (c .nodes v h) in
+      range-fits q k (y v) (leZ-yes (and-left (leZ low (y v)) (leZ (y v) high) t)) (leZ-yes (and-right (leZ low (y v)) (leZ (y v) high) t))
+
+  amounts-bounded : Every (λ l. l .amount ≤ 1 + l .arc .weight) f
+  amounts-bounded = every-map (λ l h. le-trans h (most-bounded q k (l .arc))) f (c .amounts)
+
+numbers-fit : (ys : List ℤ) → ((v : ℕ) → v < length ys → Signed32 (at ys v)) → Every Signed32 ys
+numbers-fit [] h = tt
+numbers-fit (y ∷ ys) h = (h 0 (omega arith), numbers-fit ys (λ v l. h (suc v) (omega arith)))
+
+loads-fit : (st : Setting) (f : List Load) → Opened st → Every (Allowed st) (arcs f) → Every (λ l. l .amount ≤ 1 + l .arc .weight) f → Every LoadFits f
+loads-fit st f o h b =
+    every-zip {P = λ l. Allowed st (l .arc)} {Q = λ l. l .amount ≤ 1 + l .arc .weight}
+    (λ l g k. record {
+      arc = record {
+        tail = omega (arith, g .joins .tail-below, o .sized .at-most);
+        head = omega (arith, g .joins .head-below, o .sized .at-most);
+        weight = omega (arith, g .weight-within);
+      };
+      amount = omega (arith, g .weight-within);
+    })
+    f (every-image (λ l. l .arc) (Allowed st) f h) b
+
+-- ---- judged at every point
+
+pub annotation-judged : (net ann : List ℕ) → AcceptedFile net → Annotation net ann → JudgedTruly net ann
+annotation-judged net ann h A =
+    record { answer = A .answer; is-true = at-point (record { r = 0 }) (omega arith) .1; at-every-point = λ r hr. subst (λ (l : List ℕ). judged net l r ≡ gives (A .answer)) (sym (A .bytes)) (at-point r hr .0) }
+  where
+    st : Setting
+    st = settingIn net
+
+    allowed : Every (Allowed st) (arcs (A .loads))
+    allowed = subst (λ (l : List Arc). Every (Allowed st) l) (sym (A .in-order)) (file-allowed net h)
+
+    written : List ℕ
+    written = annotationFile (claimNumber (claimFor (A .answer))) (A .numbers) (A .loads)
+
+    at-point : (r : Point) → IsPoint r → (judged net written r ≡ gives (A .answer)) × TrueAnswer st (arcsIn net) (A .answer)
+    at-point r hr =
+        certificates-judged net (A .numbers) (A .loads) (A .answer) r h (A .one-each)
+        (numbers-fit (A .numbers) (λ v l. number-fits (asks st) (claimFor (A .answer)) st (at (A .numbers)) (A .loads) (A .answer) (A .certified) v (omega (arith, A .one-each))))
+        (loads-fit st (A .loads) (file-opened net h) allowed (amounts-bounded (asks st) (claimFor (A .answer)) st (at (A .numbers)) (A .loads) (A .answer) (A .certified)))
+        (subst (λ (l : List Arc). Perm l (arcsIn net)) (sym (A .in-order)) (perm-refl (arcsIn net))) (A .certified) hr
+
+pub helper-serves : HelperServes
+helper-serves net before after reply h room e held =
+    record { reply-is = wrote-size; annotation = found; truly = annotation-judged net (take (sizeFor net) after) h found }
+  where
+    wrote-size : reply ≡ wrote (sizeFor net)
+    wrote-size =
+        e
+        ∙ settled declined (annotateChecks net (length before)) (wrote (sizeFor net))
+        (hold-append (acceptanceChecks net) (20 unless leb (sizeFor net) (length before) ∷ []) h (le→leb (sizeFor net) (length before) room, tt))
+
+    found : Annotation net (take (sizeFor net) after)
+    found = subst (λ (d : HelperSaid). BufferAfter d net before after) wrote-size held .annotation

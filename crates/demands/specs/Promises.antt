@@ -1,0 +1,33 @@
+-- Demand 3, its second half: what the helper writes is judged truly at every point; proofs/Promises.antt keeps it. With FewWrong (runs) and FewJudgedWrong (judging) demand 3 is whole.
+-- Assumes nothing.
+use mathlib.Core.Path.{_≡_}
+use mathlib.Core.List.{List}
+use Prim.Native.Nat.{ℕ, _≤_}
+use lib.ListN.{length, take}
+use Rattle.network.specs.Question.{Answer, TrueAnswer}
+use Rattle.points.specs.Points.{IsPoint}
+use Rattle.points.specs.declared.Point.{Point}
+use Rattle.state.specs.Answers.{gives}
+use Rattle.format.specs.Files.{arcsIn}
+use Rattle.acceptance.specs.Acceptance.{settingIn, AcceptedFile}
+use Rattle.judging.specs.Judging.{judged}
+use Rattle.helper.specs.Helper.{HelperSaid, wrote, annotated, sizeFor, Annotation, BufferAfter}
+
+-- Judging the file with the annotation gives the true answer at every point.
+pub record JudgedTruly (net ann : List ℕ) : Type 0 where
+  pub answer : Answer
+  pub is-true : TrueAnswer (settingIn net) (arcsIn net) answer
+  pub at-every-point : (r : Point) → IsPoint r → judged net ann r ≡ gives answer
+
+-- The helper has served: the reply is the length, and below it stands an annotation that meets every rule and is judged truly.
+pub record Helped (net after : List ℕ) (reply : HelperSaid) : Type 0 where
+  pub reply-is : reply ≡ wrote (sizeFor net)
+  pub annotation : Annotation net (take (sizeFor net) after)
+  pub truly : JudgedTruly net (take (sizeFor net) after)
+
+-- For every accepted network file and every buffer that check 20 lets pass: what the helper's contract says of its reply and of the buffer makes it serve.
+abbrev pub HelperServes : Type 0
+HelperServes =
+    (net before after : List ℕ) (reply : HelperSaid)
+    → AcceptedFile net → sizeFor net ≤ length before → reply ≡ annotated net (length before) → BufferAfter reply net before after
+    → Helped net after reply

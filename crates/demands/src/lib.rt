@@ -1,0 +1,1 @@
+// Definitions and proofs alone: the helper and the panel together.
