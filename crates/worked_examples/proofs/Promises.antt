@@ -2,13 +2,12 @@
 -- Assumes nothing.
 use mathlib.Core.Path.{refl}
 use mathlib.Core.List.{flatMap}
+use Rattle.prelude.specs.Lists.{listTo}
 use Rattle.prelude.specs.Sums.{sumTo, sumToℤ, allTo}
 use Rattle.field.specs.Field.{product}
-use Rattle.network.specs.Network.{delta, sumOf, cut}
-use Rattle.runs.specs.Exchange.{readRules}
-use Rattle.format.specs.Bytes.{listTo}
+use Rattle.network.specs.Network.{delta, sumOf, sumAcross, loadsOf}
+use Rattle.network.specs.Tests.{readingAll}
 use Rattle.format.specs.Files.{networkFile}
-use Rattle.solver.specs.Instance.{loadsOf}
 use Rattle.worked_examples.specs.Table.{R1, R2, R3, R4, R5, R6}
 use Rattle.worked_examples.specs.Promises.{WorkedExamples}
 use Rattle.worked_examples.proofs.Routes.{r1-lengths, r4-lengths}
@@ -21,7 +20,7 @@ _and_ a b = (a, b)
 
 -- the tests of the plans, the keys and the fingerprints of one arc are computed
 pub worked-examples : WorkedExamples
-unfolding networkFile flatMap listTo readRules loadsOf delta sumOf cut allTo sumTo sumToℤ product
+unfolding networkFile flatMap listTo readingAll loadsOf delta sumOf sumAcross allTo sumTo sumToℤ product
 worked-examples =
     plan-yields R1 refl refl refl refl refl refl tt tt r1-lengths
     and plan-yields R2 refl refl refl refl refl refl tt tt tt

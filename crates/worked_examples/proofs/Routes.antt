@@ -13,14 +13,13 @@ use lib.Seq.{ext-getD}
 use Rattle.prelude.specs.Integers.{natural}
 use Rattle.prelude.specs.Lists.{Every, Member, at}
 use Rattle.network.specs.Network.{Arc, arcOf, total}
-use Rattle.network.specs.Question.{Question, shortestPath, maximumFlow, assignment, Setting, Walk, ShortestPath, value, none}
-use Rattle.network.specs.Certificate.{marked}
-use Rattle.network.specs.Tests.{Claim, ofValue, ofNone}
+use Rattle.network.specs.Question.{Question, shortestPath, maximumFlow, assignment, unasked, Setting, Walk, ShortestPath, value, none}
+use Rattle.network.specs.Certificate.{Claim, ofValue, ofNone, marked}
 use Rattle.network.proofs.Paths.{walk-above, no-walk}
 use Rattle.network.proofs.Promises.{one-answer}
 use Rattle.solver.specs.Instance.{toward}
 use Rattle.solver.specs.Certify.{toldBy, Told, LengthsFor}
-use Rattle.worked_examples.specs.Table.{setting, SameNumbers, R1, R4}
+use Rattle.worked_examples.specs.Table.{SameNumbers, R1, R4}
 
 -- ---- the numbers of a route are determined
 
@@ -32,6 +31,7 @@ numbers-alike shortestPath st net c ys zs ny nz hy hz = ext-getD (pos 0) ys zs (
     go v a b = a .told ∙ ap (toldBy c) (one-answer (toward st v) net (a .answer) (b .answer) (a .is-true) (b .is-true)) ∙ sym (b .told)
 numbers-alike maximumFlow st net c ys zs ny nz hy hz = tt
 numbers-alike assignment st net c ys zs ny nz hy hz = tt
+numbers-alike unasked st net c ys zs ny nz hy hz = tt
 
 -- ---- the two rows
 
@@ -58,18 +58,18 @@ abbrev length-to : ℕ → ℕ
 length-to v = natural (at (R1 .numbers) v)
 
 r1-told :
-    (v : ℕ) (es : List Arc) → Walk (toward (setting R1) v) (R1 .net) es → total es ≡ length-to v → at (R1 .numbers) v ≡ pos (length-to v)
-    → Told (setting R1) (R1 .net) ofValue (at (R1 .numbers)) v
+    (v : ℕ) (es : List Arc) → Walk (toward (R1 .setting) v) (R1 .net) es → total es ≡ length-to v → at (R1 .numbers) v ≡ pos (length-to v)
+    → Told (R1 .setting) (R1 .net) ofValue (at (R1 .numbers)) v
 r1-told v es w long e = record {
   answer = value (length-to v);
-  is-true = shortest (toward (setting R1) v) (R1 .net) length-to (lit≤ tt, (lit≤ tt, (lit≤ tt, (lit≤ tt, (lit≤ tt, tt))))) refl es w long;
+  is-true = shortest (toward (R1 .setting) v) (R1 .net) length-to (lit≤ tt, (lit≤ tt, (lit≤ tt, (lit≤ tt, (lit≤ tt, tt))))) refl es w long;
   told = e;
 }
 
-pub r1-lengths : (v : ℕ) → v < 4 → Told (setting R1) (R1 .net) ofValue (at (R1 .numbers)) v
+pub r1-lengths : (v : ℕ) → v < 4 → Told (R1 .setting) (R1 .net) ofValue (at (R1 .numbers)) v
 unfolding total
 r1-lengths =
-    below-four (Told (setting R1) (R1 .net) ofValue (at (R1 .numbers)))
+    below-four (Told (R1 .setting) (R1 .net) ofValue (at (R1 .numbers)))
     (r1-told 0 [] (record { over = tt; leads = refl }) refl refl)
     (r1-told 1 (arcOf 0 1 2 ∷ []) (record { over = (inl refl, tt); leads = (refl, refl) }) refl refl)
     (r1-told 2 (arcOf 0 1 2 ∷ arcOf 1 2 1 ∷ []) (record { over = (inl refl, (fifth, tt)); leads = (refl, (refl, refl)) }) refl refl)
@@ -79,10 +79,10 @@ r1-lengths =
     fifth : Member (arcOf 1 2 1) (R1 .net)
     fifth = inr (inr (inr (inr (inl refl))))
 
-pub r4-lengths : (v : ℕ) → v < 4 → Told (setting R4) (R4 .net) ofNone (at (R4 .numbers)) v
+pub r4-lengths : (v : ℕ) → v < 4 → Told (R4 .setting) (R4 .net) ofNone (at (R4 .numbers)) v
 unfolding total
 r4-lengths =
-    below-four (Told (setting R4) (R4 .net) ofNone (at (R4 .numbers)))
+    below-four (Told (R4 .setting) (R4 .net) ofNone (at (R4 .numbers)))
     (record {
       answer = value 0;
       is-true = record { path = []; is-walk = record { over = tt; leads = refl }; attained = refl; least = λ es w. omega arith };
@@ -92,5 +92,5 @@ r4-lengths =
     (unreached 2 refl refl)
     (unreached 3 refl refl)
   where
-    unreached : (v : ℕ) → marked (at (R4 .numbers)) v ≡ false → at (R4 .numbers) v ≡ pos 0 → Told (setting R4) (R4 .net) ofNone (at (R4 .numbers)) v
-    unreached v m e = record { answer = none; is-true = no-walk (toward (setting R4) v) (marked (at (R4 .numbers))) [] refl m tt; told = e }
+    unreached : (v : ℕ) → marked (at (R4 .numbers)) v ≡ false → at (R4 .numbers) v ≡ pos 0 → Told (R4 .setting) (R4 .net) ofNone (at (R4 .numbers)) v
+    unreached v m e = record { answer = none; is-true = no-walk (toward (R4 .setting) v) (marked (at (R4 .numbers))) [] refl m tt; told = e }

@@ -3,6 +3,6 @@
 use Rattle.prelude.specs.Lists.{Every}
 use Rattle.worked_examples.specs.Table.{Yields, table}
 
--- "One theorem over that table shows that the definitions yield its outcomes."
+-- The definitions yield the outcomes of the whole table.
 abbrev pub WorkedExamples : Type 0
 WorkedExamples = Every Yields table
