@@ -10,8 +10,8 @@ use lib.ListN.{length}
 use Rattle.prelude.specs.Checks.{Check, _unless_, settle}
 use Rattle.prelude.proofs.Settle.{settled-back}
 use Rattle.network.specs.Question.{Answer, none}
-use Rattle.session.specs.Print.{Point}
-use Rattle.session.specs.Session.{Said, accepted, gives, refused}
+use Rattle.points.specs.declared.Point.{Point}
+use Rattle.state.specs.Answers.{Said, accepted, gives, refused}
 use Rattle.judging.specs.Judging.{networkChecks, annotationChecks}
 use Rattle.plan_files.specs.AnswerLine.{JudgedAt, Answered}
 

@@ -12,29 +12,29 @@ use Rattle.prelude.specs.Choice.{pick}
 use Rattle.prelude.proofs.Settle.{settled-back, settle-append, settle-when}
 use Rattle.format.specs.Files.{countIn, arcIn}
 use Rattle.format.proofs.Records.{listTo-length}
-use Rattle.judging.specs.Judging.{helperChecks, AcceptedFile}
-use Rattle.judging.proofs.AcceptedFiles.{file-opened, file-readable}
-use Rattle.helper.specs.Helper.{wrote, refused, annotated, sizeFor}
+use Rattle.acceptance.specs.Acceptance.{acceptanceChecks, AcceptedFile}
+use Rattle.acceptance.proofs.AcceptedFiles.{file-opened, file-few}
+use Rattle.helper.specs.Helper.{wrote, declined, annotated, sizeFor}
 use Rattle.plan_files.specs.AnnotationLine.{annotatedInRoom}
 
 -- at most 8 + 4 * 255 + 6 * 4096 bytes
 small : (net : List ℕ) → AcceptedFile net → sizeFor net ≤ 25604
-small net h = omega (arith, file-opened net h .sized .at-most, file-readable net h .few, listTo-length (countIn net) (arcIn net))
+small net h = omega (arith, file-opened net h .sized .at-most, file-few net h, listTo-length (countIn net) (arcIn net))
 
 pub in-room : (net : List ℕ) → annotated net 32768 ≡ annotatedInRoom net
 in-room net =
-    settle-append refused (helperChecks net) (20 unless leb (sizeFor net) 32768 ∷ []) (wrote (sizeFor net))
-    ∙ settle-when refused (helperChecks net) (pick (leb (sizeFor net) 32768) (wrote (sizeFor net)) (refused 20)) (wrote (sizeFor net))
-    (λ h. ap (λ (b : Bool). pick b (wrote (sizeFor net)) (refused 20)) (le-leb (sizeFor net) 32768 (omega (arith, small net h))))
+    settle-append declined (acceptanceChecks net) (20 unless leb (sizeFor net) 32768 ∷ []) (wrote (sizeFor net))
+    ∙ settle-when declined (acceptanceChecks net) (pick (leb (sizeFor net) 32768) (wrote (sizeFor net)) (declined 20)) (wrote (sizeFor net))
+    (λ h. ap (λ (b : Bool). pick b (wrote (sizeFor net)) (declined 20)) (le-leb (sizeFor net) 32768 (omega (arith, small net h))))
 
-wrote-held : (cs : List Check) (s k : ℕ) → wrote k ≡ settle refused cs (wrote s) → Hold cs × (k ≡ s)
+wrote-held : (cs : List Check) (s k : ℕ) → wrote k ≡ settle declined cs (wrote s) → Hold cs × (k ≡ s)
 wrote-held cs s k e =
-    let u = settled-back refused cs (wrote s) (wrote k) (λ j q. let z : _≡_ {A = ℕ} 0 1 = cc in omega arith) (sym e) in
+    let u = settled-back declined cs (wrote s) (wrote k) (λ j q. let z : _≡_ {A = ℕ} 0 1 = cc in omega arith) (sym e) in
     let same = u .1 in
     (u .0, cc)
 
 -- the bytes that are written lie in the room
 pub within : (net : List ℕ) (k : ℕ) → wrote k ≡ annotatedInRoom net → k ≤ 32768
 within net k e =
-    let u = wrote-held (helperChecks net) (sizeFor net) k e in
+    let u = wrote-held (acceptanceChecks net) (sizeFor net) k e in
     omega (arith, u .1, small net (u .0))

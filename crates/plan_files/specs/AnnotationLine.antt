@@ -6,15 +6,15 @@ use mathlib.Core.Logic.{_⊎_}
 use Prim.Native.Nat.{ℕ, _≤_}
 use lib.ListN.{length}
 use Rattle.prelude.specs.Checks.{settle}
-use Rattle.judging.specs.Judging.{helperChecks}
+use Rattle.acceptance.specs.Acceptance.{acceptanceChecks}
 use Rattle.program_io.specs.Line.{Numbered, RefusedLine}
-use Rattle.helper.specs.Helper.{Done, wrote, refused, sizeFor}
+use Rattle.helper.specs.Helper.{HelperSaid, wrote, declined, sizeFor}
 
 -- What the helper replies in a buffer that is large enough: no check but those that it makes before 20 refuses.
-abbrev pub annotatedInRoom : List ℕ → Done
-annotatedInRoom net = settle refused (helperChecks net) (wrote (sizeFor net))
+abbrev pub annotatedInRoom : List ℕ → HelperSaid
+annotatedInRoom net = settle declined (acceptanceChecks net) (wrote (sizeFor net))
 
--- "written " and "not written" with a line end.
+-- The word `written` with a blank, and `not written` with a line end.
 abbrev pub writtenWord : List ℕ
 writtenWord = 119 ∷ 114 ∷ 105 ∷ 116 ∷ 116 ∷ 101 ∷ 110 ∷ 32 ∷ []
 
@@ -25,12 +25,13 @@ notWrittenLine = 110 ∷ 111 ∷ 116 ∷ 32 ∷ 119 ∷ 114 ∷ 105 ∷ 116 ∷ 
 abbrev pub SavedLine : ℕ → List ℕ → Type 0
 SavedLine k text = Numbered writtenWord k text ⊎ (text ≡ notWrittenLine)
 
-abbrev pub Line : Done → List ℕ → Type 0
-Line (wrote k) text = SavedLine k text
-Line (refused k) text = RefusedLine k text
+-- The line of a reply.
+abbrev pub LineOfReply : HelperSaid → List ℕ → Type 0
+LineOfReply (wrote k) text = SavedLine k text
+LineOfReply (declined k) text = RefusedLine k text
 
 -- The line that is printed is that of the reply for what the network file held.
-pub record Printed (text : List ℕ) : Type 0 where
+pub record PrintsReply (text : List ℕ) : Type 0 where
   pub net : List ℕ
   pub counts : length net ≤ 32768
-  pub line : Line (annotatedInRoom net) text
+  pub line : LineOfReply (annotatedInRoom net) text

@@ -36,16 +36,16 @@ abbrev pub noneLine : List ℕ
 noneLine = 110 ∷ 111 ∷ 110 ∷ 101 ∷ 10 ∷ []
 
 -- The line of an answer. An acceptance has none.
-abbrev pub Line : Said → List ℕ → Type 0
-Line (gives (value v)) text = Numbered valueWord v text
-Line (gives none) text = text ≡ noneLine
-Line (refused k) text = RefusedLine k text
-Line accepted text = ⊥
+abbrev pub LineOfAnswer : Said → List ℕ → Type 0
+LineOfAnswer (gives (value v)) text = Numbered valueWord v text
+LineOfAnswer (gives none) text = text ≡ noneLine
+LineOfAnswer (refused k) text = RefusedLine k text
+LineOfAnswer accepted text = ⊥
 
 -- The line that is printed is that of the answer for what the point's file held, of which four bytes count.
-pub record Printed (text : List ℕ) : Type 0 where
+pub record PrintsAnswer (text : List ℕ) : Type 0 where
   pub file : List ℕ
   pub answer : Said
   pub counts : length file ≤ 4
   pub answered : Answered file answer
-  pub line : Line answer text
+  pub line : LineOfAnswer answer text

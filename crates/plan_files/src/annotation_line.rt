@@ -2,7 +2,7 @@
 ghost use Prim.Native.Nat.{_≤_};
 ghost use lib.ListN.{length, take};
 ghost use Rattle.io.specs.Counts.{Counts};
-ghost use Rattle.plan_files.specs.AnnotationLine.{SavedLine, Line, annotatedInRoom, Printed};
+ghost use Rattle.plan_files.specs.AnnotationLine.{SavedLine, LineOfReply, annotatedInRoom, PrintsReply};
 use helper::Written;
 use program_io::front::read_front;
 use program_io::front::room;
@@ -37,7 +37,7 @@ fn line_when_saved(name: &[u8], buffer: &[u8], size: u32, text: &mut [u8; 32]) -
 // Annotates the network file, and makes the line. A refusal writes no file.
 fn line_for(net: &[u8], name: &[u8], text: &mut [u8; 32]) -> usize
     ensures { λ r. ⌜ Counts r (now (text .exit)) ⌝ }
-    ensures { λ r. ⌜ Line (annotatedInRoom (now (net .entry))) (take r (now (text .exit))) ⌝ }
+    ensures { λ r. ⌜ LineOfReply (annotatedInRoom (now (net .entry))) (take r (now (text .exit))) ⌝ }
 {
     let mut buffer = room();
     let written = helper::annotate(net, &mut buffer);
@@ -48,9 +48,9 @@ fn line_for(net: &[u8], name: &[u8], text: &mut [u8; 32]) -> usize
 }
 
 // The line for the two files, and how long it is.
-pub fn make(net_name: &[u8], ann_name: &[u8], text: &mut [u8; 32]) -> usize
+pub fn annotate_line(net_name: &[u8], ann_name: &[u8], text: &mut [u8; 32]) -> usize
     ensures { λ r. ⌜ Counts r (now (text .exit)) ⌝ }
-    ensures { λ r. ⌜ Printed (take r (now (text .exit))) ⌝ }
+    ensures { λ r. ⌜ PrintsReply (take r (now (text .exit))) ⌝ }
 {
     let mut net = room();
     let n = read_front(net_name, &mut net);

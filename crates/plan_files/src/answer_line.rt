@@ -3,7 +3,7 @@ ghost use mathlib.Core.Path.{_≡_};
 ghost use lib.ListN.{take};
 ghost use Rattle.io.specs.Counts.{Counts};
 ghost use Rattle.state.specs.Answers.{said, accepted};
-ghost use Rattle.plan_files.specs.AnswerLine.{pointIn, JudgedAt, Answered, Line, Printed};
+ghost use Rattle.plan_files.specs.AnswerLine.{pointIn, JudgedAt, Answered, LineOfAnswer, PrintsAnswer};
 use format::bytes::bits32;
 use points::Point;
 use program_io::front::read_front;
@@ -43,7 +43,7 @@ fn answer(file: &[u8], net_name: &[u8], ann_name: &[u8]) -> Answer
 fn line_for(answer: Answer, text: &mut [u8; 32]) -> usize
     requires { ⌜ (said answer ≡ accepted → ⊥) ⌝ }
     ensures { λ r. ⌜ Counts r (now (text .exit)) ⌝ }
-    ensures { λ r. ⌜ Line (said answer) (take r (now (text .exit))) ⌝ }
+    ensures { λ r. ⌜ LineOfAnswer (said answer) (take r (now (text .exit))) ⌝ }
 {
     match answer {
         Answer::Value(v) => line::numbered(b"value ", v, text),
@@ -54,9 +54,9 @@ fn line_for(answer: Answer, text: &mut [u8; 32]) -> usize
 }
 
 // The line for the three files, and how long it is.
-pub fn make(point_name: &[u8], net_name: &[u8], ann_name: &[u8], text: &mut [u8; 32]) -> usize
+pub fn judge_line(point_name: &[u8], net_name: &[u8], ann_name: &[u8], text: &mut [u8; 32]) -> usize
     ensures { λ r. ⌜ Counts r (now (text .exit)) ⌝ }
-    ensures { λ r. ⌜ Printed (take r (now (text .exit))) ⌝ }
+    ensures { λ r. ⌜ PrintsAnswer (take r (now (text .exit))) ⌝ }
 {
     let mut four = [0u8; 4];
     let n = read_front(point_name, &mut four);

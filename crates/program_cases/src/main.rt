@@ -22,7 +22,7 @@ fn judged(script: &[u8], point: usize) {
         return;
     }
     let mut text = [0u8; 32];
-    let n = answer_line::make(
+    let n = answer_line::judge_line(
         &script[point..a],
         &script[net..b],
         &script[ann..c],
@@ -43,7 +43,7 @@ fn annotated(script: &[u8], net: usize) {
         return;
     }
     let mut text = [0u8; 32];
-    let n = annotation_line::make(&script[net..b], &script[ann..c], &mut text);
+    let n = annotation_line::annotate_line(&script[net..b], &script[ann..c], &mut text);
     io::write_all(1, &text[..n]);
 }
 

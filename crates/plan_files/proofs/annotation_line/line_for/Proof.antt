@@ -5,9 +5,9 @@ use mathlib.Core.List.{List}
 use Prim.Native.Nat.{ℕ}
 use native.Mathlib.Omega.{arith}
 use borrow.Author.Needs.{needs}
-use Rattle.helper.specs.Helper.{Done, done, annotated}
+use Rattle.helper.specs.Helper.{HelperSaid, done, annotated}
 use Rattle.helper.specs.declared.Written.{Written}
-use Rattle.plan_files.specs.AnnotationLine.{Line, annotatedInRoom}
+use Rattle.plan_files.specs.AnnotationLine.{LineOfReply, annotatedInRoom}
 use Rattle.plan_files.proofs.Room.{in-room, within}
 use Rattle.plan_files.proofs.annotation_line.line_for.Statement.{statement}
 use Rattle.plan_files.proofs.annotation_line.line_for.Tie as tie
@@ -19,8 +19,8 @@ file c = c .before .before .before .before .before .args .net .now
 replied : (c : tie.After-annotate) {written : Written} → c .annotate .result ≡ written → done written ≡ annotatedInRoom (file c)
 replied c e = sym (ap done e) ∙ c .annotate .ensures .0 ∙ ap (annotated (file c)) (sym (c .before .before .room .ensures)) ∙ in-room (file c)
 
-same-line : {d e : Done} (text : List ℕ) → d ≡ e → Line d text → Line e text
-same-line text e h = subst (λ (d : Done). Line d text) e h
+same-line : {d e : HelperSaid} (text : List ℕ) → d ≡ e → LineOfReply d text → LineOfReply e text
+same-line text e h = subst (λ (d : HelperSaid). LineOfReply d text) e h
 
 line-when-saved-requires : tie.Need-line-when-saved-requires
 line-when-saved-requires c κs =

@@ -4,7 +4,7 @@ use mathlib.Core.Path.{refl, subst}
 use Prim.Native.Nat.{ℕ}
 use native.Mathlib.Omega.{arith}
 use borrow.Author.Needs.{needs}
-use Rattle.session.specs.Session.{said}
+use Rattle.state.specs.Answers.{said}
 use Rattle.plan_files.specs.AnswerLine.{JudgedAt}
 use Rattle.plan_files.proofs.answer_line.answer.Statement.{statement}
 use Rattle.plan_files.proofs.answer_line.answer.Tie as tie

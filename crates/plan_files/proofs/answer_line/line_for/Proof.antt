@@ -5,14 +5,14 @@ use mathlib.Core.List.{List}
 use Prim.Native.Nat.{ℕ}
 use native.Mathlib.Omega.{arith}
 use borrow.Author.Needs.{needs}
-use Rattle.session.specs.Session.{said}
-use Rattle.session.specs.declared.Answer.{Answer}
-use Rattle.plan_files.specs.AnswerLine.{Line}
+use Rattle.state.specs.Answers.{said}
+use Rattle.state.specs.declared.Answer.{Answer}
+use Rattle.plan_files.specs.AnswerLine.{LineOfAnswer}
 use Rattle.plan_files.proofs.answer_line.line_for.Statement.{statement}
 use Rattle.plan_files.proofs.answer_line.line_for.Tie as tie
 
-same-line : {a b : Answer} (text : List ℕ) → a ≡ b → Line (said b) text → Line (said a) text
-same-line text e h = subst (λ (a : Answer). Line (said a) text) (sym e) h
+same-line : {a b : Answer} (text : List ℕ) → a ≡ b → LineOfAnswer (said b) text → LineOfAnswer (said a) text
+same-line text e h = subst (λ (a : Answer). LineOfAnswer (said a) text) (sym e) h
 
 returns : tie.Need-returns
 returns c = (c .numbered .ensures .0, same-line _ (c .before .before .before .before .answer .given .1) (c .numbered .ensures .1 (omega arith)))

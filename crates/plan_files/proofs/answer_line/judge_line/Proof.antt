@@ -1,12 +1,12 @@
--- `plan_files::answer_line::make` meets its contract. The line that it asks for is that of an answer or a refusal.
+-- `plan_files::answer_line::judge_line` meets its contract. The line that it asks for is that of an answer or a refusal.
 -- Assumes nothing.
 use native.Mathlib.Omega.{arith}
 use lib.ListN.{take}
 use borrow.Author.Needs.{needs}
-use Rattle.session.specs.Session.{said}
+use Rattle.state.specs.Answers.{said}
 use Rattle.plan_files.proofs.Answers.{never-accepted}
-use Rattle.plan_files.proofs.answer_line.make.Statement.{statement}
-use Rattle.plan_files.proofs.answer_line.make.Tie as tie
+use Rattle.plan_files.proofs.answer_line.judge_line.Statement.{statement}
+use Rattle.plan_files.proofs.answer_line.judge_line.Tie as tie
 
 returns : tie.Need-returns
 returns c =
@@ -21,8 +21,8 @@ returns c =
       },
     )
 
-pub make-spec : {M : Type 1} → statement M
-make-spec =
+pub judge-line-spec : {M : Type 1} → statement M
+judge-line-spec =
     tie.close
     (tie.spec
     (λ c. search needs)

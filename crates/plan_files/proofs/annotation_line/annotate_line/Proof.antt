@@ -1,10 +1,10 @@
--- `plan_files::annotation_line::make` meets its contract.
+-- `plan_files::annotation_line::annotate_line` meets its contract.
 -- Assumes nothing.
 use native.Mathlib.Omega.{arith}
 use lib.ListN.{take}
 use borrow.Author.Needs.{needs}
-use Rattle.plan_files.proofs.annotation_line.make.Statement.{statement}
-use Rattle.plan_files.proofs.annotation_line.make.Tie as tie
+use Rattle.plan_files.proofs.annotation_line.annotate_line.Statement.{statement}
+use Rattle.plan_files.proofs.annotation_line.annotate_line.Tie as tie
 
 returns : tie.Need-returns
 returns c =
@@ -17,8 +17,8 @@ returns c =
       },
     )
 
-pub make-spec : {M : Type 1} → statement M
-make-spec =
+pub annotate-line-spec : {M : Type 1} → statement M
+annotate-line-spec =
     tie.close
     (tie.spec
     (λ c κs. search needs)
