@@ -11,7 +11,7 @@ use Rattle.prelude.specs.Checks.{Check, _unless_, settle, Hold}
 use Rattle.prelude.specs.Choice.{pick}
 use Rattle.prelude.proofs.Settle.{settled-back, settle-append, settle-when}
 use Rattle.format.specs.Files.{countIn, arcIn}
-use Rattle.format.proofs.Records.{listTo-length}
+use Rattle.prelude.proofs.Lists.{listTo-length}
 use Rattle.acceptance.specs.Acceptance.{acceptanceChecks, AcceptedFile}
 use Rattle.acceptance.proofs.AcceptedFiles.{file-opened, file-few}
 use Rattle.helper.specs.Helper.{wrote, declined, annotated, sizeFor}
