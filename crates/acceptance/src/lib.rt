@@ -1,0 +1,1 @@
+// Stub: the code comes from another clone.
