@@ -1,5 +1,5 @@
-pub mod Annotated
+pub mod StepLoops
+pub mod AnnotationReturns
 pub mod AcceptedFiles
 pub mod Promises
-pub mod Turns
-pub mod Judged
+pub mod JudgeReturns

@@ -7,23 +7,28 @@ use Prim.Native.Nat.{ℕ}
 use native.Mathlib.Omega.{arith}
 use Rattle.prelude.specs.Checks.{Check, _unless_, settle, firstBroken, Hold}
 use Rattle.prelude.proofs.Settle.{settled, settled-back, settle-append, none-broken}
-use Rattle.session.specs.Print.{Point}
-use Rattle.session.specs.Session.{Said, accepted, gives, refused, joined, zeros}
+use Rattle.network.specs.Question.{Setting}
+use Rattle.points.specs.declared.Point.{Point}
+use Rattle.checks.specs.Held.{handed}
+use Rattle.checks.specs.declared.Opening.{Opening}
+use Rattle.format.specs.Files.{nIn, arcsIn, networkLayout, annotationLayout}
+use Rattle.acceptance.specs.Acceptance.{settingIn}
+use Rattle.state.specs.Answers.{Said, accepted, gives, refused}
+use Rattle.state.specs.Turns.{openTurn}
+use Rattle.state.specs.declared.Turn.{Turn}
+use Rattle.session.specs.Session.{joined, zeros}
 use Rattle.session.specs.Steps.{opening}
-use Rattle.session.specs.Turns.{openTurn}
 use Rattle.session.specs.declared.Reply.{Reply}
 use Rattle.session.specs.declared.Session.{Session}
-use Rattle.session.specs.declared.Turn.{Turn}
-use Rattle.session.proofs.Turns.{open-found, open-accepted}
+use Rattle.session.proofs.TurnsToSteps.{open-found, open-accepted}
 use Rattle.runs.specs.Run.{read, run}
 use Rattle.runs.specs.Exchange.{outcome}
 use Rattle.runs.proofs.Verdict.{reading-broken}
-use Rattle.format.specs.Files.{questionIn, nIn, sIn, tIn, arcsIn, networkLayout, annotationLayout}
 use Rattle.judging.specs.Judging.{networkChecks, annotationChecks, judged}
-use Rattle.judging.specs.Going.{Goes, stepsIn}
+use Rattle.judging.specs.RunsTo.{RunsTo, stepsIn}
 use Rattle.judging.proofs.AcceptedFiles.{well-opened}
 use Rattle.judging.proofs.Promises.{by-steps, opens, reads, notes, ends, answer}
-use Rattle.judging.proofs.Turns.{goes-no-further, goes-on}
+use Rattle.judging.proofs.StepLoops.{stops-there, runs-on}
 
 -- ---- checks that hold, and the first that does not
 
@@ -78,35 +83,38 @@ module _ (net ann : List ℕ) (r : Point) where
     past-layout : judged net ann r ≡ settle refused O (settle refused R (settle refused A rest))
     past-layout = apart ∙ settled refused L (settle refused O (settle refused R (settle refused A rest))) hl
 
-    module _ (u : Turn) (oe : u ≡ openTurn (questionIn net) (nIn net) (sIn net) (tIn net) r) where
+    module _ (o : Opening) (eo : handed o ≡ settingIn net) (u : Turn) (eu : u ≡ openTurn (handed o) r) where
+      as-filed : u ≡ openTurn (settingIn net) r
+      as-filed = eu ∙ ap (λ (st : Setting). openTurn st r) eo
+
       at-first : u .why ≡ firstBroken O
-      at-first = open-found (questionIn net) (nIn net) (sIn net) (tIn net) r u oe
+      at-first = open-found (settingIn net) r u as-filed
 
       pub at-opening : (u .why ≡ 0 → ⊥) → refused (u .why) ≡ judged net ann r
       at-opening n = sym (past-layout ∙ broken-here O (settle refused R (settle refused A rest)) (u .why) at-first n)
 
-      module _ (ok : u .why ≡ 0) (k : ℕ) (y : Session) (g : Goes (joined zeros zeros (u .state)) (map read (arcsIn net)) k y) where
+      module _ (ok : u .why ≡ 0) (k : ℕ) (y : Session) (g : RunsTo (joined zeros zeros (u .state)) (map read (arcsIn net)) k y) where
         ho : Hold O
         ho = none-broken O (refl, (refl, (refl, (refl, tt)))) (sym at-first ∙ ok)
 
-        G : Goes (opening (questionIn net) (nIn net) (sIn net) (tIn net) r .session) (map read (arcsIn net)) k y
-        G = subst (λ (x : Reply). Goes (x .session) (map read (arcsIn net)) k y) (open-accepted (questionIn net) (nIn net) (sIn net) (tIn net) r u oe ok) g
+        G : RunsTo (opening (settingIn net) r .session) (map read (arcsIn net)) k y
+        G = subst (λ (x : Reply). RunsTo (x .session) (map read (arcsIn net)) k y) (open-accepted (settingIn net) r u as-filed ok) g
 
         past-opening : judged net ann r ≡ settle refused R (settle refused A rest)
         past-opening = past-layout ∙ settled refused O (settle refused R (settle refused A rest)) ho
 
-        read-through : settle refused R accepted ≡ outcome (run (opening (questionIn net) (nIn net) (sIn net) (tIn net) r .session) (map read (arcsIn net) ++ []))
-        read-through = sym (reading-broken (questionIn net) (nIn net) (sIn net) (tIn net) r (arcsIn net) (well-opened net r ho))
+        read-through : settle refused R accepted ≡ outcome (run (opening (settingIn net) r .session) (map read (arcsIn net) ++ []))
+        read-through = sym (reading-broken (settingIn net) r (arcsIn net) (well-opened (settingIn net) r ho))
 
         pub at-reading : (k ≡ 0 → ⊥) → refused k ≡ judged net ann r
         at-reading n =
-            let q = read-through ∙ goes-no-further G n [] in
+            let q = read-through ∙ stops-there G n [] in
             sym q ∙ sym (past-opening ∙ stuck R (settle refused A rest) (λ e. not-accepted k (sym q ∙ e)))
 
         module _ (going : k ≡ 0) where
           hr : Hold R
           unfolding run
-          hr = clear R (read-through ∙ goes-on G going [])
+          hr = clear R (read-through ∙ runs-on G going [])
 
           past-reading : judged net ann r ≡ settle refused A rest
           past-reading = past-opening ∙ settled refused R (settle refused A rest) hr
@@ -118,4 +126,4 @@ module _ (net ann : List ℕ) (r : Point) where
           at-steps j n en e z s q =
               q ∙ ap (λ (i : ℕ). outcome (run y (stepsIn i ann))) en
               ∙ sym (by-steps net ann r hl ho hr (none-broken A (refl, (refl, (refl, tt))) (sym (e ∙ ap (λ (i : ℕ). firstBroken (annotationLayout i ann)) en) ∙ z))
-              ∙ goes-on G going (stepsIn (nIn net) ann))
+              ∙ runs-on G going (stepsIn (nIn net) ann))
