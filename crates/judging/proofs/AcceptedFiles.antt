@@ -1,37 +1,16 @@
--- What is known of a network file that is accepted, and of a header that opening accepts.
+-- What is known of a network file that is accepted.
 -- Assumes nothing.
-use mathlib.Core.List.{List, [], _∷_, _++_}
+use mathlib.Core.List.{List, _++_}
 use Prim.Native.Nat.{ℕ}
 use native.Mathlib.Omega.{arith}
-use lib.Dec.{T, ltb→lt, lt→ltb}
-use Rattle.prelude.specs.Checks.{_unless_, Hold}
+use Rattle.prelude.specs.Checks.{Hold}
 use Rattle.prelude.proofs.Settle.{hold-left, hold-right}
-use Rattle.network.specs.Question.{Setting}
+use Rattle.network.specs.Question.{Opened}
 use Rattle.network.specs.Tests.{openingChecks, readingAll}
 use Rattle.network.proofs.Allowed.{opening-rule, reading-rule, reading-few}
-use Rattle.points.specs.Points.{IsPoint, pointOk}
-use Rattle.points.specs.declared.Point.{Point}
 use Rattle.format.specs.Files.{arcsIn, networkLayout}
 use Rattle.acceptance.specs.Acceptance.{settingIn, AcceptedFile}
-use Rattle.state.specs.State.{openChecks}
-use Rattle.runs.specs.Exchange.{Opens, Readable}
-
--- ---- opening
-
--- check 4 holds exactly at the points
-point-rule : (r : Point) → T (pointOk r) → IsPoint r
-point-rule r t = ltb→lt _ _ t
-
-pub point-test : (r : Point) → IsPoint r → T (pointOk r)
-point-test r h = lt→ltb _ _ h
-
-pub well-opened : (st : Setting) (r : Point) → Hold (openChecks st r) → Opens st r
-well-opened st r h = record {
-  opened = opening-rule st (hold-left (openingChecks st) (4 unless pointOk r ∷ []) h);
-  point = point-rule r (hold-right (openingChecks st) (4 unless pointOk r ∷ []) h .0);
-}
-
--- ---- the parts of acceptance
+use Rattle.runs.specs.Exchange.{Readable}
 
 pub record Parts (net : List ℕ) : Type 0 where
   pub layout-held : Hold (networkLayout net)
@@ -44,6 +23,9 @@ accepted-parts net h =
     let reads = readingAll (settingIn net) 0 (arcsIn net) in
     let rest = hold-right (networkLayout net) (opens ++ reads) h in
     record { layout-held = hold-left (networkLayout net) (opens ++ reads) h; opening-held = hold-left opens reads rest; reading-held = hold-right opens reads rest }
+
+pub file-opened : (net : List ℕ) → AcceptedFile net → Opened (settingIn net)
+file-opened net h = opening-rule (settingIn net) (accepted-parts net h .opening-held)
 
 pub file-readable : (net : List ℕ) → AcceptedFile net → Readable (settingIn net) (arcsIn net)
 file-readable net h =

@@ -26,7 +26,7 @@ use Rattle.runs.specs.Exchange.{outcome}
 use Rattle.runs.proofs.Verdict.{reading-broken}
 use Rattle.judging.specs.Judging.{networkChecks, annotationChecks, judged}
 use Rattle.judging.specs.RunsTo.{RunsTo, stepsIn}
-use Rattle.judging.proofs.AcceptedFiles.{well-opened}
+use Rattle.judging.proofs.Openings.{opens-rule}
 use Rattle.judging.proofs.Promises.{by-steps, opens, reads, notes, ends, answer}
 use Rattle.judging.proofs.StepLoops.{stops-there, runs-on}
 
@@ -51,79 +51,79 @@ clear cs e = settled-back refused cs accepted accepted not-accepted e .0
 -- ---- judging, part by part
 
 module _ (net ann : List ℕ) (r : Point) where
-  abbrev L : List Check
-  L = networkLayout net
+  abbrev layout-checks : List Check
+  layout-checks = networkLayout net
 
-  abbrev O : List Check
-  O = opens net ann r
+  abbrev opening-checks : List Check
+  opening-checks = opens net ann r
 
-  abbrev R : List Check
-  R = reads net ann r
+  abbrev reading-checks : List Check
+  reading-checks = reads net ann r
 
-  abbrev A : List Check
-  A = annotationLayout (nIn net) ann
+  abbrev annotation-layout : List Check
+  annotation-layout = annotationLayout (nIn net) ann
 
   abbrev rest : Said
   rest = settle refused (notes net ann r ++ ends net ann r) (gives (answer net ann r))
 
-  apart : judged net ann r ≡ settle refused L (settle refused O (settle refused R (settle refused A rest)))
+  apart : judged net ann r ≡ settle refused layout-checks (settle refused opening-checks (settle refused reading-checks (settle refused annotation-layout rest)))
   apart =
       settle-append refused (networkChecks net r) (annotationChecks net ann r) (gives (answer net ann r))
-      ∙ settle-append refused L (O ++ R) (settle refused (annotationChecks net ann r) (gives (answer net ann r)))
-      ∙ ap (settle refused L) (settle-append refused O R (settle refused (annotationChecks net ann r) (gives (answer net ann r))))
-      ∙ ap (λ (s : Said). settle refused L (settle refused O (settle refused R s))) (settle-append refused A (notes net ann r ++ ends net ann r) (gives (answer net ann r)))
+      ∙ settle-append refused layout-checks (opening-checks ++ reading-checks) (settle refused (annotationChecks net ann r) (gives (answer net ann r)))
+      ∙ ap (settle refused layout-checks) (settle-append refused opening-checks reading-checks (settle refused (annotationChecks net ann r) (gives (answer net ann r))))
+      ∙ ap (λ (s : Said). settle refused layout-checks (settle refused opening-checks (settle refused reading-checks s))) (settle-append refused annotation-layout (notes net ann r ++ ends net ann r) (gives (answer net ann r)))
 
-  pub at-layout : (why : ℕ) → why ≡ firstBroken L → (why ≡ 0 → ⊥) → refused why ≡ judged net ann r
-  at-layout why e n = sym (apart ∙ broken-here L (settle refused O (settle refused R (settle refused A rest))) why e n)
+  pub at-layout : (why : ℕ) → why ≡ firstBroken layout-checks → (why ≡ 0 → ⊥) → refused why ≡ judged net ann r
+  at-layout why e n = sym (apart ∙ broken-here layout-checks (settle refused opening-checks (settle refused reading-checks (settle refused annotation-layout rest))) why e n)
 
-  module _ (why : ℕ) (found : why ≡ firstBroken L) (fine : why ≡ 0) where
-    hl : Hold L
-    hl = none-broken L (refl, (refl, (refl, tt))) (sym found ∙ fine)
+  module _ (why : ℕ) (found : why ≡ firstBroken layout-checks) (fine : why ≡ 0) where
+    layout-held : Hold layout-checks
+    layout-held = none-broken layout-checks (refl, (refl, (refl, tt))) (sym found ∙ fine)
 
-    past-layout : judged net ann r ≡ settle refused O (settle refused R (settle refused A rest))
-    past-layout = apart ∙ settled refused L (settle refused O (settle refused R (settle refused A rest))) hl
+    past-layout : judged net ann r ≡ settle refused opening-checks (settle refused reading-checks (settle refused annotation-layout rest))
+    past-layout = apart ∙ settled refused layout-checks (settle refused opening-checks (settle refused reading-checks (settle refused annotation-layout rest))) layout-held
 
     module _ (o : Opening) (eo : handed o ≡ settingIn net) (u : Turn) (eu : u ≡ openTurn (handed o) r) where
       as-filed : u ≡ openTurn (settingIn net) r
       as-filed = eu ∙ ap (λ (st : Setting). openTurn st r) eo
 
-      at-first : u .why ≡ firstBroken O
+      at-first : u .why ≡ firstBroken opening-checks
       at-first = open-found (settingIn net) r u as-filed
 
       pub at-opening : (u .why ≡ 0 → ⊥) → refused (u .why) ≡ judged net ann r
-      at-opening n = sym (past-layout ∙ broken-here O (settle refused R (settle refused A rest)) (u .why) at-first n)
+      at-opening n = sym (past-layout ∙ broken-here opening-checks (settle refused reading-checks (settle refused annotation-layout rest)) (u .why) at-first n)
 
       module _ (ok : u .why ≡ 0) (k : ℕ) (y : Session) (g : RunsTo (joined zeros zeros (u .state)) (map read (arcsIn net)) k y) where
-        ho : Hold O
-        ho = none-broken O (refl, (refl, (refl, (refl, tt)))) (sym at-first ∙ ok)
+        opening-held : Hold opening-checks
+        opening-held = none-broken opening-checks (refl, (refl, (refl, (refl, tt)))) (sym at-first ∙ ok)
 
-        G : RunsTo (opening (settingIn net) r .session) (map read (arcsIn net)) k y
-        G = subst (λ (x : Reply). RunsTo (x .session) (map read (arcsIn net)) k y) (open-accepted (settingIn net) r u as-filed ok) g
+        from-opening : RunsTo (opening (settingIn net) r .session) (map read (arcsIn net)) k y
+        from-opening = subst (λ (x : Reply). RunsTo (x .session) (map read (arcsIn net)) k y) (open-accepted (settingIn net) r u as-filed ok) g
 
-        past-opening : judged net ann r ≡ settle refused R (settle refused A rest)
-        past-opening = past-layout ∙ settled refused O (settle refused R (settle refused A rest)) ho
+        past-opening : judged net ann r ≡ settle refused reading-checks (settle refused annotation-layout rest)
+        past-opening = past-layout ∙ settled refused opening-checks (settle refused reading-checks (settle refused annotation-layout rest)) opening-held
 
-        read-through : settle refused R accepted ≡ outcome (run (opening (settingIn net) r .session) (map read (arcsIn net) ++ []))
-        read-through = sym (reading-broken (settingIn net) r (arcsIn net) (well-opened (settingIn net) r ho))
+        read-through : settle refused reading-checks accepted ≡ outcome (run (opening (settingIn net) r .session) (map read (arcsIn net) ++ []))
+        read-through = sym (reading-broken (settingIn net) r (arcsIn net) (opens-rule (settingIn net) r opening-held))
 
         pub at-reading : (k ≡ 0 → ⊥) → refused k ≡ judged net ann r
         at-reading n =
-            let q = read-through ∙ stops-there G n [] in
-            sym q ∙ sym (past-opening ∙ stuck R (settle refused A rest) (λ e. not-accepted k (sym q ∙ e)))
+            let q = read-through ∙ stops-there from-opening n [] in
+            sym q ∙ sym (past-opening ∙ stuck reading-checks (settle refused annotation-layout rest) (λ e. not-accepted k (sym q ∙ e)))
 
-        module _ (going : k ≡ 0) where
-          hr : Hold R
+        module _ (passed : k ≡ 0) where
+          reading-held : Hold reading-checks
           unfolding run
-          hr = clear R (read-through ∙ runs-on G going [])
+          reading-held = clear reading-checks (read-through ∙ runs-on from-opening passed [])
 
-          past-reading : judged net ann r ≡ settle refused A rest
-          past-reading = past-opening ∙ settled refused R (settle refused A rest) hr
+          past-reading : judged net ann r ≡ settle refused annotation-layout rest
+          past-reading = past-opening ∙ settled refused reading-checks (settle refused annotation-layout rest) reading-held
 
           pub at-annotation : (j n : ℕ) → n ≡ nIn net → j ≡ firstBroken (annotationLayout n ann) → (j ≡ 0 → ⊥) → refused j ≡ judged net ann r
-          at-annotation j n en e no-zero = sym (past-reading ∙ broken-here A rest j (e ∙ ap (λ (i : ℕ). firstBroken (annotationLayout i ann)) en) no-zero)
+          at-annotation j n en e no-zero = sym (past-reading ∙ broken-here annotation-layout rest j (e ∙ ap (λ (i : ℕ). firstBroken (annotationLayout i ann)) en) no-zero)
 
           pub at-steps : (j n : ℕ) → n ≡ nIn net → j ≡ firstBroken (annotationLayout n ann) → j ≡ 0 → (s : Said) → s ≡ outcome (run y (stepsIn n ann)) → s ≡ judged net ann r
           at-steps j n en e z s q =
               q ∙ ap (λ (i : ℕ). outcome (run y (stepsIn i ann))) en
-              ∙ sym (by-steps net ann r hl ho hr (none-broken A (refl, (refl, (refl, tt))) (sym (e ∙ ap (λ (i : ℕ). firstBroken (annotationLayout i ann)) en) ∙ z))
-              ∙ runs-on G going (stepsIn (nIn net) ann))
+              ∙ sym (by-steps net ann r layout-held opening-held reading-held (none-broken annotation-layout (refl, (refl, (refl, tt))) (sym (e ∙ ap (λ (i : ℕ). firstBroken (annotationLayout i ann)) en) ∙ z))
+              ∙ runs-on from-opening passed (stepsIn (nIn net) ann))

@@ -1,5 +1,6 @@
+pub mod Openings
+pub mod AcceptedFiles
 pub mod StepLoops
 pub mod AnnotationReturns
-pub mod AcceptedFiles
 pub mod Promises
 pub mod JudgeReturns

@@ -7,7 +7,7 @@ use Prim.Native.Nat.{ℕ, suc, _≤_}
 use native.Mathlib.Omega.{arith}
 use lib.IntN.{ℤ}
 use lib.ListN.{length, length-map, length-append}
-use Rattle.prelude.specs.Checks.{Check, _unless_, settle, Hold}
+use Rattle.prelude.specs.Checks.{Check, settle, Hold}
 use Rattle.prelude.specs.Lists.{Some, at}
 use Rattle.prelude.proofs.Settle.{settled, settle-append, hold-append, hold-left, hold-right}
 use Rattle.prelude.proofs.Lists.{every-map}
@@ -16,14 +16,13 @@ use Rattle.network.specs.Network.{Arc, Load}
 use Rattle.network.specs.Question.{Setting, Answer, value, none, TrueAnswer}
 use Rattle.network.specs.Certificate.{claimFor}
 use Rattle.network.specs.Tests.{openingChecks, readingChecks, readingAll, claimNumber, claimOf, answerOf}
-use Rattle.network.proofs.Allowed.{opening-rule}
 use Rattle.network.proofs.Promises.{certificates-sound}
-use Rattle.points.specs.Points.{pointOk, misleadingPoints}
+use Rattle.points.specs.Points.{misleadingPoints}
 use Rattle.points.specs.declared.Point.{Point}
 use Rattle.format.specs.Files.{nIn, arcsIn, claimIn, numbersIn, loadsIn, annotationFile, networkLayout, annotationLayout}
 use Rattle.format.specs.Promises.{Byte}
 use Rattle.format.proofs.Promises.{annotation-round-trip}
-use Rattle.acceptance.specs.Acceptance.{settingIn, AcceptedFile}
+use Rattle.acceptance.specs.Acceptance.{settingIn}
 use Rattle.state.specs.Answers.{Said, accepted, gives, refused}
 use Rattle.state.specs.State.{openChecks}
 use Rattle.runs.specs.Run.{Step, read, end, claim, number, repeat, finish, runFrom, listFrom, listRead, Wrong, WrongAt}
@@ -33,7 +32,8 @@ use Rattle.runs.proofs.Meets.{gives-held}
 use Rattle.runs.proofs.WrongAnswers.{wrong-held}
 use Rattle.runs.proofs.Promises.{first-broken, certificates-pass, few-wrong}
 use Rattle.judging.specs.Judging.{numbersFor, loadsFor, networkChecks, annotationChecks, judged, JudgedWrong}
-use Rattle.judging.proofs.AcceptedFiles.{accepted-parts, point-test, well-opened, file-readable}
+use Rattle.judging.proofs.AcceptedFiles.{accepted-parts, file-opened, file-readable}
+use Rattle.judging.proofs.Openings.{opens-rule, opens-held, opening-held}
 use Rattle.judging.specs.Promises.{JudgedBySteps, FewJudgedWrong, OnlyAccepted, CertificatesJudged}
 
 -- ---- the list read of an exchange
@@ -87,12 +87,12 @@ module _ (net ann : List ℕ) (r : Point) where
       ∙ settle-append refused (annotationLayout (nIn net) ann) (notes ++ ends) (gives answer)
       ∙ settled refused (annotationLayout (nIn net) ann) (settle refused (notes ++ ends) (gives answer)) ha
       ∙ sym (settle-append refused reads (notes ++ ends) (gives answer) ∙ settled refused reads (settle refused (notes ++ ends) (gives answer)) hr)
-      ∙ sym (first-broken (settingIn net) r (arcsIn net) (claimIn ann) (numbersFor net ann) (loadsFor net ann) (well-opened (settingIn net) r ho))
+      ∙ sym (first-broken (settingIn net) r (arcsIn net) (claimIn ann) (numbersFor net ann) (loadsFor net ann) (opens-rule (settingIn net) r ho))
 
 pub judged-by-steps : JudgedBySteps
 judged-by-steps net ann r h ha hr =
     let parts = accepted-parts net h in
-    by-steps net ann r (parts .layout-held) (hold-append (openingChecks (settingIn net)) (4 unless pointOk r ∷ []) (parts .opening-held) (point-test r hr, tt))
+    by-steps net ann r (parts .layout-held) (opens-held (settingIn net) r (parts .opening-held) hr)
     (parts .reading-held) ha
 
 pub only-accepted : OnlyAccepted
@@ -103,7 +103,7 @@ only-accepted net ann r a e =
     hold-append (networkLayout net) (openingChecks (settingIn net) ++ readingAll (settingIn net) 0 (arcsIn net))
     (hold-left (networkLayout net) (opens net ann r ++ reads net ann r) n)
     (hold-append (openingChecks (settingIn net)) (reads net ann r)
-    (hold-left (openingChecks (settingIn net)) (4 unless pointOk r ∷ []) (hold-left (opens net ann r) (reads net ann r) rest))
+    (opening-held (settingIn net) r (hold-left (opens net ann r) (reads net ann r) rest))
     (hold-right (opens net ann r) (reads net ann r) rest))
 
 -- ---- how few points mislead
@@ -148,7 +148,7 @@ claim-byte none = omega arith
 
 pub certificates-judged : CertificatesJudged
 certificates-judged net ys f a r h one-each signed fit d c hr =
-    let opened = opening-rule (settingIn net) (accepted-parts net h .opening-held) in
+    let opened = file-opened net h in
     let readable = file-readable net h in
     let few = readable .few in
     let back = annotation-round-trip (claimNumber (claimFor a)) ys f (claim-byte a) signed (omega (arith, perm-length d, length-map f (λ l. l .arc))) fit in

@@ -28,25 +28,29 @@ loop-holds c =
     let s = c .before .args in
     none-yet number (numberIn (s .file .now)) (joined (s .potentials .now) zeros (s .x)) (s .n)
 
+-- t is where the node number is given, l where the loop stands, s where the arguments are
 returns : tie.Need-returns Inv-loop μ-loop
 returns c =
-    let s = c .before .before .before .before .before .before .args in
-    let l = c .before .before .before .before .loop in
-    let found = c .before .before .number in
-    let turn = c .before .node-number in
+    let t = c .before in
+    let turn = t .node-number in
+    let found = t .before .number in
+    let l = t .before .before .before .loop in
+    let s = t .before .before .before .before .before .args in
     let y = joined (l .potentials) zeros (l .y) in
-    one-refused number (numberIn (s .file .now)) (joined (s .potentials .now) zeros (s .x)) (s .n) y (l .v) (l .inv) (c .before .before .before .loop-test .taken) (turn .result .why) _
-    (number-refused y (numberIn (s .file .now) (l .v)) (turn .result) (turn .ensures ∙ ap (numberTurn (l .y)) (back w32 (found .result) (found .ok) ∙ found .ensures)) (c .if1 .taken)) (c .if1 .taken)
+    let same = back w32 (found .result) (found .ok) ∙ found .ensures in
+    one-refused number (numberIn (s .file .now)) (joined (s .potentials .now) zeros (s .x)) (s .n) y (l .v) (l .inv) (t .before .before .loop-test .taken) (turn .result .why) _
+    (number-refused y (numberIn (s .file .now) (l .v)) (turn .result) (turn .ensures ∙ ap (numberTurn (l .y)) same) (c .if1 .taken)) (c .if1 .taken)
 
 loop-again : tie.Need-loop-again Inv-loop μ-loop
 loop-again c =
-    let s = c .before .before .before .before .before .before .before .before .before .args in
-    let l = c .before .before .before .before .before .before .before .loop in
-    let found = c .before .before .before .before .before .number in
-    let turn = c .before .before .before .before .node-number in
+    let t = c .before .before .before .before in
+    let turn = t .node-number in
+    let found = t .before .number in
+    let l = t .before .before .before .loop in
+    let s = t .before .before .before .before .before .args in
     let y = joined (l .potentials) zeros (l .y) in
     let same = back w32 (found .result) (found .ok) ∙ found .ensures in
-    one-accepted number (numberIn (s .file .now)) (joined (s .potentials .now) zeros (s .x)) (s .n) y (l .v) (l .inv) (c .before .before .before .before .before .before .loop-test .taken) _
+    one-accepted number (numberIn (s .file .now)) (joined (s .potentials .now) zeros (s .x)) (s .n) y (l .v) (l .inv) (t .before .before .loop-test .taken) _
     (number-accepted y (numberIn (s .file .now) (l .v)) (turn .result) (turn .ensures ∙ ap (numberTurn (l .y)) same) _
     (c .before .store-number .ensures ∙ ap (λ (z : ℤ). set (l .potentials) (l .y .numbering .given) z) same) (c .before .before .before .if1 .left))
 

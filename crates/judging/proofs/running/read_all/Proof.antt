@@ -27,32 +27,37 @@ loop-holds c =
     let s = c .before .before .args in
     none-yet read (arcIn (s .file .now)) (joined zeros zeros (s .x)) (c .count .result)
 
+-- t is where the arc is read, l where the loop stands, k where the count is found, s where the arguments are
 returns : tie.Need-returns Inv-loop μ-loop
 returns c =
-    let s = c .before .before .before .before .before .before .before .args in
-    let asked = c .before .before .before .before .before .count in
-    let l = c .before .before .before .before .loop in
-    let turn = c .before .read-channel in
+    let t = c .before in
+    let turn = t .read-channel in
+    let l = t .before .before .before .loop in
+    let k = t .before .before .before .before in
+    let s = k .before .before .args in
     let y = joined zeros zeros (l .y) in
-    subst (λ (m : ℕ). RunsTo (joined zeros zeros (s .x)) (map read (listTo m (arcIn (s .file .now)))) (turn .result .why) (joined zeros zeros (turn .result .state))) (asked .ensures)
-    (one-refused read (arcIn (s .file .now)) (joined zeros zeros (s .x)) (asked .result) y (l .e) (l .inv) (c .before .before .before .loop-test .taken) (turn .result .why) _
-    (read-refused y (arcIn (s .file .now) (l .e)) (turn .result) (turn .ensures ∙ ap (readTurn (l .y)) (c .before .before .arc .ensures)) (c .if1 .taken)) (c .if1 .taken))
+    subst (λ (m : ℕ). RunsTo (joined zeros zeros (s .x)) (map read (listTo m (arcIn (s .file .now)))) (turn .result .why) (joined zeros zeros (turn .result .state))) (k .count .ensures)
+    (one-refused read (arcIn (s .file .now)) (joined zeros zeros (s .x)) (k .count .result) y (l .e) (l .inv) (t .before .before .loop-test .taken) (turn .result .why) _
+    (read-refused y (arcIn (s .file .now) (l .e)) (turn .result) (turn .ensures ∙ ap (readTurn (l .y)) (t .before .arc .ensures)) (c .if1 .taken)) (c .if1 .taken))
 
 loop-again : tie.Need-loop-again Inv-loop μ-loop
 loop-again c =
-    let s = c .before .before .before .before .before .before .before .before .args in
-    let l = c .before .before .before .before .before .loop in
-    let turn = c .before .before .read-channel in
+    let t = c .before .before in
+    let turn = t .read-channel in
+    let l = t .before .before .before .loop in
+    let k = t .before .before .before .before in
+    let s = k .before .before .args in
     let y = joined zeros zeros (l .y) in
-    one-accepted read (arcIn (s .file .now)) (joined zeros zeros (s .x)) (c .before .before .before .before .before .before .count .result) y (l .e) (l .inv) (c .before .before .before .before .loop-test .taken) _
-    (read-accepted y (arcIn (s .file .now) (l .e)) (turn .result) (turn .ensures ∙ ap (readTurn (l .y)) (c .before .before .before .arc .ensures)) (c .before .if1 .left))
+    one-accepted read (arcIn (s .file .now)) (joined zeros zeros (s .x)) (k .count .result) y (l .e) (l .inv) (t .before .before .loop-test .taken) _
+    (read-accepted y (arcIn (s .file .now) (l .e)) (turn .result) (turn .ensures ∙ ap (readTurn (l .y)) (t .before .arc .ensures)) (c .before .if1 .left))
 
 returns-2 : tie.Need-returns-2 Inv-loop μ-loop
 returns-2 c =
-    let s = c .before .before .before .before .args in
     let l = c .before .loop in
-    subst (λ (m : ℕ). RunsTo (joined zeros zeros (s .x)) (map read (listTo m (arcIn (s .file .now)))) 0 (joined zeros zeros (l .y))) (c .before .before .count .ensures)
-    (all-accepted read (arcIn (s .file .now)) (joined zeros zeros (s .x)) (c .before .before .count .result) (joined zeros zeros (l .y)) (l .e) (l .inv) (c .loop-test .left))
+    let k = c .before .before in
+    let s = k .before .before .args in
+    subst (λ (m : ℕ). RunsTo (joined zeros zeros (s .x)) (map read (listTo m (arcIn (s .file .now)))) 0 (joined zeros zeros (l .y))) (k .count .ensures)
+    (all-accepted read (arcIn (s .file .now)) (joined zeros zeros (s .x)) (k .count .result) (joined zeros zeros (l .y)) (l .e) (l .inv) (c .loop-test .left))
 
 pub read-all-spec : {M : Type 1} → statement M
 read-all-spec =
