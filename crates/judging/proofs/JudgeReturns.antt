@@ -63,10 +63,20 @@ module _ (net ann : List ℕ) (r : Point) where
   abbrev annotation-layout : List Check
   annotation-layout = annotationLayout (nIn net) ann
 
-  abbrev rest : Said
-  rest = settle refused (notes net ann r ++ ends net ann r) (gives (answer net ann r))
+  -- what is left to decide after the layout of the annotation, after reading, after opening, after the layout of the network
+  abbrev after-annotation : Said
+  after-annotation = settle refused (notes net ann r ++ ends net ann r) (gives (answer net ann r))
 
-  apart : judged net ann r ≡ settle refused layout-checks (settle refused opening-checks (settle refused reading-checks (settle refused annotation-layout rest)))
+  abbrev after-reading : Said
+  after-reading = settle refused annotation-layout after-annotation
+
+  abbrev after-opening : Said
+  after-opening = settle refused reading-checks after-reading
+
+  abbrev after-layout : Said
+  after-layout = settle refused opening-checks after-opening
+
+  apart : judged net ann r ≡ settle refused layout-checks after-layout
   apart =
       settle-append refused (networkChecks net r) (annotationChecks net ann r) (gives (answer net ann r))
       ∙ settle-append refused layout-checks (opening-checks ++ reading-checks) (settle refused (annotationChecks net ann r) (gives (answer net ann r)))
@@ -74,14 +84,14 @@ module _ (net ann : List ℕ) (r : Point) where
       ∙ ap (λ (s : Said). settle refused layout-checks (settle refused opening-checks (settle refused reading-checks s))) (settle-append refused annotation-layout (notes net ann r ++ ends net ann r) (gives (answer net ann r)))
 
   pub at-layout : (why : ℕ) → why ≡ firstBroken layout-checks → (why ≡ 0 → ⊥) → refused why ≡ judged net ann r
-  at-layout why e n = sym (apart ∙ broken-here layout-checks (settle refused opening-checks (settle refused reading-checks (settle refused annotation-layout rest))) why e n)
+  at-layout why e n = sym (apart ∙ broken-here layout-checks after-layout why e n)
 
   module _ (why : ℕ) (found : why ≡ firstBroken layout-checks) (fine : why ≡ 0) where
     layout-held : Hold layout-checks
     layout-held = none-broken layout-checks (refl, (refl, (refl, tt))) (sym found ∙ fine)
 
-    past-layout : judged net ann r ≡ settle refused opening-checks (settle refused reading-checks (settle refused annotation-layout rest))
-    past-layout = apart ∙ settled refused layout-checks (settle refused opening-checks (settle refused reading-checks (settle refused annotation-layout rest))) layout-held
+    past-layout : judged net ann r ≡ after-layout
+    past-layout = apart ∙ settled refused layout-checks after-layout layout-held
 
     module _ (o : Opening) (eo : handed o ≡ settingIn net) (u : Turn) (eu : u ≡ openTurn (handed o) r) where
       as-filed : u ≡ openTurn (settingIn net) r
@@ -91,7 +101,7 @@ module _ (net ann : List ℕ) (r : Point) where
       at-first = open-found (settingIn net) r u as-filed
 
       pub at-opening : (u .why ≡ 0 → ⊥) → refused (u .why) ≡ judged net ann r
-      at-opening n = sym (past-layout ∙ broken-here opening-checks (settle refused reading-checks (settle refused annotation-layout rest)) (u .why) at-first n)
+      at-opening n = sym (past-layout ∙ broken-here opening-checks after-opening (u .why) at-first n)
 
       module _ (ok : u .why ≡ 0) (k : ℕ) (y : Session) (g : RunsTo (joined zeros zeros (u .state)) (map read (arcsIn net)) k y) where
         opening-held : Hold opening-checks
@@ -100,8 +110,8 @@ module _ (net ann : List ℕ) (r : Point) where
         from-opening : RunsTo (opening (settingIn net) r .session) (map read (arcsIn net)) k y
         from-opening = subst (λ (x : Reply). RunsTo (x .session) (map read (arcsIn net)) k y) (open-accepted (settingIn net) r u as-filed ok) g
 
-        past-opening : judged net ann r ≡ settle refused reading-checks (settle refused annotation-layout rest)
-        past-opening = past-layout ∙ settled refused opening-checks (settle refused reading-checks (settle refused annotation-layout rest)) opening-held
+        past-opening : judged net ann r ≡ after-opening
+        past-opening = past-layout ∙ settled refused opening-checks after-opening opening-held
 
         read-through : settle refused reading-checks accepted ≡ outcome (run (opening (settingIn net) r .session) (map read (arcsIn net) ++ []))
         read-through = sym (reading-broken (settingIn net) r (arcsIn net) (opens-rule (settingIn net) r opening-held))
@@ -109,18 +119,18 @@ module _ (net ann : List ℕ) (r : Point) where
         pub at-reading : (k ≡ 0 → ⊥) → refused k ≡ judged net ann r
         at-reading n =
             let q = read-through ∙ stops-there from-opening n [] in
-            sym q ∙ sym (past-opening ∙ stuck reading-checks (settle refused annotation-layout rest) (λ e. not-accepted k (sym q ∙ e)))
+            sym q ∙ sym (past-opening ∙ stuck reading-checks after-reading (λ e. not-accepted k (sym q ∙ e)))
 
         module _ (passed : k ≡ 0) where
           reading-held : Hold reading-checks
           unfolding run
           reading-held = clear reading-checks (read-through ∙ runs-on from-opening passed [])
 
-          past-reading : judged net ann r ≡ settle refused annotation-layout rest
-          past-reading = past-opening ∙ settled refused reading-checks (settle refused annotation-layout rest) reading-held
+          past-reading : judged net ann r ≡ after-reading
+          past-reading = past-opening ∙ settled refused reading-checks after-reading reading-held
 
           pub at-annotation : (j n : ℕ) → n ≡ nIn net → j ≡ firstBroken (annotationLayout n ann) → (j ≡ 0 → ⊥) → refused j ≡ judged net ann r
-          at-annotation j n en e no-zero = sym (past-reading ∙ broken-here annotation-layout rest j (e ∙ ap (λ (i : ℕ). firstBroken (annotationLayout i ann)) en) no-zero)
+          at-annotation j n en e no-zero = sym (past-reading ∙ broken-here annotation-layout after-annotation j (e ∙ ap (λ (i : ℕ). firstBroken (annotationLayout i ann)) en) no-zero)
 
           pub at-steps : (j n : ℕ) → n ≡ nIn net → j ≡ firstBroken (annotationLayout n ann) → j ≡ 0 → (s : Said) → s ≡ outcome (run y (stepsIn n ann)) → s ≡ judged net ann r
           at-steps j n en e z s q =
