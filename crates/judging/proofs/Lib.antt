@@ -1,5 +1,6 @@
-pub mod Annotated
+pub mod Openings
 pub mod AcceptedFiles
+pub mod StepLoops
+pub mod AnnotationReturns
 pub mod Promises
-pub mod Turns
-pub mod Judged
+pub mod JudgeReturns

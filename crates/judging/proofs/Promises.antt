@@ -5,46 +5,47 @@ use mathlib.Core.List.{List, [], _∷_, _++_, map, append-nil, append-assoc}
 use mathlib.Core.Logic.{inl, inr}
 use Prim.Native.Nat.{ℕ, suc, _≤_}
 use native.Mathlib.Omega.{arith}
-use lib.Dec.{lt→ltb}
 use lib.IntN.{ℤ}
 use lib.ListN.{length, length-map, length-append}
-use Rattle.prelude.specs.Checks.{Check, _unless_, settle, Hold}
+use Rattle.prelude.specs.Checks.{Check, settle, Hold}
 use Rattle.prelude.specs.Lists.{Some, at}
 use Rattle.prelude.proofs.Settle.{settled, settle-append, hold-append, hold-left, hold-right}
 use Rattle.prelude.proofs.Lists.{every-map}
 use Rattle.prelude.proofs.Permutations.{perm-length}
-use Rattle.field.specs.Field.{p}
-use Rattle.field.specs.Promises.{misleading}
 use Rattle.network.specs.Network.{Arc, Load}
 use Rattle.network.specs.Question.{Setting, Answer, value, none, TrueAnswer}
-use Rattle.network.specs.Tests.{openingChecks, claimNumber, claimFor, claimOf, answerOf}
+use Rattle.network.specs.Certificate.{claimFor}
+use Rattle.network.specs.Tests.{openingChecks, readingChecks, readingAll, claimNumber, claimOf, answerOf}
 use Rattle.network.proofs.Promises.{certificates-sound}
-use Rattle.session.specs.Print.{Point, pointOk}
-use Rattle.session.specs.Session.{Said, accepted, gives, refused}
-use Rattle.session.specs.Steps.{openChecks}
-use Rattle.runs.specs.Run.{Step, read, end, claim, number, repeat, finish, runFrom, listFrom, listRead, Wrong, WrongAt}
-use Rattle.runs.specs.Exchange.{exchange, outcome, readRule, readRules, sumsAt, annotationRules, finalRules}
-use Rattle.runs.proofs.Looks.{no-answer}
-use Rattle.runs.proofs.Meets.{given}
-use Rattle.runs.proofs.Bound.{wrong-held}
-use Rattle.runs.proofs.Promises.{first-broken, certificates-pass, few-wrong}
-use Rattle.format.specs.Files.{questionIn, nIn, sIn, tIn, arcsIn, claimIn, numbersIn, loadsIn, annotationFile, networkLayout, annotationLayout}
+use Rattle.points.specs.Points.{misleadingPoints}
+use Rattle.points.specs.declared.Point.{Point}
+use Rattle.format.specs.Files.{nIn, arcsIn, claimIn, numbersIn, loadsIn, annotationFile, networkLayout, annotationLayout}
 use Rattle.format.specs.Promises.{Byte}
 use Rattle.format.proofs.Promises.{annotation-round-trip}
-use Rattle.judging.specs.Judging.{settingIn, numbersFor, loadsFor, networkChecks, annotationChecks, judged, JudgedWrong}
-use Rattle.judging.proofs.AcceptedFiles.{accepted-parts, well-opened, file-opened, file-readable}
+use Rattle.acceptance.specs.Acceptance.{settingIn}
+use Rattle.state.specs.Answers.{Said, accepted, gives, refused}
+use Rattle.state.specs.State.{openChecks}
+use Rattle.runs.specs.Run.{Step, read, end, claim, number, repeat, finish, runFrom, listFrom, listRead, Wrong, WrongAt}
+use Rattle.runs.specs.Exchange.{exchange, outcome, sumsAt, annotationRules, finalRules}
+use Rattle.runs.proofs.FirstAndLast.{no-answer}
+use Rattle.runs.proofs.Meets.{gives-held}
+use Rattle.runs.proofs.WrongAnswers.{wrong-held}
+use Rattle.runs.proofs.Promises.{first-broken, certificates-pass, few-wrong}
+use Rattle.judging.specs.Judging.{numbersFor, loadsFor, networkChecks, annotationChecks, judged, JudgedWrong}
+use Rattle.judging.proofs.AcceptedFiles.{accepted-parts, file-opened, file-readable}
+use Rattle.judging.proofs.Openings.{opens-rule, opens-held, opening-held}
 use Rattle.judging.specs.Promises.{JudgedBySteps, FewJudgedWrong, OnlyAccepted, CertificatesJudged}
 
 -- ---- the list read of an exchange
 
-list-read : (st : Setting) (l es : List Arc) (rest : List Step) → Hold (readRules st (length l) es) → listFrom st l (map read es ++ (end ∷ rest)) ≡ l ++ es
-unfolding listFrom readRules
+list-read : (st : Setting) (l es : List Arc) (rest : List Step) → Hold (readingAll st (length l) es) → listFrom st l (map read es ++ (end ∷ rest)) ≡ l ++ es
+unfolding listFrom readingAll
 list-read st l [] rest h = sym (append-nil l)
 list-read st l (e ∷ es) rest h =
-    let one = hold-left (readRule st (length l) e) (readRules st (suc (length l)) es) h in
-    let more = hold-right (readRule st (length l) e) (readRules st (suc (length l)) es) h in
-    ap (λ (k : List Arc). listFrom st k (map read es ++ (end ∷ rest))) (settled (λ why. l) (readRule st (length l) e) (l ++ e ∷ []) one)
-    ∙ list-read st (l ++ e ∷ []) es rest (subst (λ (n : ℕ). Hold (readRules st n es)) (omega (arith, length-append l (e ∷ []))) more)
+    let one = hold-left (readingChecks st (length l) e) (readingAll st (suc (length l)) es) h in
+    let more = hold-right (readingChecks st (length l) e) (readingAll st (suc (length l)) es) h in
+    ap (λ (k : List Arc). listFrom st k (map read es ++ (end ∷ rest))) (settled (λ why. l) (readingChecks st (length l) e) (l ++ e ∷ []) one)
+    ∙ list-read st (l ++ e ∷ []) es rest (subst (λ (n : ℕ). Hold (readingAll st n es)) (omega (arith, length-append l (e ∷ []))) more)
     ∙ append-assoc l (e ∷ []) es
 
 -- what comes out is what some step said
@@ -64,13 +65,13 @@ module _ (net ann : List ℕ) (r : Point) where
   steps = exchange (arcsIn net) (claimIn ann) (numbersFor net ann) (loadsFor net ann)
 
   abbrev pub answer : Answer
-  answer = answerOf st (claimOf (claimIn ann)) (sumsAt (numbersFor net ann) (loadsFor net ann))
+  answer = answerOf st (claimOf (claimIn ann)) (sumsAt st (numbersFor net ann) (loadsFor net ann))
 
   abbrev pub opens : List Check
-  opens = openChecks (questionIn net) (nIn net) (sIn net) (tIn net) r
+  opens = openChecks (settingIn net) r
 
   abbrev pub reads : List Check
-  reads = readRules st 0 (arcsIn net)
+  reads = readingAll st 0 (arcsIn net)
 
   abbrev pub notes : List Check
   notes = annotationRules st (length (arcsIn net)) (claimIn ann) (numbersFor net ann) (loadsFor net ann)
@@ -79,30 +80,30 @@ module _ (net ann : List ℕ) (r : Point) where
   ends = finalRules st r (arcsIn net) (claimIn ann) (numbersFor net ann) (loadsFor net ann)
 
   pub by-steps : Hold (networkLayout net) → Hold opens → Hold reads → Hold (annotationLayout (nIn net) ann)
-      → judged net ann r ≡ outcome (runFrom (questionIn net) (nIn net) (sIn net) (tIn net) r steps)
+      → judged net ann r ≡ outcome (runFrom (settingIn net) r steps)
   by-steps hl ho hr ha =
       settle-append refused (networkChecks net r) (annotationChecks net ann r) (gives answer)
       ∙ settled refused (networkChecks net r) (settle refused (annotationChecks net ann r) (gives answer)) (hold-append (networkLayout net) (opens ++ reads) hl (hold-append opens reads ho hr))
       ∙ settle-append refused (annotationLayout (nIn net) ann) (notes ++ ends) (gives answer)
       ∙ settled refused (annotationLayout (nIn net) ann) (settle refused (notes ++ ends) (gives answer)) ha
       ∙ sym (settle-append refused reads (notes ++ ends) (gives answer) ∙ settled refused reads (settle refused (notes ++ ends) (gives answer)) hr)
-      ∙ sym (first-broken (questionIn net) (nIn net) (sIn net) (tIn net) r (arcsIn net) (claimIn ann) (numbersFor net ann) (loadsFor net ann) (well-opened net r ho))
+      ∙ sym (first-broken (settingIn net) r (arcsIn net) (claimIn ann) (numbersFor net ann) (loadsFor net ann) (opens-rule (settingIn net) r ho))
 
 pub judged-by-steps : JudgedBySteps
 judged-by-steps net ann r h ha hr =
     let parts = accepted-parts net h in
-    by-steps net ann r (parts .layout-held) (hold-append (openingChecks (questionIn net) (settingIn net)) (4 unless pointOk r ∷ []) (parts .opening-held) (lt→ltb r p hr, tt))
+    by-steps net ann r (parts .layout-held) (opens-held (settingIn net) r (parts .opening-held) hr)
     (parts .reading-held) ha
 
 pub only-accepted : OnlyAccepted
 only-accepted net ann r a e =
-    let h = given (networkChecks net r ++ annotationChecks net ann r) (answer net ann r) a e .0 in
+    let h = gives-held (networkChecks net r ++ annotationChecks net ann r) (answer net ann r) a e .0 in
     let n = hold-left (networkChecks net r) (annotationChecks net ann r) h in
     let rest = hold-right (networkLayout net) (opens net ann r ++ reads net ann r) n in
-    hold-append (networkLayout net) (openingChecks (questionIn net) (settingIn net) ++ readRules (settingIn net) 0 (arcsIn net))
+    hold-append (networkLayout net) (openingChecks (settingIn net) ++ readingAll (settingIn net) 0 (arcsIn net))
     (hold-left (networkLayout net) (opens net ann r ++ reads net ann r) n)
-    (hold-append (openingChecks (questionIn net) (settingIn net)) (reads net ann r)
-    (hold-left (openingChecks (questionIn net) (settingIn net)) (4 unless pointOk r ∷ []) (hold-left (opens net ann r) (reads net ann r) rest))
+    (hold-append (openingChecks (settingIn net)) (reads net ann r)
+    (opening-held (settingIn net) r (hold-left (opens net ann r) (reads net ann r) rest))
     (hold-right (opens net ann r) (reads net ann r) rest))
 
 -- ---- how few points mislead
@@ -112,7 +113,7 @@ module _ (net ann : List ℕ) where
   exchanged = exchange (arcsIn net) (claimIn ann) (numbersFor net ann) (loadsFor net ann)
 
   abbrev WrongRun : Point → Type 0
-  WrongRun = WrongAt (questionIn net) (nIn net) (sIn net) (tIn net) exchanged
+  WrongRun = WrongAt (settingIn net) exchanged
 
   wrong-run : (r : Point) → JudgedWrong net ann r → (listRead (settingIn net) exchanged ≡ arcsIn net) × WrongRun r
   wrong-run r w =
@@ -127,7 +128,7 @@ module _ (net ann : List ℕ) where
         same,
         (
           w .0,
-          said-by (Wrong (settingIn net) (listRead (settingIn net) exchanged)) (runFrom (questionIn net) (nIn net) (sIn net) (tIn net) r exchanged) (answer net ann r)
+          said-by (Wrong (settingIn net) (listRead (settingIn net) exchanged)) (runFrom (settingIn net) r exchanged) (answer net ann r)
               (sym out ∙ settled refused (networkChecks net r ++ annotationChecks net ann r) (gives (answer net ann r)) (u .0))
               (subst (λ (l : List Arc). ¬ (TrueAnswer (settingIn net) l (answer net ann r))) (sym same) (u .1)),
         ),
@@ -136,8 +137,8 @@ module _ (net ann : List ℕ) where
 pub few-judged-wrong : FewJudgedWrong
 few-judged-wrong net ann [] d w = omega arith
 few-judged-wrong net ann (r ∷ rs) d w =
-    subst (λ (l : List Arc). length (r ∷ rs) ≤ misleading (length l)) (wrong-run net ann r (w .0) .0)
-    (few-wrong (questionIn net) (nIn net) (sIn net) (tIn net) (exchanged net ann) (r ∷ rs) d (every-map (λ q h. wrong-run net ann q h .1) (r ∷ rs) w))
+    subst (λ (l : List Arc). length (r ∷ rs) ≤ misleadingPoints (length l)) (wrong-run net ann r (w .0) .0)
+    (few-wrong (settingIn net) (exchanged net ann) (r ∷ rs) d (every-map (λ q h. wrong-run net ann q h .1) (r ∷ rs) w))
 
 -- ---- certificates
 
@@ -154,12 +155,12 @@ certificates-judged net ys f a r h one-each signed fit d c hr =
     let ann : List ℕ = annotationFile (claimNumber (claimFor a)) ys f in (
       judged-by-steps net ann r h (subst (λ (n : ℕ). Hold (annotationLayout n ann)) one-each (back .passes)) hr
           ∙ same-out net ann r (back .claim-back) (subst (λ (n : ℕ). numbersIn n ann ≡ ys) one-each (back .numbers-back)) (subst (λ (n : ℕ). loadsIn n ann ≡ f) one-each (back .loads-back))
-          ∙ certificates-pass (questionIn net) (nIn net) (sIn net) (tIn net) r (arcsIn net) ys f a
-          (record { question = accepted-parts net h .opening-held .0; opened = opened; point = hr }) readable d one-each c,
+          ∙ certificates-pass (settingIn net) r (arcsIn net) ys f a
+          (record { opened = opened; point = hr }) readable d one-each c,
       certificates-sound (settingIn net) (arcsIn net) (at ys) f a opened (readable .allowed) d c,
     )
   where
     same-out : (net ann : List ℕ) (r : Point) {k : ℕ} {ys : List ℤ} {f : List Load} → claimIn ann ≡ k → numbersFor net ann ≡ ys → loadsFor net ann ≡ f
-        → outcome (runFrom (questionIn net) (nIn net) (sIn net) (tIn net) r (exchange (arcsIn net) (claimIn ann) (numbersFor net ann) (loadsFor net ann)))
-        ≡ outcome (runFrom (questionIn net) (nIn net) (sIn net) (tIn net) r (exchange (arcsIn net) k ys f))
-    same-out net ann r e1 e2 e3 = λ i. outcome (runFrom (questionIn net) (nIn net) (sIn net) (tIn net) r (exchange (arcsIn net) (e1 i) (e2 i) (e3 i)))
+        → outcome (runFrom (settingIn net) r (exchange (arcsIn net) (claimIn ann) (numbersFor net ann) (loadsFor net ann)))
+        ≡ outcome (runFrom (settingIn net) r (exchange (arcsIn net) k ys f))
+    same-out net ann r e1 e2 e3 = λ i. outcome (runFrom (settingIn net) r (exchange (arcsIn net) (e1 i) (e2 i) (e3 i)))

@@ -1,62 +1,48 @@
--- Judging two files at a point: the scope's sections "Files and the helper" and "What demand 3 counts".
+-- Judging two files at a point (document 01, Files and the helper; What demand 3 counts).
 -- Assumes nothing.
 use mathlib.Core.List.{List, _++_}
-use Prim.Native.Nat.{ℕ, _<_}
+use Prim.Native.Nat.{ℕ}
 use lib.IntN.{ℤ}
 use lib.ListN.{length}
-use Rattle.prelude.specs.Checks.{Check, settle, Hold}
-use Rattle.field.specs.Field.{p}
+use Rattle.prelude.specs.Checks.{Check, settle}
 use Rattle.network.specs.Network.{Load}
-use Rattle.network.specs.Question.{Setting}
-use Rattle.network.specs.Tests.{settingOf, openingChecks, claimOf, answerOf}
-use Rattle.session.specs.Print.{Point}
-use Rattle.session.specs.Session.{Said, gives, refused}
-use Rattle.session.specs.Steps.{openChecks}
+use Rattle.network.specs.Tests.{readingAll, claimOf, answerOf}
+use Rattle.points.specs.Points.{IsPoint}
+use Rattle.points.specs.declared.Point.{Point}
+use Rattle.format.specs.Files.{nIn, arcsIn, claimIn, numbersIn, loadsIn, networkLayout, annotationLayout}
+use Rattle.acceptance.specs.Acceptance.{settingIn}
+use Rattle.state.specs.Answers.{Said, gives, refused}
+use Rattle.state.specs.State.{openChecks}
 use Rattle.runs.specs.Run.{Wrong}
-use Rattle.runs.specs.Exchange.{readRules, sumsAt, annotationRules, finalRules}
-use Rattle.format.specs.Files.{questionIn, nIn, sIn, tIn, arcsIn, claimIn, numbersIn, loadsIn, networkLayout, annotationLayout}
+use Rattle.runs.specs.Exchange.{sumsAt, annotationRules, finalRules}
 
--- "Question, n, s and t are those in its header."
-abbrev pub settingIn : List ℕ → Setting
-settingIn net = settingOf (questionIn net) (nIn net) (sIn net) (tIn net)
-
--- The node numbers and the repeated records of an annotation file, for the network file.
+-- The node numbers and the repeated arcs of an annotation file: the network file says how many node numbers there are.
 abbrev pub numbersFor : List ℕ → List ℕ → List ℤ
 numbersFor net ann = numbersIn (nIn net) ann
 
 abbrev pub loadsFor : List ℕ → List ℕ → List Load
 loadsFor net ann = loadsIn (nIn net) ann
 
--- "For each file in turn, network first, 17, 18, 19. After each file's layout its session steps run in file order."
+-- The network file comes first: its layout, checks 17, 18, 19; opening with its header at the point, checks 1 to 4; its records in file order, checks 6, 7, 8 for each.
 abbrev pub networkChecks : List ℕ → Point → List Check
 networkChecks net r =
     networkLayout net
-    ++ (openChecks (questionIn net) (nIn net) (sIn net) (tIn net) r
-    ++ readRules (settingIn net) 0 (arcsIn net))
+    ++ (openChecks (settingIn net) r
+    ++ readingAll (settingIn net) 0 (arcsIn net))
 
+-- Then the annotation file: its layout, checks 17, 18, 19; in file order its claim, check 9, its node numbers, 5 and 10 for each, its repeated records, 5 to 8, 11 and 12 for each; finishing, 5 and 13 to 16.
 abbrev pub annotationChecks : List ℕ → List ℕ → Point → List Check
 annotationChecks net ann r =
     annotationLayout (nIn net) ann
     ++ (annotationRules (settingIn net) (length (arcsIn net)) (claimIn ann) (numbersFor net ann) (loadsFor net ann)
     ++ finalRules (settingIn net) r (arcsIn net) (claimIn ann) (numbersFor net ann) (loadsFor net ann))
 
--- "The first refusal is given and nothing later is read."
+-- The first check that refuses decides, and nothing after it counts; where none refuses, the answer is that of finishing.
 abbrev pub judged : List ℕ → List ℕ → Point → Said
 judged net ann r =
     settle refused (networkChecks net r ++ annotationChecks net ann r)
-    (gives (answerOf (settingIn net) (claimOf (claimIn ann)) (sumsAt (numbersFor net ann) (loadsFor net ann))))
+    (gives (answerOf (settingIn net) (claimOf (claimIn ann)) (sumsAt (settingIn net) (numbersFor net ann) (loadsFor net ann))))
 
--- "17, 18, 19, then 1, 2, 3, then 6, 7, 8 per record": the checks that the helper makes before 20.
-abbrev pub helperChecks : List ℕ → List Check
-helperChecks net =
-    networkLayout net
-    ++ (openingChecks (questionIn net) (settingIn net)
-    ++ readRules (settingIn net) 0 (arcsIn net))
-
--- "The panel accepts a network file if no check that the helper makes before 20 refuses it."
-abbrev pub AcceptedFile : List ℕ → Type 0
-AcceptedFile net = Hold (helperChecks net)
-
--- "The answer of judging counts as a step's answer does", at the points below p.
+-- A point counts where judging gives an answer there that is not the true one of the network file (What demand 3 counts).
 abbrev pub JudgedWrong : List ℕ → List ℕ → Point → Type 0
-JudgedWrong net ann r = (r < p) × Wrong (settingIn net) (arcsIn net) (judged net ann r)
+JudgedWrong net ann r = IsPoint r × Wrong (settingIn net) (arcsIn net) (judged net ann r)

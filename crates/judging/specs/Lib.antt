@@ -1,3 +1,3 @@
 pub mod Judging
 pub mod Promises
-pub mod Going
+pub mod RunsTo

@@ -1,44 +1,44 @@
--- What is promised of judging; proofs/Promises.antt keeps it.
+-- What is promised of judging: demand 3 for files; proofs/Promises.antt keeps it.
 -- Assumes nothing.
 use mathlib.Core.Path.{_≡_}
 use mathlib.Core.List.{List}
-use Prim.Native.Nat.{ℕ, _<_}
+use Prim.Native.Nat.{ℕ}
 use lib.IntN.{ℤ}
 use lib.ListN.{length}
 use Rattle.prelude.specs.Checks.{Hold}
 use Rattle.prelude.specs.Lists.{Every, Perm, AtMost, at}
-use Rattle.field.specs.Field.{p}
-use Rattle.field.specs.Promises.{misleading}
 use Rattle.network.specs.Network.{Load, arcs}
 use Rattle.network.specs.Question.{Answer, TrueAnswer}
-use Rattle.network.specs.Certificate.{Certified}
-use Rattle.network.specs.Tests.{claimNumber, claimFor}
-use Rattle.session.specs.Print.{Point}
-use Rattle.session.specs.Session.{gives}
+use Rattle.network.specs.Certificate.{claimFor, Certified}
+use Rattle.network.specs.Tests.{claimNumber}
+use Rattle.points.specs.Points.{IsPoint, misleadingPoints}
+use Rattle.points.specs.declared.Point.{Point}
+use Rattle.format.specs.Files.{nIn, arcsIn, claimIn, annotationFile, annotationLayout}
+use Rattle.format.specs.Promises.{LoadFits, Signed32}
+use Rattle.acceptance.specs.Acceptance.{settingIn, AcceptedFile}
+use Rattle.state.specs.Answers.{gives}
 use Rattle.runs.specs.Run.{runFrom}
 use Rattle.runs.specs.Exchange.{exchange, outcome}
-use Rattle.format.specs.Files.{questionIn, nIn, sIn, tIn, arcsIn, claimIn, annotationFile, annotationLayout}
-use Rattle.format.specs.Promises.{LoadFits, Signed32}
-use Rattle.judging.specs.Judging.{settingIn, judged, numbersFor, loadsFor, AcceptedFile, JudgedWrong}
+use Rattle.judging.specs.Judging.{judged, numbersFor, loadsFor, JudgedWrong}
 
--- Judging is the session's: of an accepted network file and an annotation of its layout it gives what the steps in file order give first.
+-- Judging is the session's (Files and the helper): of an accepted network file and an annotation file of its layout it gives what the steps in file order come out as.
 abbrev pub JudgedBySteps : Type 0
 JudgedBySteps =
     (net ann : List ℕ) (r : Point)
-    → AcceptedFile net → Hold (annotationLayout (nIn net) ann) → r < p
-    → judged net ann r ≡ outcome (runFrom (questionIn net) (nIn net) (sIn net) (tIn net) r (exchange (arcsIn net) (claimIn ann) (numbersFor net ann) (loadsFor net ann)))
+    → AcceptedFile net → Hold (annotationLayout (nIn net) ann) → IsPoint r
+    → judged net ann r ≡ outcome (runFrom (settingIn net) r (exchange (arcsIn net) (claimIn ann) (numbersFor net ann) (loadsFor net ann)))
 
--- Demand 3: "The same for judging any two files": at no more than m - 1 of the p points, at none for m 0 or 1.
+-- Demand 3 (What demand 3 counts): judging any two files gives a wrong answer at m - 1 points at most, at none for m 0 or 1, where the network file has m records.
 abbrev pub FewJudgedWrong : Type 0
-FewJudgedWrong = (net ann : List ℕ) → AtMost (misleading (length (arcsIn net))) (JudgedWrong net ann)
+FewJudgedWrong = (net ann : List ℕ) → AtMost (misleadingPoints (length (arcsIn net))) (JudgedWrong net ann)
 
--- "Judging with any other network file only refuses": what gives an answer has an accepted network file.
+-- Judging refuses where the network file is not accepted (Files and the helper): what gives an answer has an accepted network file.
 abbrev pub OnlyAccepted : Type 0
 OnlyAccepted = (net ann : List ℕ) (r : Point) (a : Answer) → judged net ann r ≡ gives a → AcceptedFile net
 
--- Demand 3: "judging with it gives the true answer at every point": an annotation file that holds a certificate over the records of an accepted network file, in any order, is answered at every point, truly.
+-- Demand 3: an annotation file that holds a certificate over the records of an accepted network file, in any order, is answered at every point, and truly.
 abbrev pub CertificatesJudged : Type 0
 CertificatesJudged =
     (net : List ℕ) (ys : List ℤ) (f : List Load) (a : Answer) (r : Point)
-    → AcceptedFile net → length ys ≡ nIn net → Every Signed32 ys → Every LoadFits f → Perm (arcs f) (arcsIn net) → Certified (settingIn net) (at ys) f a → r < p
+    → AcceptedFile net → length ys ≡ nIn net → Every Signed32 ys → Every LoadFits f → Perm (arcs f) (arcsIn net) → Certified (settingIn net) (at ys) f a → IsPoint r
     → (judged net (annotationFile (claimNumber (claimFor a)) ys f) r ≡ gives a) × TrueAnswer (settingIn net) (arcsIn net) a

@@ -1,29 +1,45 @@
 // Judging two files at a point.
 ghost use mathlib.Core.Path.{_≡_};
-ghost use Rattle.session.specs.Session.{said};
+ghost use Rattle.checks.specs.Held.{handed};
+ghost use Rattle.acceptance.specs.Acceptance.{settingIn};
+ghost use Rattle.state.specs.Answers.{said};
 ghost use Rattle.judging.specs.Judging.{judged};
+use checks::Opening;
 use format::annotation_file::annotation_check;
 use format::network_file;
+use points::Point;
 use running::annotation_steps;
 use running::read_all;
-use session::Answer;
-use session::State;
+use state::Answer;
+use state::State;
 
 mod running;
 
+// What the header of a network file hands to opening.
+fn header_of(net: &[u8]) -> Opening
+    ensures { λ r. ⌜ handed r ≡ settingIn (now (net .entry)) ⌝ }
+{
+    let question = network_file::question(net) as u32;
+    let n = network_file::vertices(net) as u32;
+    let s = network_file::source(net) as u32;
+    let t = network_file::sink(net) as u32;
+    Opening {
+        question: question,
+        n: n,
+        s: s,
+        t: t,
+    }
+}
+
 // What the two files come out as at the point: a value, none, or the first refusal.
-pub fn judge(net: &[u8], ann: &[u8], point: u32) -> Answer
+pub fn judge(net: &[u8], ann: &[u8], point: Point) -> Answer
     ensures { λ r. ⌜ said r ≡ judged (now (net .entry)) (now (ann .entry)) point ⌝ }
 {
     let layout = network_file::network_check(net);
     if layout != 0 {
         return Answer::Refused(layout);
     }
-    let question = network_file::question(net) as u32;
-    let n = network_file::vertices(net);
-    let s = network_file::source(net) as u32;
-    let t = network_file::sink(net) as u32;
-    let opened = State::open(question, n as u32, s, t, point);
+    let opened = State::open(header_of(net), point);
     let at_opening = opened.why;
     if at_opening != 0 {
         return Answer::Refused(at_opening);
@@ -33,6 +49,7 @@ pub fn judge(net: &[u8], ann: &[u8], point: u32) -> Answer
     if at_reading != 0 {
         return Answer::Refused(at_reading);
     }
+    let n = network_file::vertices(net);
     let why = annotation_check(ann, n);
     if why != 0 {
         return Answer::Refused(why);

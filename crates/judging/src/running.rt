@@ -1,28 +1,29 @@
 // The steps that a file holds, run in file order until one is refused. The node numbers and the balances stay in place.
 ghost use mathlib.Core.Path.{_≡_};
 ghost use mathlib.Core.List.{map};
-ghost use Rattle.session.specs.Session.{said, joined, zeros};
+ghost use Rattle.format.specs.Files.{arcsIn, numbersIn, loadsIn};
+ghost use Rattle.state.specs.Answers.{said};
+ghost use Rattle.session.specs.Session.{joined, zeros};
 ghost use Rattle.runs.specs.Run.{read, number, repeat, run};
 ghost use Rattle.runs.specs.Exchange.{outcome};
-ghost use Rattle.format.specs.Files.{arcsIn, numbersIn, loadsIn};
-ghost use Rattle.judging.specs.Going.{Goes, stepsIn};
+ghost use Rattle.judging.specs.RunsTo.{RunsTo, stepsIn};
 use format::annotation_file;
 use format::network_file;
-use session::Answer;
-use session::State;
-use session::Turn;
-use session::move_amount;
+use state::Answer;
+use state::State;
+use state::Turn;
+use state::arrays::move_amount;
 
 // Reads the arcs of a network file.
 pub(crate) fn read_all(x: State, file: &[u8]) -> Turn
-    ensures { λ r. ⌜ Goes (joined zeros zeros x) (map read (arcsIn (now (file .entry)))) (r .why) (joined zeros zeros (r .state)) ⌝ }
+    ensures { λ r. ⌜ RunsTo (joined zeros zeros x) (map read (arcsIn (now (file .entry)))) (r .why) (joined zeros zeros (r .state)) ⌝ }
 {
     let m = network_file::count(file) as usize;
     let mut y = x;
     let mut e = 0;
     while e < m {
         let arc = network_file::arc(file, e);
-        let turn = y.read_channel(arc.tail, arc.head, arc.weight);
+        let turn = y.read_channel(arc);
         let why = turn.why;
         if why != 0 {
             return turn;
@@ -35,7 +36,7 @@ pub(crate) fn read_all(x: State, file: &[u8]) -> Turn
 
 // The n node numbers of an annotation file.
 fn number_all(x: State, potentials: &mut [i32; 255], file: &[u8], n: u8) -> Turn
-    ensures { λ r. ⌜ Goes (joined (now (potentials .entry)) zeros x) (map number (numbersIn n (now (file .entry)))) (r .why) (joined (now (potentials .exit)) zeros (r .state)) ⌝ }
+    ensures { λ r. ⌜ RunsTo (joined (now (potentials .entry)) zeros x) (map number (numbersIn n (now (file .entry)))) (r .why) (joined (now (potentials .exit)) zeros (r .state)) ⌝ }
 {
     let m = n as usize;
     let mut y = x;
@@ -62,19 +63,19 @@ fn repeat_all(
     file: &[u8],
     n: u8,
 ) -> Turn
-    ensures { λ r. ⌜ Goes (joined (now (potentials .entry)) (now (balances .entry)) x) (map repeat (loadsIn n (now (file .entry)))) (r .why) (joined (now (potentials .entry)) (now (balances .exit)) (r .state)) ⌝ }
+    ensures { λ r. ⌜ RunsTo (joined (now (potentials .entry)) (now (balances .entry)) x) (map repeat (loadsIn n (now (file .entry)))) (r .why) (joined (now (potentials .entry)) (now (balances .exit)) (r .state)) ⌝ }
 {
     let m = annotation_file::count(file) as usize;
     let mut y = x;
     let mut e = 0;
     while e < m {
         let l = annotation_file::load(file, n, e);
-        let turn = y.repeat_channel(potentials, l.arc.tail, l.arc.head, l.arc.weight, l.amount);
+        let turn = y.repeat_channel(potentials, l.arc, l.amount);
         let why = turn.why;
         if why != 0 {
             return turn;
         }
-        move_amount(balances, l.arc.tail, l.arc.head, l.amount);
+        move_amount(balances, l.arc, l.amount);
         y = turn.state;
         e += 1;
     }
@@ -112,5 +113,5 @@ pub(crate) fn annotation_steps(x: State, file: &[u8], n: u8) -> Answer
     if at_finish != 0 {
         return Answer::Refused(at_finish);
     }
-    last.answer()
+    last.answer(balances)
 }

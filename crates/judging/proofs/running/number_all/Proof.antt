@@ -9,16 +9,16 @@ use mir.Syntax.{w32}
 use borrow.Author.Needs.{needs}
 use Rattle.words.proofs.Signs.{back}
 use Rattle.session.specs.Session.{joined, zeros}
-use Rattle.session.specs.Turns.{numberTurn}
-use Rattle.session.proofs.Turns.{number-refused, number-accepted}
+use Rattle.state.specs.Turns.{numberTurn}
+use Rattle.session.proofs.TurnsToSteps.{number-refused, number-accepted}
 use Rattle.runs.specs.Run.{number}
 use Rattle.format.specs.Files.{numberIn}
-use Rattle.judging.proofs.Turns.{Going, going-none, going-on, gone, all-gone}
+use Rattle.judging.proofs.StepLoops.{AcceptedTo, none-yet, one-accepted, one-refused, all-accepted}
 use Rattle.judging.proofs.running.number_all.Statement.{statement}
 use Rattle.judging.proofs.running.number_all.Tie as tie
 
 abbrev Inv-loop : tie.InvT-loop
-Inv-loop potentials₀ file n m y₀ v₀ potentials y v = Going number (numberIn file) (joined potentials₀ zeros y₀) m (joined potentials zeros y) v
+Inv-loop potentials₀ file n m y₀ v₀ potentials y v = AcceptedTo number (numberIn file) (joined potentials₀ zeros y₀) m (joined potentials zeros y) v
 
 abbrev μ-loop : tie.MeasureT-loop
 μ-loop potentials₀ file n m y₀ v₀ potentials y v = m - v
@@ -26,35 +26,39 @@ abbrev μ-loop : tie.MeasureT-loop
 loop-holds : tie.Need-loop-holds Inv-loop μ-loop
 loop-holds c =
     let s = c .before .args in
-    going-none number (numberIn (s .file .now)) (joined (s .potentials .now) zeros (s .x)) (s .n)
+    none-yet number (numberIn (s .file .now)) (joined (s .potentials .now) zeros (s .x)) (s .n)
 
+-- t is where the node number is given, l where the loop stands, s where the arguments are
 returns : tie.Need-returns Inv-loop μ-loop
 returns c =
-    let s = c .before .before .before .before .before .before .args in
-    let l = c .before .before .before .before .loop in
-    let found = c .before .before .number in
-    let turn = c .before .node-number in
+    let t = c .before in
+    let turn = t .node-number in
+    let found = t .before .number in
+    let l = t .before .before .before .loop in
+    let s = t .before .before .before .before .before .args in
     let y = joined (l .potentials) zeros (l .y) in
-    gone number (numberIn (s .file .now)) (joined (s .potentials .now) zeros (s .x)) (s .n) y (l .v) (l .inv) (c .before .before .before .loop-test .taken) (turn .result .why) _
-    (number-refused y (numberIn (s .file .now) (l .v)) (turn .result) (turn .ensures ∙ ap (numberTurn (l .y)) (back w32 (found .result) (found .ok) ∙ found .ensures)) (c .if1 .taken)) (c .if1 .taken)
+    let same = back w32 (found .result) (found .ok) ∙ found .ensures in
+    one-refused number (numberIn (s .file .now)) (joined (s .potentials .now) zeros (s .x)) (s .n) y (l .v) (l .inv) (t .before .before .loop-test .taken) (turn .result .why) _
+    (number-refused y (numberIn (s .file .now) (l .v)) (turn .result) (turn .ensures ∙ ap (numberTurn (l .y)) same) (c .if1 .taken)) (c .if1 .taken)
 
 loop-again : tie.Need-loop-again Inv-loop μ-loop
 loop-again c =
-    let s = c .before .before .before .before .before .before .before .before .before .args in
-    let l = c .before .before .before .before .before .before .before .loop in
-    let found = c .before .before .before .before .before .number in
-    let turn = c .before .before .before .before .node-number in
+    let t = c .before .before .before .before in
+    let turn = t .node-number in
+    let found = t .before .number in
+    let l = t .before .before .before .loop in
+    let s = t .before .before .before .before .before .args in
     let y = joined (l .potentials) zeros (l .y) in
     let same = back w32 (found .result) (found .ok) ∙ found .ensures in
-    going-on number (numberIn (s .file .now)) (joined (s .potentials .now) zeros (s .x)) (s .n) y (l .v) (l .inv) (c .before .before .before .before .before .before .loop-test .taken) _
+    one-accepted number (numberIn (s .file .now)) (joined (s .potentials .now) zeros (s .x)) (s .n) y (l .v) (l .inv) (t .before .before .loop-test .taken) _
     (number-accepted y (numberIn (s .file .now) (l .v)) (turn .result) (turn .ensures ∙ ap (numberTurn (l .y)) same) _
-    (c .before .store-number .ensures ∙ ap (λ (z : ℤ). set (l .potentials) (l .y .given) z) same) (c .before .before .before .if1 .left))
+    (c .before .store-number .ensures ∙ ap (λ (z : ℤ). set (l .potentials) (l .y .numbering .given) z) same) (c .before .before .before .if1 .left))
 
 returns-2 : tie.Need-returns-2 Inv-loop μ-loop
 returns-2 c =
     let s = c .before .before .before .args in
     let l = c .before .loop in
-    all-gone number (numberIn (s .file .now)) (joined (s .potentials .now) zeros (s .x)) (s .n) (joined (l .potentials) zeros (l .y)) (l .v) (l .inv) (c .loop-test .left)
+    all-accepted number (numberIn (s .file .now)) (joined (s .potentials .now) zeros (s .x)) (s .n) (joined (l .potentials) zeros (l .y)) (l .v) (l .inv) (c .loop-test .left)
 
 pub number-all-spec : {M : Type 1} → statement M
 number-all-spec =

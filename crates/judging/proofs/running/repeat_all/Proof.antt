@@ -8,19 +8,19 @@ use borrow.Author.Needs.{needs}
 use Rattle.prelude.specs.Lists.{at}
 use Rattle.network.specs.Network.{Load}
 use Rattle.session.specs.Session.{joined}
-use Rattle.session.specs.Steps.{moved}
-use Rattle.session.specs.Turns.{repeatTurn}
-use Rattle.session.proofs.Turns.{repeat-refused, repeat-accepted}
+use Rattle.state.specs.Arrays.{moved}
+use Rattle.state.specs.Turns.{repeatTurn}
+use Rattle.session.proofs.TurnsToSteps.{repeat-refused, repeat-accepted}
 use Rattle.runs.specs.Run.{repeat}
-use Rattle.format.specs.Bytes.{listTo}
+use Rattle.prelude.specs.Lists.{listTo}
 use Rattle.format.specs.Files.{loadIn}
-use Rattle.judging.specs.Going.{Goes}
-use Rattle.judging.proofs.Turns.{Going, going-none, going-on, gone, all-gone}
+use Rattle.judging.specs.RunsTo.{RunsTo}
+use Rattle.judging.proofs.StepLoops.{AcceptedTo, none-yet, one-accepted, one-refused, all-accepted}
 use Rattle.judging.proofs.running.repeat_all.Statement.{statement}
 use Rattle.judging.proofs.running.repeat_all.Tie as tie
 
 abbrev Inv-loop : tie.InvT-loop
-Inv-loop potentials balances₀ file n m y₀ e₀ balances y e = Going repeat (loadIn n file) (joined potentials balances₀ y₀) m (joined potentials balances y) e
+Inv-loop potentials balances₀ file n m y₀ e₀ balances y e = AcceptedTo repeat (loadIn n file) (joined potentials balances₀ y₀) m (joined potentials balances y) e
 
 abbrev μ-loop : tie.MeasureT-loop
 μ-loop potentials balances₀ file n m y₀ e₀ balances y e = m - e
@@ -28,41 +28,46 @@ abbrev μ-loop : tie.MeasureT-loop
 loop-holds : tie.Need-loop-holds Inv-loop μ-loop
 loop-holds c =
     let s = c .before .before .args in
-    going-none repeat (loadIn (s .n) (s .file .now)) (joined (s .potentials .now) (s .balances .now) (s .x)) (c .count .result)
+    none-yet repeat (loadIn (s .n) (s .file .now)) (joined (s .potentials .now) (s .balances .now) (s .x)) (c .count .result)
 
+-- t is where the arc is repeated, l where the loop stands, k where the count is found, s where the arguments are
 returns : tie.Need-returns Inv-loop μ-loop
 returns c =
-    let s = c .before .before .before .before .before .before .before .args in
-    let asked = c .before .before .before .before .before .count in
-    let l = c .before .before .before .before .loop in
-    let turn = c .before .repeat-channel in
+    let t = c .before in
+    let turn = t .repeat-channel in
+    let l = t .before .before .before .loop in
+    let k = t .before .before .before .before in
+    let s = k .before .before .args in
     let ys = s .potentials .now in
     let x = joined ys (s .balances .now) (s .x) in
     let y = joined ys (l .balances) (l .y) in
-    subst (λ (m : ℕ). Goes x (map repeat (listTo m (loadIn (s .n) (s .file .now)))) (turn .result .why) (joined ys (l .balances) (turn .result .state))) (asked .ensures)
-    (gone repeat (loadIn (s .n) (s .file .now)) x (asked .result) y (l .e) (l .inv) (c .before .before .before .loop-test .taken) (turn .result .why) _
-    (repeat-refused y (loadIn (s .n) (s .file .now) (l .e)) (turn .result) (turn .ensures ∙ ap (repeatTurn (l .y) (at ys)) (c .before .before .load .ensures)) (c .if1 .taken)) (c .if1 .taken))
+    subst (λ (m : ℕ). RunsTo x (map repeat (listTo m (loadIn (s .n) (s .file .now)))) (turn .result .why) (joined ys (l .balances) (turn .result .state))) (k .count .ensures)
+    (one-refused repeat (loadIn (s .n) (s .file .now)) x (k .count .result) y (l .e) (l .inv) (t .before .before .loop-test .taken) (turn .result .why) _
+    (repeat-refused y (loadIn (s .n) (s .file .now) (l .e)) (turn .result) (turn .ensures ∙ ap (repeatTurn (l .y) (at ys)) (t .before .load .ensures)) (c .if1 .taken)) (c .if1 .taken))
 
 loop-again : tie.Need-loop-again Inv-loop μ-loop
 loop-again c =
-    let s = c .before .before .before .before .before .before .before .before .before .before .args in
-    let l = c .before .before .before .before .before .before .before .loop in
-    let found = c .before .before .before .before .before .load in
-    let turn = c .before .before .before .before .repeat-channel in
+    let t = c .before .before .before .before in
+    let turn = t .repeat-channel in
+    let found = t .before .load in
+    let l = t .before .before .before .loop in
+    let k = t .before .before .before .before in
+    let s = k .before .before .args in
     let ys = s .potentials .now in
     let y = joined ys (l .balances) (l .y) in
-    going-on repeat (loadIn (s .n) (s .file .now)) (joined ys (s .balances .now) (s .x)) (c .before .before .before .before .before .before .before .before .count .result) y (l .e) (l .inv) (c .before .before .before .before .before .before .loop-test .taken) _
+    one-accepted repeat (loadIn (s .n) (s .file .now)) (joined ys (s .balances .now) (s .x)) (k .count .result) y (l .e) (l .inv) (t .before .before .loop-test .taken) _
     (repeat-accepted y (loadIn (s .n) (s .file .now) (l .e)) (turn .result) (turn .ensures ∙ ap (repeatTurn (l .y) (at ys)) (found .ensures)) _
     (c .before .move-amount .ensures ∙ ap (λ (b : Load). moved (l .balances) (b .arc .tail) (b .arc .head) (b .amount)) (found .ensures)) (c .before .before .before .if1 .left))
 
 returns-2 : tie.Need-returns-2 Inv-loop μ-loop
 returns-2 c =
-    let s = c .before .before .before .before .args in
     let l = c .before .loop in
+    let k = c .before .before in
+    let s = k .before .before .args in
     let ys = s .potentials .now in
     let x = joined ys (s .balances .now) (s .x) in
-    subst (λ (m : ℕ). Goes x (map repeat (listTo m (loadIn (s .n) (s .file .now)))) 0 (joined ys (l .balances) (l .y))) (c .before .before .count .ensures)
-    (all-gone repeat (loadIn (s .n) (s .file .now)) x (c .before .before .count .result) (joined ys (l .balances) (l .y)) (l .e) (l .inv) (c .loop-test .left))
+    subst (λ (m : ℕ). RunsTo x (map repeat (listTo m (loadIn (s .n) (s .file .now)))) 0 (joined ys (l .balances) (l .y))) (k .count .ensures)
+    (all-accepted repeat (loadIn (s .n) (s .file .now)) x (k .count .result) (joined ys (l .balances) (l .y)) (l .e) (l .inv) (c .loop-test .left))
 
 pub repeat-all-spec : {M : Type 1} → statement M
 repeat-all-spec =

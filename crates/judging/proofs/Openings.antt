@@ -1,0 +1,35 @@
+-- The checks of opening at a point hold exactly where opening accepts the setting and the point.
+-- Assumes nothing.
+use mathlib.Core.List.{[], _∷_}
+use lib.Dec.{T, ltb→lt, lt→ltb}
+use Rattle.prelude.specs.Checks.{_unless_, Hold}
+use Rattle.prelude.proofs.Settle.{hold-append, hold-left, hold-right}
+use Rattle.network.specs.Question.{Setting}
+use Rattle.network.specs.Tests.{openingChecks}
+use Rattle.network.proofs.Allowed.{opening-rule}
+use Rattle.points.specs.Points.{IsPoint, pointOk}
+use Rattle.points.specs.declared.Point.{Point}
+use Rattle.state.specs.State.{openChecks}
+use Rattle.runs.specs.Exchange.{Opens}
+
+-- check 4
+point-rule : (r : Point) → T (pointOk r) → IsPoint r
+point-rule r t = ltb→lt _ _ t
+
+point-test : (r : Point) → IsPoint r → T (pointOk r)
+point-test r h = lt→ltb _ _ h
+
+module _ (st : Setting) (r : Point) where
+  pub opens-rule : Hold (openChecks st r) → Opens st r
+  opens-rule h = record {
+    opened = opening-rule st (hold-left (openingChecks st) (4 unless pointOk r ∷ []) h);
+    point = point-rule r (hold-right (openingChecks st) (4 unless pointOk r ∷ []) h .0);
+  }
+
+  -- checks 1 to 3 hold, and the point is one
+  pub opens-held : Hold (openingChecks st) → IsPoint r → Hold (openChecks st r)
+  opens-held h p = hold-append (openingChecks st) (4 unless pointOk r ∷ []) h (point-test r p, tt)
+
+  -- the checks of opening but for that of the point
+  pub opening-held : Hold (openChecks st r) → Hold (openingChecks st)
+  opening-held h = hold-left (openingChecks st) (4 unless pointOk r ∷ []) h
