@@ -1,5 +1,4 @@
 pub mod Openings
-pub mod AcceptedFiles
 pub mod StepLoops
 pub mod AnnotationReturns
 pub mod Promises

@@ -1,7 +1,6 @@
 -- The checks of opening at a point hold exactly where opening accepts the setting and the point.
 -- Assumes nothing.
 use mathlib.Core.List.{[], _∷_}
-use lib.Dec.{T, ltb→lt, lt→ltb}
 use Rattle.prelude.specs.Checks.{_unless_, Hold}
 use Rattle.prelude.proofs.Settle.{hold-append, hold-left, hold-right}
 use Rattle.network.specs.Question.{Setting}
@@ -9,15 +8,9 @@ use Rattle.network.specs.Tests.{openingChecks}
 use Rattle.network.proofs.Allowed.{opening-rule}
 use Rattle.points.specs.Points.{IsPoint, pointOk}
 use Rattle.points.specs.declared.Point.{Point}
+use Rattle.points.proofs.Prints.{point-rule, point-test}
 use Rattle.state.specs.State.{openChecks}
 use Rattle.runs.specs.Exchange.{Opens}
-
--- check 4
-point-rule : (r : Point) → T (pointOk r) → IsPoint r
-point-rule r t = ltb→lt _ _ t
-
-point-test : (r : Point) → IsPoint r → T (pointOk r)
-point-test r h = lt→ltb _ _ h
 
 module _ (st : Setting) (r : Point) where
   pub opens-rule : Hold (openChecks st r) → Opens st r
@@ -31,5 +24,5 @@ module _ (st : Setting) (r : Point) where
   opens-held h p = hold-append (openingChecks st) (4 unless pointOk r ∷ []) h (point-test r p, tt)
 
   -- the checks of opening but for that of the point
-  pub opening-held : Hold (openChecks st r) → Hold (openingChecks st)
-  opening-held h = hold-left (openingChecks st) (4 unless pointOk r ∷ []) h
+  pub without-point : Hold (openChecks st r) → Hold (openingChecks st)
+  without-point h = hold-left (openingChecks st) (4 unless pointOk r ∷ []) h

@@ -32,8 +32,8 @@ use Rattle.runs.proofs.Meets.{gives-held}
 use Rattle.runs.proofs.WrongAnswers.{wrong-held}
 use Rattle.runs.proofs.Promises.{first-broken, certificates-pass, few-wrong}
 use Rattle.judging.specs.Judging.{numbersFor, loadsFor, networkChecks, annotationChecks, judged, JudgedWrong}
-use Rattle.judging.proofs.AcceptedFiles.{accepted-parts, file-opened, file-readable}
-use Rattle.judging.proofs.Openings.{opens-rule, opens-held, opening-held}
+use Rattle.acceptance.proofs.AcceptedFiles.{layout-held, opening-held, reading-held, file-opened, file-allowed, file-few}
+use Rattle.judging.proofs.Openings.{opens-rule, opens-held, without-point}
 use Rattle.judging.specs.Promises.{JudgedBySteps, FewJudgedWrong, OnlyAccepted, CertificatesJudged}
 
 -- ---- the list read of an exchange
@@ -91,9 +91,7 @@ module _ (net ann : List ℕ) (r : Point) where
 
 pub judged-by-steps : JudgedBySteps
 judged-by-steps net ann r h ha hr =
-    let parts = accepted-parts net h in
-    by-steps net ann r (parts .layout-held) (opens-held (settingIn net) r (parts .opening-held) hr)
-    (parts .reading-held) ha
+    by-steps net ann r (layout-held net h) (opens-held (settingIn net) r (opening-held net h) hr) (reading-held net h) ha
 
 pub only-accepted : OnlyAccepted
 only-accepted net ann r a e =
@@ -103,7 +101,7 @@ only-accepted net ann r a e =
     hold-append (networkLayout net) (openingChecks (settingIn net) ++ readingAll (settingIn net) 0 (arcsIn net))
     (hold-left (networkLayout net) (opens net ann r ++ reads net ann r) n)
     (hold-append (openingChecks (settingIn net)) (reads net ann r)
-    (opening-held (settingIn net) r (hold-left (opens net ann r) (reads net ann r) rest))
+    (without-point (settingIn net) r (hold-left (opens net ann r) (reads net ann r) rest))
     (hold-right (opens net ann r) (reads net ann r) rest))
 
 -- ---- how few points mislead
@@ -149,8 +147,8 @@ claim-byte none = omega arith
 pub certificates-judged : CertificatesJudged
 certificates-judged net ys f a r h one-each signed fit d c hr =
     let opened = file-opened net h in
-    let readable = file-readable net h in
-    let few = readable .few in
+    let few = file-few net h in
+    let readable : Readable (settingIn net) (arcsIn net) = record { allowed = file-allowed net h; few = few } in
     let back = annotation-round-trip (claimNumber (claimFor a)) ys f (claim-byte a) signed (omega (arith, perm-length d, length-map f (λ l. l .arc))) fit in
     let ann : List ℕ = annotationFile (claimNumber (claimFor a)) ys f in (
       judged-by-steps net ann r h (subst (λ (n : ℕ). Hold (annotationLayout n ann)) one-each (back .passes)) hr

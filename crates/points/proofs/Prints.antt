@@ -4,7 +4,7 @@ use mathlib.Core.Path.{_≡_, refl, sym, _∙_, ap}
 use mathlib.Core.List.{List, [], _∷_, _++_, map}
 use Prim.Native.Nat.{ℕ, _<_}
 use native.Mathlib.Omega.{arith}
-use lib.Dec.{T, eqb→eq, eqb-refl}
+use lib.Dec.{T, eqb→eq, eqb-refl, ltb→lt, lt→ltb}
 use lib.ListN.{length, length-map}
 use Rattle.prelude.specs.Lists.{Every, Distinct, Perm, AtMost}
 use Rattle.prelude.proofs.Lists.{every-map}
@@ -13,7 +13,7 @@ use Rattle.field.specs.Promises.{misleading}
 use Rattle.field.proofs.Promises.{few-bad}
 use Rattle.field.proofs.Step.{fingerprint-snoc}
 use Rattle.network.specs.Network.{Arc, key}
-use Rattle.points.specs.Points.{IsPoint, printOf, emptyPrint, extendPrint, samePrint, misleadingPoints}
+use Rattle.points.specs.Points.{IsPoint, pointOk, printOf, emptyPrint, extendPrint, samePrint, misleadingPoints}
 use Rattle.points.specs.declared.Point.{Point}
 use Rattle.points.specs.declared.Print.{Print}
 
@@ -31,7 +31,14 @@ print-more x l e = ap as-print (sym (fingerprint-snoc (x .r) (key e) (map key l)
     keys-snoc [] = refl
     keys-snoc (d ∷ l) = ap (λ (ks : List ℕ). key d ∷ ks) (keys-snoc l)
 
--- the test tells equal fingerprints
+-- check 4: the test tells the points
+pub point-rule : (x : Point) → T (pointOk x) → IsPoint x
+point-rule x t = ltb→lt (x .r) p t
+
+pub point-test : (x : Point) → IsPoint x → T (pointOk x)
+point-test x h = lt→ltb (x .r) p h
+
+-- check 14: the test tells equal fingerprints
 pub same-print : (f g : Print) → T (samePrint f g) → f ≡ g
 same-print f g t = ap as-print (eqb→eq (f .residue) (g .residue) t)
 

@@ -3,7 +3,6 @@
 use mathlib.Core.Path.{_≡_, refl, _∙_, ap, ap₂}
 use mathlib.Core.List.{List, [], _∷_}
 use native.Mathlib.Omega.{arith}
-use lib.Dec.{lt→ltb}
 use Rattle.prelude.specs.Checks.{_unless_, Hold}
 use Rattle.prelude.proofs.Settle.{settled, hold-append}
 use Rattle.network.specs.Question.{Setting, Opened, value, none}
@@ -11,6 +10,7 @@ use Rattle.network.specs.Tests.{openingChecks}
 use Rattle.network.proofs.Allowed.{opening-test}
 use Rattle.points.specs.Points.{pointOk}
 use Rattle.points.specs.declared.Point.{Point}
+use Rattle.points.proofs.Prints.{point-test}
 use Rattle.points.specs.declared.Print.{Print}
 use Rattle.points.proofs.Prints.{print-none}
 use Rattle.state.specs.Answers.{Said, accepted, gives, refused, said}
@@ -40,7 +40,7 @@ run-agrees st r o x g (a ∷ steps) =
     ∙ ap₂ _∷_ (said-back (reply (agreeAt r) st x a)) (run-agrees st r o (next st x a) (invariant-next st x g a) steps)
 
 opens-held : (st : Setting) (r : Point) → Opens st r → Hold (openChecks st r)
-opens-held st r h = hold-append (openingChecks st) (4 unless pointOk r ∷ []) (opening-test st (h .opened)) (lt→ltb _ _ (h .point), tt)
+opens-held st r h = hold-append (openingChecks st) (4 unless pointOk r ∷ []) (opening-test st (h .opened)) (point-test r (h .point), tt)
 
 -- what opening hands back where it accepts is the session of the empty lists
 pub runs-agree : (st : Setting) (r : Point) → Opens st r → (steps : List Step) → runFrom st r steps ≡ replies (agreeAt r) st (during []) steps
