@@ -26,7 +26,7 @@ use Rattle.acceptance.specs.Acceptance.{settingIn}
 use Rattle.state.specs.Answers.{Said, accepted, gives, refused}
 use Rattle.state.specs.State.{openChecks}
 use Rattle.runs.specs.Run.{Step, read, end, claim, number, repeat, finish, runFrom, listFrom, listRead, Wrong, WrongAt}
-use Rattle.runs.specs.Exchange.{exchange, outcome, sumsAt, annotationRules, finalRules}
+use Rattle.runs.specs.Exchange.{exchange, outcome, sumsAt, annotationRules, finalRules, Readable}
 use Rattle.runs.proofs.FirstAndLast.{no-answer}
 use Rattle.runs.proofs.Meets.{gives-held}
 use Rattle.runs.proofs.WrongAnswers.{wrong-held}

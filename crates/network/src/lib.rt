@@ -11,8 +11,11 @@ pub struct Record {
 
 // The limits: the most vertices, the most arcs that are read, the greatest weight, and the largest size of a potential.
 pub const MOST_VERTICES: u32 = 255;
+
 pub const MOST_ARCS: u32 = 4096;
+
 pub const MOST_WEIGHT: u32 = 32767;
+
 pub const MOST_POTENTIAL: i32 = 8322818;
 
 // The record whose four bytes, read as one number, are the word.
