@@ -2,7 +2,7 @@
 -- Assumes nothing.
 use borrow.Author.Needs.{needs}
 use denote.Ref.{now}
-use Rattle.checks.specs.Setting.{asked}
+use Rattle.checks.specs.Held.{asked}
 use Rattle.checks.proofs.Laws.{is-path}
 use Rattle.solver.proofs.CertifyCases.{not-path, begun, ended, turned-away}
 use Rattle.solver.proofs.certify.Statement.{statement}

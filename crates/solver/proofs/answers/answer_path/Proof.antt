@@ -8,7 +8,7 @@ use borrow.Author.Needs.{needs}
 use lib.ListN.{length, take, drop}
 use denote.Ref.{now}
 use Rattle.network.specs.Question.{Setting}
-use Rattle.checks.specs.Setting.{asked}
+use Rattle.checks.specs.Held.{asked}
 use Rattle.engine.specs.Residual.{entry, zeroList}
 use Rattle.engine.specs.declared.Sent.{Sent}
 use Rattle.engine.proofs.LentParts.{zero-list-length, lent-again, back-within, back-length}

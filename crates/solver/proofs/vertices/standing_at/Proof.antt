@@ -5,7 +5,7 @@ use Prim.Native.Nat.{ℕ}
 use borrow.Author.Needs.{needs}
 use Rattle.network.specs.Question.{shortestPath, maximumFlow, assignment}
 use Rattle.network.specs.Tests.{questionOf}
-use Rattle.checks.specs.Setting.{asked}
+use Rattle.checks.specs.Held.{asked}
 use Rattle.solver.specs.Instance.{single}
 use Rattle.checks.proofs.Laws.{is-path, is-flow, is-assignment}
 use Rattle.solver.proofs.VertexLists.{stands}

@@ -4,9 +4,9 @@ use mathlib.Core.Path.{sym, subst}
 use mathlib.Core.List.{List}
 use Prim.Native.Nat.{ℕ}
 use borrow.Author.Needs.{needs}
-use Rattle.checks.specs.Setting.{asked}
+use Rattle.checks.specs.Held.{asked}
 use Rattle.checks.proofs.Laws.{is-path, is-flow, is-assignment}
-use Rattle.solver.specs.Certify.{recordArcs, Solution}
+use Rattle.solver.specs.Certify.{wordArcs, Solution}
 use Rattle.solver.proofs.Solutions.{flow-solution, assignment-solution, no-assignment-solution}
 use Rattle.solver.proofs.EngineInputs.{marks-writable, potentials-writable, cleared}
 use Rattle.solver.proofs.answers.answer_run.Statement.{statement}
@@ -53,7 +53,7 @@ returns-3 c =
     let met-at = c .before .before .before .before .before .before .before .before .before .met in
     let if2-at = c .before .before .before .before .before .before .before .before .if2 in
     let write3-at = c .before .before .before .before .before .write3 in
-    subst (λ (xs : List ℕ). Solution (asked (s .args .st)) (recordArcs (s .args .records .now)) (write3-at .last .1 .1 .0) xs 2)
+    subst (λ (xs : List ℕ). Solution (asked (s .args .st)) (wordArcs (s .args .records .now)) (write3-at .last .1 .1 .0) xs 2)
     (sym (cleared (run-at .ensures) (c .before .before .clear-amounts .ensures)))
     (no-assignment-solution (s .pre .0 .0)
     (is-assignment (s .args .st .question) (λ e. s .pre .0 .1 (is-path (s .args .st .question) e)) (if1-at .left))
