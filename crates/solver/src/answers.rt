@@ -12,7 +12,6 @@ use super::vertices::met;
 use super::vertices::stand;
 use super::vertices::write;
 use checks::HeldSetting;
-use checks::rows::question_of;
 use engine::Sent;
 use engine::clearing::clear_amounts;
 
@@ -33,7 +32,7 @@ fn run(
     let m = records.len();
     let mut arcs = [0u64; 4096];
     let mut left = [0u32; 255];
-    pack(question_of(st.question as u32), records, &mut arcs[..m]);
+    pack(st, records, &mut arcs[..m]);
     stand(st, false, &mut left[..n]);
     stand(st, true, need);
     engine::solve(&arcs[..m], x, pi, &mut left[..n], need, key);
@@ -151,7 +150,7 @@ fn answer_path(
     let t = st.t as usize;
     let m = records.len();
     let mut arcs = [0u64; 4096];
-    pack(question_of(st.question as u32), records, &mut arcs[..m]);
+    pack(st, records, &mut arcs[..m]);
     stand(st, false, left);
     let sent = engine::send(&arcs[..m], t, 1, amounts, left, key);
     match sent {

@@ -4,6 +4,7 @@ ghost use mathlib.Core.List.{map};
 ghost use lib.ListN.{length};
 ghost use Rattle.prelude.specs.Lists.{all};
 ghost use Rattle.network.specs.Network.{arcHeld};
+ghost use Rattle.network.specs.Question.{asks};
 ghost use Rattle.checks.specs.Held.{asked, questionHeld};
 ghost use Rattle.solver.specs.Certify.{admissible, recordOk, capacityFor, packedFor};
 use checks::HeldSetting;
@@ -11,6 +12,7 @@ use checks::Opening;
 use checks::reading::arc_check;
 use checks::reading::opening_check;
 use checks::rows::Question;
+use checks::rows::question_of;
 use checks::rows::unit_cost;
 use network::MOST_ARCS;
 use network::Record;
@@ -41,10 +43,11 @@ fn packed_arc(question: Question, word: u32) -> u64
 }
 
 // The packed arcs of the records, in order.
-pub(crate) fn pack(question: Question, records: &[u32], arcs: &mut [u64])
+pub(crate) fn pack(st: HeldSetting, records: &[u32], arcs: &mut [u64])
     requires { ⌜ length (now arcs) ≡ length (now records) ⌝ }
-    ensures { λ _. ⌜ now (arcs .exit) ≡ map (packedFor (questionHeld question)) (now (records .entry)) ⌝ }
+    ensures { λ _. ⌜ now (arcs .exit) ≡ map (packedFor (asks (asked st))) (now (records .entry)) ⌝ }
 {
+    let question = question_of(st.question as u32);
     let mut e = 0;
     while e < records.len() {
         arcs[e] = packed_arc(question, records[e]);

@@ -1,68 +1,47 @@
--- `solver::answers::answer_run` meets its contract: what the engine gave back is a certificate, of a flow, of an assignment or of none.
+-- `solver::answers::answer_assignment` meets its contract: what the engine gave back is a certificate of an assignment, or of none.
 -- Assumes nothing.
 use mathlib.Core.Path.{sym, subst}
 use mathlib.Core.List.{List}
 use Prim.Native.Nat.{ℕ}
 use borrow.Author.Needs.{needs}
+use Rattle.network.specs.Network.{wordArcs}
 use Rattle.checks.specs.Held.{asked}
-use Rattle.checks.proofs.Laws.{is-path, is-flow, is-assignment}
-use Rattle.solver.specs.Certify.{wordArcs, Solution}
-use Rattle.solver.proofs.Solutions.{flow-solution, assignment-solution, no-assignment-solution}
+use Rattle.solver.specs.Certify.{Solution}
+use Rattle.solver.proofs.Solutions.{assignment-solution, no-assignment-solution}
 use Rattle.solver.proofs.EngineInputs.{marks-writable, potentials-writable, cleared}
-use Rattle.solver.proofs.answers.answer_run.Statement.{statement}
-use Rattle.solver.proofs.answers.answer_run.Tie as tie
+use Rattle.solver.proofs.answers.answer_assignment.Statement.{statement}
+use Rattle.solver.proofs.answers.answer_assignment.Tie as tie
+
+abbrev start : tie.After-run → tie.Start
+start c = c .before .before .before .before .before .before .before .before .before .before
 
 write-requires : tie.Need-write-requires
-write-requires c κs =
-    let run-at = c .before .before .before .before .before .before .before .before .before .before .before .run in
-    marks-writable (run-at .ensures) (c .before .before .before .before .before .before .before .before .before .before .before .before .before .before .before .before .before .before .before .before .before .pre .1 .0 .1)
+write-requires c κs = let r = c .before .before .before .before .before .before .before .before .before .before .before .before .before in potentials-writable (r .run .ensures) (start r .pre .1 .0 .1)
 
 returns : tie.Need-returns
 returns c =
-    let s = c .before .before .before .before .before .before .before .before .before .before .before .before .before .before .before .before .before .before .before .before .before .before .before in
-    let run-at = c .before .before .before .before .before .before .before .before .before .before .before .before .before .run in
-    let if1-at = c .before .before .before .before .if1 in
-    flow-solution (s .pre .0 .0) (is-flow (s .args .st .question) (if1-at .taken)) (run-at .ensures) (c .before .write .ensures)
+    let r = c .before .before .before .before .before .before .before .before .before .before .before .before .before .before .before in
+    assignment-solution (start r .pre .0 .0) (start r .pre .0 .1) (r .run .ensures)
+    (c .before .before .before .before .before .met .ensures .0 (c .before .before .before .before .if1 .taken)) (c .before .write .ensures)
 
 write-requires-2 : tie.Need-write-requires-2
-write-requires-2 c κs =
-    let run-at = c .before .before .before .before .before .before .before .before .before .before .before .before .before .before .run in
-    potentials-writable (run-at .ensures) (c .before .before .before .before .before .before .before .before .before .before .before .before .before .before .before .before .before .before .before .before .before .before .before .before .pre .1 .0 .1)
+write-requires-2 c κs = let r = c .before .before .before .before .before .before .before .before .before .before .before .before .before in marks-writable (r .run .ensures) (start r .pre .1 .0 .1)
 
 returns-2 : tie.Need-returns-2
 returns-2 c =
-    let s = c .before .before .before .before .before .before .before .before .before .before .before .before .before .before .before .before .before .before .before .before .before .before .before .before .before .before in
-    let run-at = c .before .before .before .before .before .before .before .before .before .before .before .before .before .before .before .before .run in
-    let if1-at = c .before .before .before .before .before .before .before .if1 in
-    let met-at = c .before .before .before .before .before .met in
-    let if2-at = c .before .before .before .before .if2 in
-    assignment-solution (s .pre .0 .0)
-    (is-assignment (s .args .st .question) (λ e. s .pre .0 .1 (is-path (s .args .st .question) e)) (if1-at .left))
-    (run-at .ensures) (met-at .ensures .0 (if2-at .taken)) (c .before .write2 .ensures)
+    let r = c .before .before .before .before .before .before .before .before .before .before .before .before .before .before .before .before .before .before .before in
+    let s = start r in
+    let written = c .before .before .before .before .before .write2 in
+    subst (λ (xs : List ℕ). Solution (asked (s .args .st)) (wordArcs (s .args .records .now)) (written .last .1 .1 .0) xs 2)
+    (sym (cleared (r .run .ensures) (c .before .before .clear-amounts .ensures)))
+    (no-assignment-solution (s .pre .0 .0) (s .pre .0 .1) (r .run .ensures)
+    (c .before .before .before .before .before .before .before .before .before .met .ensures .1 (c .before .before .before .before .before .before .before .before .if1 .left)) (written .ensures))
 
-write-requires-3 : tie.Need-write-requires-3
-write-requires-3 c κs =
-    let run-at = c .before .before .before .before .before .before .before .before .before .before .before .before .before .before .run in
-    marks-writable (run-at .ensures) (c .before .before .before .before .before .before .before .before .before .before .before .before .before .before .before .before .before .before .before .before .before .before .before .before .pre .1 .0 .1)
-
-returns-3 : tie.Need-returns-3
-returns-3 c =
-    let s = c .before .before .before .before .before .before .before .before .before .before .before .before .before .before .before .before .before .before .before .before .before .before .before .before .before .before .before .before .before .before in
-    let run-at = c .before .before .before .before .before .before .before .before .before .before .before .before .before .before .before .before .before .before .before .before .run in
-    let if1-at = c .before .before .before .before .before .before .before .before .before .before .before .if1 in
-    let met-at = c .before .before .before .before .before .before .before .before .before .met in
-    let if2-at = c .before .before .before .before .before .before .before .before .if2 in
-    let write3-at = c .before .before .before .before .before .write3 in
-    subst (λ (xs : List ℕ). Solution (asked (s .args .st)) (wordArcs (s .args .records .now)) (write3-at .last .1 .1 .0) xs 2)
-    (sym (cleared (run-at .ensures) (c .before .before .clear-amounts .ensures)))
-    (no-assignment-solution (s .pre .0 .0)
-    (is-assignment (s .args .st .question) (λ e. s .pre .0 .1 (is-path (s .args .st .question) e)) (if1-at .left))
-    (run-at .ensures) (met-at .ensures .1 (if2-at .left)) (write3-at .ensures))
-
-pub answer-run-spec : {M : Type 1} → statement M
-answer-run-spec =
+pub answer-assignment-spec : {M : Type 1} → statement M
+answer-assignment-spec =
     tie.close
     (tie.spec
+    (λ c κs. search needs)
     (λ c κs. search needs)
     write-requires
     (λ c. search needs)
@@ -71,19 +50,11 @@ answer-run-spec =
     (λ c. search needs)
     (λ c. search needs)
     returns
-    (λ c κs. search needs)
     write-requires-2
-    (λ c. search needs)
-    (λ c. search needs)
-    (λ c. search needs)
-    (λ c. search needs)
-    (λ c. search needs)
-    returns-2
-    write-requires-3
     (λ c κs. search needs)
     (λ c. search needs)
     (λ c. search needs)
     (λ c. search needs)
     (λ c. search needs)
     (λ c. search needs)
-    returns-3)
+    returns-2)
