@@ -1,4 +1,2 @@
-pub mod Passing
-pub mod Parts
-pub mod Whole
-pub mod Promises
+pub mod WrittenParts
+pub mod FoundAnnotation

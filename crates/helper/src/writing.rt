@@ -92,7 +92,14 @@ fn write_solution(
 {
     let finding = solver::certify(setting(net), records, numbers, amounts);
     let claim = solver::claim_number(finding);
-    write_file(buffer, claim, network_file::count(net), records, numbers, amounts);
+    write_file(
+        buffer,
+        claim,
+        network_file::count(net),
+        records,
+        numbers,
+        amounts,
+    );
 }
 
 // The annotation of an accepted file.

@@ -10,9 +10,10 @@ use Rattle.prelude.specs.Choice.{indicator}
 use Rattle.prelude.specs.Integers.{eqZ}
 use Rattle.prelude.specs.Lists.{Every}
 use Rattle.prelude.proofs.Sums.{sumTo-ext}
-use Rattle.network.specs.Network.{Arc, Load, arcs, crosses, cut}
+use Rattle.network.specs.Network.{Arc, Load, arcs, crosses, cut, sumAcross}
 use Rattle.network.specs.Question.{Setting, pumps, sites}
-use Rattle.network.specs.Certificate.{InRange, Marks, marked, Closed, FlowCertificate, NoPathCertificate, NoAssignmentCertificate}
+use Rattle.network.specs.Certificate.{marked}
+use Rattle.network.proofs.Rules.{InRange, Marks, Closed, FlowCertificate, NoPathCertificate, NoAssignmentCertificate}
 use Rattle.network.proofs.Sums.{Inside}
 
 module _ (st : Setting) (y y' : ℕ → ℤ) (same : (v : ℕ) → v < st .n → y v ≡ y' v) where
@@ -23,7 +24,7 @@ module _ (st : Setting) (y y' : ℕ → ℤ) (same : (v : ℕ) → v < st .n →
   same-crosses e i = ap₂ (λ (a b : Bool). a && not b) (same-mark (e .tail) (i .0)) (same-mark (e .head) (i .1))
 
   same-cut : (net : List Arc) → Every (Inside (st .n)) net → cut (marked y) net ≡ cut (marked y') net
-  unfolding cut
+  unfolding sumAcross
   same-cut [] i = omega arith
   same-cut (e ∷ net) i = ap₂ (λ (b : Bool) (k : ℕ). e .weight * indicator b + k) (same-crosses e (i .0)) (same-cut net (i .1))
 

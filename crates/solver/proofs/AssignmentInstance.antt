@@ -16,15 +16,16 @@ use Rattle.prelude.specs.Sums.{sumTo, sumToℤ}
 use Rattle.prelude.proofs.Integers.{parts-sub, signed}
 use Rattle.prelude.proofs.Lists.{every-zip}
 use Rattle.prelude.proofs.Sums.{sumTo-ext, sumTo-add, sumTo-none, sumTo-split}
-use Rattle.network.specs.Network.{Arc, Load, arcs, sumOf, leaving, entering, balance, cost}
+use Rattle.network.specs.Network.{Arc, Load, arcs, sumOf, leaving, entering, balance, cost, loadsOf}
 use Rattle.network.specs.Question.{Setting, pumps, sites, PumpToSite}
-use Rattle.network.specs.Certificate.{marked, ZeroOrOne, NoAmount, Closed, Feasible, assignmentBalance, AssignmentBalances, AssignmentCertificate, NoAssignmentCertificate}
+use Rattle.network.specs.Certificate.{marked, assignmentBalance}
+use Rattle.network.proofs.Rules.{ZeroOrOne, NoAmount, Closed, Feasible, AssignmentBalances, AssignmentCertificate, NoAssignmentCertificate}
 use Rattle.network.proofs.Sums.{delta-same, Inside}
 use Rattle.network.proofs.Assignments.{Between, leaves-no-site}
 use Rattle.network.proofs.Sound.{balance-parts}
 use Rattle.engine.specs.Residual.{entry, unreached}
 use Rattle.engine.specs.Phase.{Solved}
-use Rattle.solver.specs.Instance.{Fits, tails, heads, weights, constant, loadsOf, VertexList, atPumps, atSites, Falls, markOf}
+use Rattle.solver.specs.Instance.{Fits, tails, heads, weights, constant, VertexList, atPumps, atSites, Falls, markOf}
 use Rattle.engine.proofs.LastSearch.{in-list, leads-on, leads-back, from-left}
 use Rattle.engine.proofs.LentParts.{zero-at}
 use Rattle.solver.proofs.ColumnsAndLoads.{constant-at, since-none, index, loads-arcs, columnArc, every-arc, every-load, sumOf-used, paid-cost, weighed, Seen, Unseen, sight, marks-fit, no-cross}

@@ -17,13 +17,15 @@ use Rattle.prelude.specs.Lists.{Every}
 use Rattle.prelude.specs.Sums.{sumTo}
 use Rattle.prelude.proofs.Integers.{signed}
 use Rattle.prelude.proofs.Sums.{sumTo-ext, sumTo-add}
-use Rattle.network.specs.Network.{Arc, arcOf, Load, arcs, delta, sumOf, leaving, entering, cost, total, crosses}
+use Rattle.network.specs.Network.{Arc, arcOf, Load, arcs, delta, sumOf, leaving, entering, cost, total, crosses, loadsOf}
 use Rattle.network.specs.Question.{Setting, WeightWithin}
-use Rattle.network.specs.Certificate.{InRange, Marks, marked, WithinCapacity}
+use Rattle.network.specs.Limits.{mostPotential}
+use Rattle.network.specs.Certificate.{marked}
+use Rattle.network.proofs.Rules.{InRange, Marks, WithinCapacity}
 use Rattle.network.proofs.Sums.{delta-same, delta-other, Compared, compared, sumTo-at, sumOf-add, Inside, across}
 use Rattle.engine.specs.Residual.{entry, unreached}
 use Rattle.engine.specs.Push.{flowAt}
-use Rattle.solver.specs.Instance.{tails, heads, weights, constant, loadsOf, VertexList, single, Falls, reached, distanceOf, markOf}
+use Rattle.solver.specs.Instance.{tails, heads, weights, constant, VertexList, single, Falls, reached, distanceOf, markOf}
 use Rattle.engine.proofs.LentParts.{zero-at}
 
 -- ---- the same sums
@@ -203,7 +205,7 @@ pub record Unseen (key : List ℕ) (v : ℕ) : Type 0 where
   pub above : unreached ≤ entry key v
   pub mark : markOf key v ≡ pos 0
   pub inside : marked (markOf key) v ≡ false
-  pub distance : distanceOf key v ≡ 8322818
+  pub distance : distanceOf key v ≡ mostPotential
 
 pub seen : (key : List ℕ) (v : ℕ) → entry key v < unreached → Seen key v
 seen key v h = let e = lt-ltb (entry key v) unreached h in record { below = h; mark = rw e; inside = rw e; distance = rw e }

@@ -11,8 +11,9 @@ use lib.ListN.{length, replicate, take, drop, length-map}
 use lib.Seq.{length-take-le}
 use Rattle.prelude.specs.Choice.{indicator}
 use Rattle.prelude.specs.Lists.{Every, all}
-use Rattle.network.specs.Network.{Arc}
-use Rattle.network.specs.Question.{Question, shortestPath, maximumFlow, assignment, Setting, WeightWithin}
+use Rattle.network.specs.Limits.{mostArcs, mostWeight}
+use Rattle.network.specs.Network.{Arc, wordArc, wordArcs}
+use Rattle.network.specs.Question.{Question, shortestPath, maximumFlow, assignment, Setting, WeightWithin, unasked, asks, unitCost}
 use Rattle.network.proofs.Sums.{Inside}
 use Rattle.engine.specs.Residual.{entry, unreached, zeroList}
 use Rattle.engine.specs.PackedArcs.{tailOf, headOf, costOf, PackedSolved}
@@ -21,50 +22,51 @@ use Rattle.engine.proofs.LentParts.{lent-again}
 use Rattle.engine.proofs.LimitTests.{both-on}
 use Rattle.solver.specs.declared.vertices.NumberKind.the-variants.{Mark, Potential}
 use Rattle.solver.specs.Instance.{Fits, constant, VertexList}
-use Rattle.solver.specs.Certify.{recordArc, recordArcs, AcceptedNetwork, costFor, packedFor, standing, EngineRunFor, EngineRun, numberOf}
+use Rattle.solver.specs.Certify.{AcceptedNetwork, packedFor, standing, EngineRunFor, EngineRun, numberOf}
 use Rattle.solver.proofs.Solutions.{fits, cost-low, same-tails, same-heads, same-costs, same-capacities, keys}
 
 -- ---- packed arcs are within the engine's limits
 
-pub few-records : {st : Setting} (rs : List ℕ) → AcceptedNetwork st (recordArcs rs) → length rs ≤ 4096
-few-records rs a = omega (arith, a .few, length-map rs recordArc)
+pub few-records : {st : Setting} (rs : List ℕ) → AcceptedNetwork st (wordArcs rs) → length rs ≤ mostArcs
+few-records rs a = omega (arith, a .few, length-map rs wordArc)
 
 pub packed-length : (q : Question) (rs arcs : List ℕ) → arcs ≡ map (packedFor q) rs → length arcs ≡ length rs
 packed-length q rs arcs e = ap length e ∙ length-map rs (packedFor q)
 
-no-dearer : (q : Question) (w : ℕ) → w ≤ 32767 → costFor q w ≤ 32767
-no-dearer shortestPath w h = h
-no-dearer maximumFlow w h = omega arith
-no-dearer assignment w h = h
+no-dearer : (q : Question) (e : Arc) → WeightWithin e → unitCost q e ≤ mostWeight
+no-dearer shortestPath e h = h
+no-dearer maximumFlow e h = omega arith
+no-dearer assignment e h = h
+no-dearer unasked e h = omega arith
 
-packed-cost : (q : Question) (r : ℕ) → costOf (packedFor q r) ≡ costFor q (r % 65536)
-packed-cost q r = omega (arith, cost-low q (r % 65536) (omega arith))
+packed-cost : (q : Question) (r : ℕ) → costOf (packedFor q r) ≡ unitCost q (wordArc r)
+packed-cost q r = omega (arith, cost-low q (wordArc r) (omega arith))
 
-packed-fits : (q : Question) (n r : ℕ) → Inside n (recordArc r) → WeightWithin (recordArc r) → arcFits n (packedFor q r) ≡ true
+packed-fits : (q : Question) (n r : ℕ) → Inside n (wordArc r) → WeightWithin (wordArc r) → arcFits n (packedFor q r) ≡ true
 packed-fits q n r i l =
     let k = packedFor q r in
     both-on (ltb (tailOf k) n && ltb (headOf k) n) (leb (costOf k) 32767) true
     (both-on (ltb (tailOf k) n) (ltb (headOf k) n) true (lt-ltb (tailOf k) n (omega (arith, i .0))) (lt-ltb (headOf k) n (omega (arith, i .1))))
-    (le-leb (costOf k) 32767 (subst (λ (c : ℕ). c ≤ 32767) (sym (packed-cost q r)) (no-dearer q (r % 65536) l)))
+    (le-leb (costOf k) 32767 (subst (λ (c : ℕ). c ≤ 32767) (sym (packed-cost q r)) (no-dearer q (wordArc r) l)))
 
-all-fit : (q : Question) (n : ℕ) (rs : List ℕ) → Every (Inside n) (recordArcs rs) → Every WeightWithin (recordArcs rs) → all (arcFits n) (map (packedFor q) rs) ≡ true
+all-fit : (q : Question) (n : ℕ) (rs : List ℕ) → Every (Inside n) (wordArcs rs) → Every WeightWithin (wordArcs rs) → all (arcFits n) (map (packedFor q) rs) ≡ true
 all-fit q n [] i l = refl
 all-fit q n (r ∷ rs) i l = both-on (arcFits n (packedFor q r)) (all (arcFits n) (map (packedFor q) rs)) true (packed-fits q n r (i .0) (l .0)) (all-fit q n rs (i .1) (l .1))
 
-pub packed-fit : (q : Question) (n m : ℕ) (rs arcs : List ℕ) → Fits n (recordArcs rs) → arcs ≡ map (packedFor q) rs → m ≡ length rs → arcsFit arcs m n ≡ true
+pub packed-fit : (q : Question) (n m : ℕ) (rs arcs : List ℕ) → Fits n (wordArcs rs) → arcs ≡ map (packedFor q) rs → m ≡ length rs → arcsFit arcs m n ≡ true
 packed-fit q n m rs arcs F p e =
     both-on (leb n 255 && leb (length arcs) 4096 && eqb m (length arcs)) (all (arcFits n) arcs) true
     (both-on (leb n 255 && leb (length arcs) 4096) (eqb m (length arcs)) true
-    (both-on (leb n 255) (leb (length arcs) 4096) true (le-leb n 255 (F .small)) (le-leb (length arcs) 4096 (omega (arith, packed-length q rs arcs p, F .few, length-map rs recordArc))))
+    (both-on (leb n 255) (leb (length arcs) 4096) true (le-leb n 255 (F .small)) (le-leb (length arcs) 4096 (omega (arith, packed-length q rs arcs p, F .few, length-map rs wordArc))))
     (eq-eqb m (length arcs) (e ∙ sym (packed-length q rs arcs p))))
     (ap (λ (l : List ℕ). all (arcFits n) l) p ∙ all-fit q n rs (F .inside) (F .light))
 
 -- ---- the run of a question
 
 -- what the engine gave back, with the columns of the network
-pub solved-run : (st : Setting) (rs : List ℕ) {arcs pi left need x' pi' left' need' key' par' : List ℕ} → arcs ≡ map (packedFor (st .question)) rs
+pub solved-run : (st : Setting) (rs : List ℕ) {arcs pi left need x' pi' left' need' key' par' : List ℕ} → arcs ≡ map (packedFor (asks st)) rs
     → VertexList (st .n) (standing st false) left → VertexList (st .n) (standing st true) need
-    → PackedSolved arcs (zeroList (length arcs)) pi left need x' pi' left' need' key' par' → EngineRun st (recordArcs rs) x' pi' need' key'
+    → PackedSolved arcs (zeroList (length arcs)) pi left need x' pi' left' need' key' par' → EngineRun st (wordArcs rs) x' pi' need' key'
 solved-run st rs {arcs} {pi} {left} {need} {x'} {pi'} {left'} {need'} {key'} {par'} p supply demand solved = record {
   pi = pi;
   left = left;
@@ -73,18 +75,18 @@ solved-run st rs {arcs} {pi} {left} {need} {x'} {pi'} {left'} {need'} {key'} {pa
   par' = par';
   supply = supply;
   demand = demand;
-  solved = rw (sym (same-tails (st .question) rs), sym (same-heads (st .question) rs), sym (same-costs (st .question) rs), sym (same-capacities (st .question) rs))
-      (subst (λ (k : ℕ). PackedSolved (map (packedFor (st .question)) rs) (zeroList k) pi left need x' pi' left' need' key' par') (length-map rs (packedFor (st .question)) ∙ sym (length-map rs recordArc))
+  solved = rw (sym (same-tails (asks st) rs), sym (same-heads (asks st) rs), sym (same-costs (asks st) rs), sym (same-capacities (asks st) rs))
+      (subst (λ (k : ℕ). PackedSolved (map (packedFor (asks st)) rs) (zeroList k) pi left need x' pi' left' need' key' par') (length-map rs (packedFor (asks st)) ∙ sym (length-map rs wordArc))
       (subst (λ (l : List ℕ). PackedSolved l (zeroList (length l)) pi left need x' pi' left' need' key' par') p solved));
 }
 
 -- what `run` knows when it calls the engine: d's are the arrays of which it lends parts
-module _ (st : Setting) (rs : List ℕ) (a : AcceptedNetwork st (recordArcs rs)) (n k : ℕ) {arcs left need : List ℕ} (da dl : List ℕ)
-    (one-each : n ≡ st .n) (packed : arcs ≡ map (packedFor (st .question)) rs)
+module _ (st : Setting) (rs : List ℕ) (a : AcceptedNetwork st (wordArcs rs)) (n k : ℕ) {arcs left need : List ℕ} (da dl : List ℕ)
+    (one-each : n ≡ st .n) (packed : arcs ≡ map (packedFor (asks st)) rs)
     (long : n ≤ length dl) (stood : VertexList (length (take n dl)) (standing st false) left)
     (wanted : VertexList k (standing st true) need) (need-len : k ≡ st .n) where
   pub arcs-long : length arcs ≡ length rs
-  arcs-long = packed-length (st .question) rs arcs packed
+  arcs-long = packed-length (asks st) rs arcs packed
 
   pub left-long : length left ≡ n
   left-long = stood .len ∙ length-take-le n dl long
@@ -96,7 +98,7 @@ module _ (st : Setting) (rs : List ℕ) (a : AcceptedNetwork st (recordArcs rs))
   abbrev left-lent : List ℕ
   left-lent = take n (left ++ drop n dl)
 
-  arcs-back : arcs-lent ≡ map (packedFor (st .question)) rs
+  arcs-back : arcs-lent ≡ map (packedFor (asks st)) rs
   arcs-back = lent-again (length rs) da arcs arcs-long ∙ packed
 
   supply : VertexList (st .n) (standing st false) left-lent
@@ -107,7 +109,7 @@ module _ (st : Setting) (rs : List ℕ) (a : AcceptedNetwork st (recordArcs rs))
   demand = subst (λ (j : ℕ). VertexList j (standing st true) need) need-len wanted
 
   pub run-ok : {x pi key x' pi' left' need' key' : List ℕ} {r : Bool} → length x ≡ length rs → length pi ≡ st .n → length key ≡ st .n
-      → SolveOutcome arcs-lent x pi left-lent need key x' pi' left' need' key' r → EngineRun st (recordArcs rs) x' pi' need' key'
+      → SolveOutcome arcs-lent x pi left-lent need key x' pi' left' need' key' r → EngineRun st (wordArcs rs) x' pi' need' key'
   run-ok {x} {pi} {key} xl pl kl (SolveOutcome.refused off ex ep el en ek) = absurd (false≢true (sym off ∙ ok))
     where
       ok : solvable arcs-lent (length x) (length pi) (length left-lent) (length need) (length key) ≡ true
@@ -117,7 +119,7 @@ module _ (st : Setting) (rs : List ℕ) (a : AcceptedNetwork st (recordArcs rs))
           (eq-eqb (length pi) (length left-lent) (pl ∙ sym (supply .len))) (eq-eqb (length need) (length left-lent) (demand .len ∙ sym (supply .len))))
           (eq-eqb (length key) (length left-lent) (kl ∙ sym (supply .len))))
           (subst (λ (j : ℕ). arcsFit arcs-lent (length x) j ≡ true) (sym (supply .len))
-          (packed-fit (st .question) (st .n) (length x) rs arcs-lent (fits a) arcs-back xl))
+          (packed-fit (asks st) (st .n) (length x) rs arcs-lent (fits a) arcs-back xl))
   run-ok {x} {pi} {key} xl pl kl (SolveOutcome.solved may par' s) = solved-run st rs arcs-back supply demand s
 
 -- ---- what was given back

@@ -10,18 +10,20 @@ use lib.ListN.{length}
 use Rattle.prelude.specs.Choice.{indicator}
 use Rattle.prelude.specs.Lists.{Every}
 use Rattle.prelude.proofs.Integers.{signed}
-use Rattle.network.specs.Network.{Arc, Load, arcs, sumOf, leaving, entering, total, crosses, cut}
+use Rattle.network.specs.Network.{Arc, Load, arcs, sumOf, leaving, entering, total, crosses, cut, loadsOf, sumAcross}
 use Rattle.network.specs.Question.{Setting, TwoVertices, WeightWithin}
-use Rattle.network.specs.Certificate.{marked, WithinCapacity, FlowCertificate}
+use Rattle.network.specs.Limits.{mostWeight}
+use Rattle.network.specs.Certificate.{marked}
+use Rattle.network.proofs.Rules.{WithinCapacity, FlowCertificate}
 use Rattle.network.proofs.Sound.{balance-parts}
 use Rattle.engine.specs.Residual.{entry}
 use Rattle.engine.specs.Phase.{Solved}
-use Rattle.solver.specs.Instance.{Fits, tails, heads, weights, constant, loadsOf, VertexList, single, Falls, markOf}
+use Rattle.solver.specs.Instance.{Fits, tails, heads, weights, constant, VertexList, single, Falls, markOf}
 use Rattle.engine.proofs.LastSearch.{in-list, leads-on, leads-back, from-left}
 use Rattle.solver.proofs.ColumnsAndLoads.{since-none, index, loads-arcs, columnArc, every-load, leaving-most, fallen, Carried, carried-by, as-much, at-source, elsewhere, Seen, Unseen, seen, unseen, sight, marks-fit}
 
 -- no network that is read holds more than 134213632
-total-below : (es : List Arc) → Every WeightWithin es → total es ≤ 32767 * length es
+total-below : (es : List Arc) → Every WeightWithin es → total es ≤ mostWeight * length es
 unfolding total
 total-below [] h = omega arith
 total-below (e ∷ es) h = omega (arith, h .0, total-below es (h .1))
@@ -33,7 +35,7 @@ total-most n es lim = omega (arith, total-below es (lim .light), lim .few)
 cut-full : (m : ℕ → Bool) (f : List Load)
     → Every (λ l. l .amount * indicator (m (l .arc .tail)) ≡ l .amount * indicator (m (l .arc .head)) + l .arc .weight * indicator (crosses m (l .arc))) f
     → sumOf (λ e. indicator (m (e .tail))) f ≡ sumOf (λ e. indicator (m (e .head))) f + cut m (arcs f)
-unfolding sumOf cut
+unfolding sumOf sumAcross
 cut-full m [] h = refl
 cut-full m (l ∷ f) h = omega (arith, h .0, cut-full m f (h .1))
 

@@ -10,8 +10,8 @@ use lib.Dec.{eqb, ltb}
 use lib.IntN.{ℤ}
 use lib.ListN.{length, length-map, length-replicate}
 use borrow.Author.Tests.{lt-ltb, eq-eqb}
-use Rattle.network.specs.Network.{Arc}
-use Rattle.network.specs.Question.{Question, shortestPath, Setting, TwoVertices, EndsFor}
+use Rattle.network.specs.Network.{Arc, wordArc, wordArcs}
+use Rattle.network.specs.Question.{Question, shortestPath, Setting, TwoVertices, EndsFor, asks}
 use Rattle.engine.specs.Residual.{entry, unreached, zeroList, ResidualNetwork, residual}
 use Rattle.engine.specs.PackedArcs.{tailsOf, headsOf, costsOf, capacitiesOf, residualOf, PackedPhaseState, PackedMoved}
 use Rattle.engine.specs.Push.{Moved}
@@ -24,7 +24,7 @@ use Rattle.engine.proofs.LentParts.{zero-at}
 use Rattle.engine.proofs.LimitTests.{both-on}
 use Rattle.solver.specs.declared.vertices.NumberKind.the-variants.{Mark, Distance}
 use Rattle.solver.specs.Instance.{tails, heads, constant, VertexList}
-use Rattle.solver.specs.Certify.{recordArc, recordArcs, AcceptedNetwork, packedFor, costs, capacities, standing, numberOf, NodeNumbers, Solution}
+use Rattle.solver.specs.Certify.{AcceptedNetwork, packedFor, costs, capacities, standing, numberOf, NodeNumbers, Solution}
 use Rattle.solver.proofs.ColumnsAndLoads.{sight}
 use Rattle.solver.proofs.EngineInputs.{packed-length, packed-fit}
 use Rattle.solver.proofs.Solutions.{fits, same-tails, same-heads, same-costs, same-capacities, path-solution, no-path-solution}
@@ -32,16 +32,16 @@ use Rattle.solver.proofs.Solutions.{fits, same-tails, same-heads, same-
 -- ---- what is known when the engine is asked
 
 pub record PathInputs (st : Setting) (rs arcs x left key : List ℕ) : Type 0 where
-  pub accepted : AcceptedNetwork st (recordArcs rs)
-  pub path : st .question ≡ shortestPath
-  pub packs : arcs ≡ map (packedFor (st .question)) rs
+  pub accepted : AcceptedNetwork st (wordArcs rs)
+  pub path : asks st ≡ shortestPath
+  pub packs : arcs ≡ map (packedFor (asks st)) rs
   pub amounts : length x ≡ length rs
   pub stands : VertexList (st .n) (standing st false) left
   pub key-len : length key ≡ st .n
 
 module _ {st : Setting} {rs arcs x left key : List ℕ} (g : PathInputs st rs arcs x left key) where
   abbrev es : List Arc
-  es = recordArcs rs
+  es = wordArcs rs
 
   -- the amounts and the potentials that the engine starts with
   abbrev X : List ℕ
@@ -54,7 +54,7 @@ module _ {st : Setting} {rs arcs x left key : List ℕ} (g : PathInputs st rs ar
   none-yet = record { len = length-replicate (length left) 0 ∙ g .stands .len; entries = λ v h. zero-at (length left) v }
 
   no-amounts : X ≡ constant es 0
-  no-amounts = ap zeroList (packed-length (st .question) rs arcs (g .packs) ∙ sym (length-map rs recordArc))
+  no-amounts = ap zeroList (packed-length (asks st) rs arcs (g .packs) ∙ sym (length-map rs wordArc))
 
   two : TwoVertices st
   two = subst (λ (q : Question). EndsFor q st) (g .path) (g .accepted .opened .ends)
@@ -65,19 +65,19 @@ module _ {st : Setting} {rs arcs x left key : List ℕ} (g : PathInputs st rs ar
       (both-on (ltb (st .t) (length left)) (eqb (length key) (length left)) true
       (lt-ltb (st .t) (length left) (omega (arith, two .sink-below, g .stands .len))) (eq-eqb (length key) (length left) (g .key-len ∙ sym (g .stands .len))))
       (subst (λ (j : ℕ). arcsFit arcs (length x) j ≡ true) (sym (g .stands .len))
-      (packed-fit (st .question) (st .n) (length x) rs arcs (fits (g .accepted)) (g .packs) (g .amounts)))
+      (packed-fit (asks st) (st .n) (length x) rs arcs (fits (g .accepted)) (g .packs) (g .amounts)))
 
-  same : residualOf arcs X Pi ≡ residual (tails es) (heads es) (costs (st .question) es) (capacities (st .question) es) (constant es 0) Pi
-  same = λ i. residual ((ap tailsOf (g .packs) ∙ same-tails (st .question) rs) i) ((ap headsOf (g .packs) ∙ same-heads (st .question) rs) i)
-      ((ap costsOf (g .packs) ∙ same-costs (st .question) rs) i) ((ap capacitiesOf (g .packs) ∙ same-capacities (st .question) rs) i) (no-amounts i) Pi
+  same : residualOf arcs X Pi ≡ residual (tails es) (heads es) (costs (asks st) es) (capacities (asks st) es) (constant es 0) Pi
+  same = λ i. residual ((ap tailsOf (g .packs) ∙ same-tails (asks st) rs) i) ((ap headsOf (g .packs) ∙ same-heads (asks st) rs) i)
+      ((ap costsOf (g .packs) ∙ same-costs (asks st) rs) i) ((ap capacitiesOf (g .packs) ∙ same-capacities (asks st) rs) i) (no-amounts i) Pi
 
   -- ---- what it gives
 
   module _ {key' par : List ℕ} (S : PackedPhaseState arcs X Pi left Pi) (F : SearchResult (residualOf arcs X Pi) left key' par) where
-    state : PhaseState (tails es) (heads es) (costs (st .question) es) (capacities (st .question) es) (constant es 0) Pi left Pi
+    state : PhaseState (tails es) (heads es) (costs (asks st) es) (capacities (asks st) es) (constant es 0) Pi left Pi
     state = subst (λ (N : ResidualNetwork). PhaseState (N .from) (N .to) (N .cost) (N .cap) (N .x) Pi left Pi) same S
 
-    found : SearchResult (residual (tails es) (heads es) (costs (st .question) es) (capacities (st .question) es) (constant es 0) Pi) left key' par
+    found : SearchResult (residual (tails es) (heads es) (costs (asks st) es) (capacities (asks st) es) (constant es 0) Pi) left key' par
     found = subst (λ (N : ResidualNetwork). SearchResult N left key' par) same F
 
     pub keys-length : length key' ≡ st .n
@@ -114,14 +114,14 @@ module _ {st : Setting} {rs arcs x left key : List ℕ} (g : PathInputs st rs ar
       go (SearchAndPush.away par F far ex el) = record { par = par; state = S; found = F; far = far; same-amounts = ex }
       go (SearchAndPush.reached par F near k M) = record { par = par; state = S; found = F; near = near; moved = M }
 
-  pub path-answer : {x' left' key' : List ℕ} {ys : List ℤ} {k : ℕ} → Reach x' left' key' k → NodeNumbers Distance key' ys → Solution st (recordArcs rs) ys x' 1
+  pub path-answer : {x' left' key' : List ℕ} {ys : List ℤ} {k : ℕ} → Reach x' left' key' k → NodeNumbers Distance key' ys → Solution st (wordArcs rs) ys x' 1
   path-answer {x'} {left'} {key'} {ys} {k} r w =
       path-solution (g .accepted) (g .path) none-yet (g .stands) (state (r .state) (r .found)) (found (r .state) (r .found)) (r .near)
       (subst (λ (N : ResidualNetwork). Moved (N .from) (N .to) (N .cap) (r .par) key' (N .x) left x' left' (st .t) 1 k) same (r .moved)) w
 
-  pub no-path-answer : {x' left' key' : List ℕ} {ys : List ℤ} → Miss x' left' key' → NodeNumbers Mark key' ys → Solution st (recordArcs rs) ys x' 2
+  pub no-path-answer : {x' left' key' : List ℕ} {ys : List ℤ} → Miss x' left' key' → NodeNumbers Mark key' ys → Solution st (wordArcs rs) ys x' 2
   no-path-answer {x'} {left'} {key'} {ys} r w =
-      subst (λ (l : List ℕ). Solution st (recordArcs rs) ys l 2) (sym (r .same-amounts ∙ no-amounts))
+      subst (λ (l : List ℕ). Solution st (wordArcs rs) ys l 2) (sym (r .same-amounts ∙ no-amounts))
       (no-path-solution (g .accepted) (g .path) none-yet (g .stands) (state (r .state) (r .found)) (found (r .state) (r .found)) (r .far) w)
 
   -- the distances can be written

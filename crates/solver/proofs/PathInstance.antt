@@ -13,16 +13,18 @@ use lib.IntN.{pos}
 use Rattle.prelude.specs.Lists.{Every, Member}
 use Rattle.prelude.proofs.Integers.{signed}
 use Rattle.prelude.proofs.Lists.{every-snoc}
-use Rattle.network.specs.Network.{Arc, Load, leaving, entering, balance, total, crosses}
+use Rattle.network.specs.Network.{Arc, Load, leaving, entering, balance, total, crosses, loadsOf}
 use Rattle.network.specs.Question.{Setting, Leads, ShortestPath, NoWalk}
-use Rattle.network.specs.Certificate.{marked, pathBalance, PathCertificate, NoPathCertificate, PathBalances, ZeroOrOne, NoAmount, Closed, Feasible}
+use Rattle.network.specs.Limits.{mostPotential}
+use Rattle.network.specs.Certificate.{marked, pathBalance}
+use Rattle.network.proofs.Rules.{PathCertificate, NoPathCertificate, PathBalances, ZeroOrOne, NoAmount, Closed, Feasible}
 use Rattle.network.proofs.Sums.{Inside, Compared, compared, delta-same}
 use Rattle.network.proofs.Paths.{walk-above, no-walk}
 use Rattle.network.proofs.Sound.{balance-parts}
 use Rattle.engine.specs.Residual.{entry, unreached, residual, keyBeyond, ParentArc}
 use Rattle.engine.specs.Push.{Moved}
 use Rattle.engine.specs.Phase.{SearchResult, PhaseState}
-use Rattle.solver.specs.Instance.{Fits, tails, heads, weights, constant, loadsOf, VertexList, single, distanceOf, potentialOf, markOf, toward}
+use Rattle.solver.specs.Instance.{Fits, tails, heads, weights, constant, VertexList, single, distanceOf, potentialOf, markOf, toward}
 use Rattle.engine.proofs.PhaseLaws.{opened}
 use Rattle.engine.proofs.LastSearch.{few-arcs, near-enough, leads-on, from-left}
 use Rattle.engine.proofs.LentParts.{zero-at}
@@ -87,7 +89,7 @@ module _ (st : Setting) (es : List Arc) (fits : Fits (st .n) es) (hs : st .s < s
   arc-on : (e : ℕ) → e < length es → entry key (entry (tails es) e) < unreached → entry key (entry (heads es) e) < unreached
   arc-on e h = leads-on state F e (index es e h) (room e h)
 
-  in-reach : (v : ℕ) → v < st .n → distanceOf key v ≤ 8322818
+  in-reach : (v : ℕ) → v < st .n → distanceOf key v ≤ mostPotential
   in-reach v h = ⊎-elim (λ r. omega (arith, r .distance, near-enough state F v (vertex v h) (r .below))) (λ r. omega (arith, r .distance)) (sight key v)
 
   -- and its head is no further than its tail and its weight

@@ -8,11 +8,10 @@ use lib.IntN.{ℤ}
 use lib.ListN.{length}
 use Rattle.prelude.specs.Lists.{Perm, at}
 use Rattle.prelude.proofs.Permutations.{perm-refl}
-use Rattle.network.specs.Network.{Arc}
+use Rattle.network.specs.Network.{Arc, wordArcs, loadsOf}
 use Rattle.network.specs.Question.{Setting, TrueAnswer}
 use Rattle.network.proofs.Promises.{one-answer, certificates-sound}
-use Rattle.solver.specs.Instance.{loadsOf}
-use Rattle.solver.specs.Certify.{recordArcs, AcceptedNetwork, Solution, CertifyOutcome}
+use Rattle.solver.specs.Certify.{AcceptedNetwork, Solution, CertifyOutcome}
 use Rattle.solver.specs.Promises.{Decided, Decides}
 use Rattle.solver.proofs.ColumnsAndLoads.{loads-arcs}
 use Rattle.solver.proofs.Solutions.{accepted}
@@ -26,6 +25,6 @@ decided st net ys xs reply a s = record { answer = s .answer; is-true = truth; o
         (subst (λ (l : List Arc). Perm l net) (sym (loads-arcs net xs)) (perm-refl net)) (s .certified)
 
 pub decides : Decides
-decides q st rs ys ys' xs xs' reply ok (CertifyOutcome.refused n p r k) = absurd (false≢true (sym n ∙ ok))
-decides q st rs ys ys' xs xs' reply ok (CertifyOutcome.solved o p r s) =
-    decided st (recordArcs rs) ys' xs' reply (accepted q st rs (length ys) (length xs) ok .0) s
+decides st rs ys ys' xs xs' reply ok (CertifyOutcome.refused n p r k) = absurd (false≢true (sym n ∙ ok))
+decides st rs ys ys' xs xs' reply ok (CertifyOutcome.solved o p r s) =
+    decided st (wordArcs rs) ys' xs' reply (accepted st rs (length ys) (length xs) ok .0) s

@@ -16,18 +16,20 @@ use Rattle.prelude.specs.Lists.{Every, all, at}
 use Rattle.prelude.proofs.Booleans.{true→T}
 use Rattle.prelude.proofs.Settle.{none-broken}
 use Rattle.prelude.proofs.Lists.{all→every, every-map, image-every}
-use Rattle.network.specs.Network.{Arc, arcs, cost}
-use Rattle.network.specs.Question.{Question, shortestPath, maximumFlow, assignment, Setting, Allowed, TwoVertices, EndsFor, EvenFor, SidesFor, PumpToSite, TrueFor, Answer, value, none}
-use Rattle.network.specs.Certificate.{CertifiedFor, FlowCertificate}
-use Rattle.network.specs.Tests.{openingChecks, arcChecks, Claim, ofValue, ofNone, claimNumber, claimFor}
-use Rattle.network.proofs.Allowed.{size-rule, ends-rule, joins-rule, weight-rule}
+use Rattle.network.specs.Network.{Arc, arcs, cost, wordArc, wordArcs, loadsOf}
+use Rattle.network.specs.Question.{Question, shortestPath, maximumFlow, assignment, Setting, Allowed, TwoVertices, EndsFor, EvenFor, SidesFor, PumpToSite, TrueFor, Answer, value, none, unasked, asks, unitCost}
+use Rattle.network.specs.Limits.{mostArcs}
+use Rattle.network.specs.Certificate.{Claim, ofValue, ofNone, claimFor}
+use Rattle.network.specs.Tests.{openingChecks, arcChecks, claimNumber}
+use Rattle.network.proofs.Allowed.{opening-rule, opening-numbered, arc-rule}
+use Rattle.network.proofs.Rules.{FlowCertificate, RulesHold, rules-certified}
 use Rattle.network.proofs.Sums.{Inside}
 use Rattle.engine.specs.Residual.{entry, unreached, residual}
 use Rattle.engine.specs.PackedArcs.{tailsOf, headsOf, costsOf, capacitiesOf}
 use Rattle.engine.specs.Push.{Moved}
 use Rattle.engine.specs.Phase.{SearchResult, PhaseState, Solved}
-use Rattle.solver.specs.Instance.{Fits, tails, heads, weights, constant, loadsOf, VertexList, single, markOf, toward}
-use Rattle.solver.specs.Certify.{recordArc, recordArcs, recordOk, admissible, AcceptedNetwork, costFor, capacityFor, packedFor, costs, capacities, standingFor, standing, EngineRunFor, EngineRun, numberOf, NodeNumbers, Wanting, toldBy, Told, LengthsFor, Solution}
+use Rattle.solver.specs.Instance.{Fits, tails, heads, weights, constant, VertexList, single, markOf, toward}
+use Rattle.solver.specs.Certify.{recordOk, admissible, AcceptedNetwork, capacityFor, packedFor, costs, capacities, standingFor, standing, EngineRunFor, EngineRun, numberOf, NodeNumbers, Wanting, toldBy, Told, LengthsFor, Solution}
 use Rattle.solver.specs.declared.vertices.NumberKind.{NumberKind}
 use Rattle.solver.specs.declared.vertices.NumberKind.the-variants.{Mark, Distance, Potential}
 use Rattle.solver.proofs.ColumnsAndLoads.{loads-arcs, Seen, Unseen, sight}
@@ -49,24 +51,22 @@ parts true true false d e t = absurd t
 parts true false c d e t = absurd t
 parts false b c d e t = absurd t
 
-pub accepted : (q : ℕ) (st : Setting) (rs : List ℕ) (i j : ℕ) → admissible q st rs i j ≡ true → AcceptedNetwork st (recordArcs rs) × (i ≡ st .n) × (j ≡ length rs)
-accepted q st rs i j e =
-    let a : T (all-of (eqb (firstBroken (openingChecks q st)) 0) (leb (length rs) 4096) (eqb i (st .n)) (eqb j (length rs)) (all (recordOk st) rs)) = true→T (admissible q st rs i j) e in
-    let h = parts (eqb (firstBroken (openingChecks q st)) 0) (leb (length rs) 4096) (eqb i (st .n)) (eqb j (length rs)) (all (recordOk st) rs) a in
-    let o = none-broken (openingChecks q st) (refl, (refl, (refl, tt))) (eqb→eq (firstBroken (openingChecks q st)) 0 (h .0)) in (
+pub accepted : (st : Setting) (rs : List ℕ) (i j : ℕ) → admissible st rs i j ≡ true → AcceptedNetwork st (wordArcs rs) × (i ≡ st .n) × (j ≡ length rs)
+accepted st rs i j e =
+    let a : T (all-of (eqb (firstBroken (openingChecks st)) 0) (leb (length rs) mostArcs) (eqb i (st .n)) (eqb j (length rs)) (all (recordOk st) rs)) = true→T (admissible st rs i j) e in
+    let h = parts (eqb (firstBroken (openingChecks st)) 0) (leb (length rs) mostArcs) (eqb i (st .n)) (eqb j (length rs)) (all (recordOk st) rs) a in
+    let o = none-broken (openingChecks st) (opening-numbered st) (eqb→eq (firstBroken (openingChecks st)) 0 (h .0)) in (
       record {
-        opened = record { sized = size-rule st (o .1 .0); ends = ends-rule st (o .1 .1 .0) };
-        allowed = image-every recordArc (Allowed st) rs (all→every (recordOk st) allow rs (h .4));
-        few = omega (arith, length-map rs recordArc, leb→le (length rs) 4096 (h .1));
+        opened = opening-rule st o;
+        allowed = image-every wordArc (Allowed st) rs (all→every (recordOk st) allow rs (h .4));
+        few = omega (arith, length-map rs wordArc, leb→le (length rs) mostArcs (h .1));
       },
       eqb→eq i (st .n) (h .2),
       eqb→eq j (length rs) (h .3),
     )
   where
-    allow : (r : ℕ) → T (recordOk st r) → Allowed st (recordArc r)
-    allow r t =
-        let h = none-broken (arcChecks st (recordArc r)) (refl, (refl, tt)) (eqb→eq (firstBroken (arcChecks st (recordArc r))) 0 t) in
-        record { joins = joins-rule st (recordArc r) (h .0); weight-within = weight-rule (recordArc r) (h .1 .0) }
+    allow : (r : ℕ) → T (recordOk st r) → Allowed st (wordArc r)
+    allow r t = arc-rule st (wordArc r) (none-broken (arcChecks st (wordArc r)) (refl, (refl, tt)) (eqb→eq (firstBroken (arcChecks st (wordArc r))) 0 t))
 
 module _ {st : Setting} {es : List Arc} (a : AcceptedNetwork st es) where
   inside : Every (Inside (st .n)) es
@@ -85,34 +85,36 @@ module _ {st : Setting} {es : List Arc} (a : AcceptedNetwork st es) where
 
 -- ---- packed arcs have the columns of the network
 
-pub same-tails : (q : Question) (rs : List ℕ) → tailsOf (map (packedFor q) rs) ≡ tails (recordArcs rs)
+pub same-tails : (q : Question) (rs : List ℕ) → tailsOf (map (packedFor q) rs) ≡ tails (wordArcs rs)
 same-tails q [] = refl
 same-tails q (r ∷ rs) = ap₂ (λ (k : ℕ) (l : List ℕ). k ∷ l) (omega arith) (same-tails q rs)
 
-pub same-heads : (q : Question) (rs : List ℕ) → headsOf (map (packedFor q) rs) ≡ heads (recordArcs rs)
+pub same-heads : (q : Question) (rs : List ℕ) → headsOf (map (packedFor q) rs) ≡ heads (wordArcs rs)
 same-heads q [] = refl
 same-heads q (r ∷ rs) = ap₂ (λ (k : ℕ) (l : List ℕ). k ∷ l) (omega arith) (same-heads q rs)
 
 -- costs and capacities stay below 65536
-pub cost-low : (q : Question) (w : ℕ) → w < 65536 → costFor q w < 65536
-cost-low shortestPath w h = h
-cost-low maximumFlow w h = omega arith
-cost-low assignment w h = h
+pub cost-low : (q : Question) (e : Arc) → e .weight < 65536 → unitCost q e < 65536
+cost-low shortestPath e h = h
+cost-low maximumFlow e h = omega arith
+cost-low assignment e h = h
+cost-low unasked e h = omega arith
 
-capacity-low : (q : Question) (w : ℕ) → w < 65536 → capacityFor q w < 65536
-capacity-low shortestPath w h = omega arith
-capacity-low maximumFlow w h = h
-capacity-low assignment w h = omega arith
+pub capacity-low : (q : Question) (e : Arc) → e .weight < 65536 → capacityFor q e < 65536
+capacity-low shortestPath e h = omega arith
+capacity-low maximumFlow e h = h
+capacity-low assignment e h = omega arith
+capacity-low unasked e h = omega arith
 
-pub same-costs : (q : Question) (rs : List ℕ) → costsOf (map (packedFor q) rs) ≡ costs q (recordArcs rs)
+pub same-costs : (q : Question) (rs : List ℕ) → costsOf (map (packedFor q) rs) ≡ costs q (wordArcs rs)
 same-costs q [] = refl
-same-costs q (r ∷ rs) = ap₂ (λ (k : ℕ) (l : List ℕ). k ∷ l) (omega (arith, cost-low q (r % 65536) (omega arith))) (same-costs q rs)
+same-costs q (r ∷ rs) = ap₂ (λ (k : ℕ) (l : List ℕ). k ∷ l) (omega (arith, cost-low q (wordArc r) (omega arith))) (same-costs q rs)
 
-pub same-capacities : (q : Question) (rs : List ℕ) → capacitiesOf (map (packedFor q) rs) ≡ capacities q (recordArcs rs)
+pub same-capacities : (q : Question) (rs : List ℕ) → capacitiesOf (map (packedFor q) rs) ≡ capacities q (wordArcs rs)
 same-capacities q [] = refl
 same-capacities q (r ∷ rs) =
     ap₂ (λ (k : ℕ) (l : List ℕ). k ∷ l)
-    (omega (arith, cost-low q (r % 65536) (omega arith), capacity-low q (r % 65536) (omega arith)))
+    (omega (arith, cost-low q (wordArc r) (omega arith), capacity-low q (wordArc r) (omega arith)))
     (same-capacities q rs)
 
 -- the columns that are constant
@@ -134,11 +136,11 @@ written-at kind from ys z w = fun-ext (λ v. go v (decLt v (length from)))
 -- ---- solutions, by the question
 
 module _ (st : Setting) (es : List Arc) where
-  pub solution : (q : Question) → st .question ≡ q → (ys : List ℤ) (xs : List ℕ) (a : Answer) → CertifiedFor q st (at ys) (loadsOf es xs) a
+  pub solution : (q : Question) → asks st ≡ q → (ys : List ℤ) (xs : List ℕ) (a : Answer) → RulesHold q st (at ys) (loadsOf es xs) a
       → LengthsFor q st es (claimFor a) (at ys) → Solution st es ys xs (claimNumber (claimFor a))
   solution q e ys xs a c l = record {
     answer = a;
-    certified = subst (λ (k : Question). CertifiedFor k st (at ys) (loadsOf es xs) a) (sym e) c;
+    certified = rules-certified st (at ys) (loadsOf es xs) a (subst (λ (k : Question). RulesHold k st (at ys) (loadsOf es xs) a) (sym e) c);
     lengths = subst (λ (k : Question). LengthsFor k st es (claimFor a) (at ys)) (sym e) l;
     reply-is = refl;
   }
@@ -150,7 +152,7 @@ keys r = r .solved .found .key-len ∙ r .solved .left-len ∙ r .supply .len
 module _ {st : Setting} {es : List Arc} (a : AcceptedNetwork st es) where
   -- ---- maximum flow
 
-  pub flow-solution : {x' pi' need' key' : List ℕ} {ys : List ℤ} → st .question ≡ maximumFlow → EngineRun st es x' pi' need' key' → NodeNumbers Mark key' ys → Solution st es ys x' 1
+  pub flow-solution : {x' pi' need' key' : List ℕ} {ys : List ℤ} → asks st ≡ maximumFlow → EngineRun st es x' pi' need' key' → NodeNumbers Mark key' ys → Solution st es ys x' 1
   flow-solution {x'} {pi'} {need'} {key'} {ys} e run w = solution st es maximumFlow e ys x' (value _) (flow-too st (markOf key') (at ys) same (loadsOf es x') _ (ends .source-below) (ends .sink-below) (loads-inside a x') certificate) tt
     where
       ends : TwoVertices st
@@ -169,7 +171,7 @@ module _ {st : Setting} {es : List Arc} (a : AcceptedNetwork st es) where
 
   -- ---- assignment
 
-  module _ {x' pi' need' key' : List ℕ} (e : st .question ≡ assignment) (run : EngineRun st es x' pi' need' key') where
+  module _ {x' pi' need' key' : List ℕ} (e : asks st ≡ assignment) (run : EngineRun st es x' pi' need' key') where
     r : EngineRunFor assignment st es x' pi' need' key'
     r = subst (λ (q : Question). EngineRunFor q st es x' pi' need' key') e run
 
@@ -185,7 +187,7 @@ module _ {st : Setting} {es : List Arc} (a : AcceptedNetwork st es) where
     pub assignment-solution : {ys : List ℤ} → ((v : ℕ) → entry need' v ≡ 0) → NodeNumbers Potential pi' ys → Solution st es ys x' 1
     assignment-solution {ys} met w =
         solution st es assignment e ys x' (value (cost (loadsOf es x')))
-        (subst (λ (y : ℕ → ℤ). CertifiedFor assignment st y (loadsOf es x') (value (cost (loadsOf es x')))) (sym (written-at Potential pi' ys refl w))
+        (subst (λ (y : ℕ → ℤ). RulesHold assignment st y (loadsOf es x') (value (cost (loadsOf es x')))) (sym (written-at Potential pi' ys refl w))
         (assignment-certificate st es (fits a) even sides (r .supply) (r .demand) asked (λ v h. met v)))
         tt
 
@@ -198,10 +200,10 @@ module _ {st : Setting} {es : List Arc} (a : AcceptedNetwork st es) where
 
   -- ---- shortest path
 
-  module _ {pi left need key par : List ℕ} (e : st .question ≡ shortestPath)
+  module _ {pi left need key par : List ℕ} (e : asks st ≡ shortestPath)
       (none-yet : VertexList (st .n) (λ v. 0) pi) (stands : VertexList (st .n) (standing st false) left)
-      (state : PhaseState (tails es) (heads es) (costs (st .question) es) (capacities (st .question) es) (constant es 0) pi left need)
-      (found : SearchResult (residual (tails es) (heads es) (costs (st .question) es) (capacities (st .question) es) (constant es 0) pi) left key par) where
+      (state : PhaseState (tails es) (heads es) (costs (asks st) es) (capacities (asks st) es) (constant es 0) pi left need)
+      (found : SearchResult (residual (tails es) (heads es) (costs (asks st) es) (capacities (asks st) es) (constant es 0) pi) left key par) where
     two : TwoVertices st
     two = subst (λ (q : Question). EndsFor q st) e (a .opened .ends)
 
@@ -219,7 +221,7 @@ module _ {st : Setting} {es : List Arc} (a : AcceptedNetwork st es) where
     n-keys : length key ≡ st .n
     n-keys = F .key-len ∙ supply .len
 
-    true-at : (v : ℕ) (b : Answer) → TrueFor shortestPath (toward st v) es b → TrueFor (st .question) (toward st v) es b
+    true-at : (v : ℕ) (b : Answer) → TrueFor shortestPath (toward st v) es b → TrueFor (asks st) (toward st v) es b
     true-at v b = subst (λ (q : Question). TrueFor q (toward st v) es b) (sym e)
 
     -- what the number of a key tells, where it is told in both cases
@@ -241,11 +243,11 @@ module _ {st : Setting} {es : List Arc} (a : AcceptedNetwork st es) where
         }
 
     pub path-solution : {x' left' : List ℕ} {ys : List ℤ} {g : ℕ} → entry key (st .t) < unreached
-        → Moved (tails es) (heads es) (capacities (st .question) es) par key (constant es 0) left x' left' (st .t) 1 g → NodeNumbers Distance key ys
+        → Moved (tails es) (heads es) (capacities (asks st) es) par key (constant es 0) left x' left' (st .t) 1 g → NodeNumbers Distance key ys
         → Solution st es ys x' 1
     path-solution {x'} {left'} {ys} {g} near moved w =
         solution st es shortestPath e ys x' (value (entry key (st .t) / 256))
-        (subst (λ (y : ℕ → ℤ). CertifiedFor shortestPath st y (loadsOf es x') (value (entry key (st .t) / 256))) (sym (written-at Distance key ys refl w))
+        (subst (λ (y : ℕ → ℤ). RulesHold shortestPath st y (loadsOf es x') (value (entry key (st .t) / 256))) (sym (written-at Distance key ys refl w))
         (path-certificate st es (fits a) (two .source-below) none-yet supply S F (two .sink-below) (two .apart) near one))
         (tells Distance ofValue w (λ k h. rw (lt-ltb k unreached h)) (λ k h. rw (le-ltb k unreached h)))
       where

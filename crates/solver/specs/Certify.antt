@@ -3,17 +3,18 @@
 use mathlib.Core.Path.{_≡_}
 use mathlib.Core.Bool.{Bool, true, false, _&&_}
 use mathlib.Core.List.{List, map}
-use Prim.Native.Nat.{ℕ, _/_, _%_, _<_, _≤_}
+use Prim.Native.Nat.{ℕ, _/_, _<_, _≤_}
 use lib.Dec.{eqb, ltb, leb}
 use lib.IntN.{ℤ, pos}
 use lib.ListN.{length}
 use Rattle.prelude.specs.Choice.{pick, indicator}
 use Rattle.prelude.specs.Checks.{firstBroken}
 use Rattle.prelude.specs.Lists.{Every, all, at}
-use Rattle.network.specs.Network.{Arc, arcOf}
-use Rattle.network.specs.Question.{Question, shortestPath, maximumFlow, assignment, Setting, Opened, Allowed, Answer, value, none, TrueAnswer}
-use Rattle.network.specs.Certificate.{Certified}
-use Rattle.network.specs.Tests.{Claim, ofValue, ofNone, claimNumber, claimFor, openingChecks, arcChecks}
+use Rattle.network.specs.Limits.{mostArcs, mostPotential}
+use Rattle.network.specs.Network.{Arc, wordArc, wordArcs, loadsOf}
+use Rattle.network.specs.Question.{Question, shortestPath, maximumFlow, assignment, unasked, Setting, asks, unitCost, Opened, Allowed, Answer, value, none, TrueAnswer}
+use Rattle.network.specs.Certificate.{Claim, ofValue, ofNone, claimFor, Certified}
+use Rattle.network.specs.Tests.{claimNumber, openingChecks, arcChecks}
 use Rattle.engine.specs.Residual.{entry, unreached}
 use Rattle.engine.specs.PackedArcs.{packedArc}
 use Rattle.engine.specs.Phase.{Solved}
@@ -21,50 +22,37 @@ use Rattle.solver.specs.declared.Finding.{Finding}
 use Rattle.solver.specs.declared.Finding.the-variants.{Value, None, Refused}
 use Rattle.solver.specs.declared.vertices.NumberKind.{NumberKind}
 use Rattle.solver.specs.declared.vertices.NumberKind.the-variants.{Mark, Distance, Potential}
-use Rattle.solver.specs.Instance.{loadsOf, toward, single, atPumps, atSites, VertexList, tails, heads, constant}
+use Rattle.solver.specs.Instance.{toward, single, atPumps, atSites, VertexList, tails, heads, constant}
 
 -- ---- what is handed over
 
--- The arc of a record: tail × 16777216 + head × 65536 + weight.
-abbrev pub recordArc : ℕ → Arc
-recordArc r = arcOf (r / 16777216 % 256) (r / 65536 % 256) (r % 65536)
-
--- The arcs of records, in order.
-abbrev pub recordArcs : List ℕ → List Arc
-recordArcs rs = map recordArc rs
-
 -- Checks 7 and 8 let the arc of the record through.
 abbrev pub recordOk : Setting → ℕ → Bool
-recordOk st r = eqb (firstBroken (arcChecks st (recordArc r))) 0
+recordOk st r = eqb (firstBroken (arcChecks st (wordArc r))) 0
 
 -- What the solver answers: a setting that opening accepts, at most 4096 records whose arcs reading accepts, and room for one number a vertex and one amount a record.
-abbrev pub admissible : ℕ → Setting → List ℕ → ℕ → ℕ → Bool
-admissible q st rs numbers amounts =
-    eqb (firstBroken (openingChecks q st)) 0 && leb (length rs) 4096 && eqb numbers (st .n) && eqb amounts (length rs) && all (recordOk st) rs
+abbrev pub admissible : Setting → List ℕ → ℕ → ℕ → Bool
+admissible st rs numbers amounts =
+    eqb (firstBroken (openingChecks st)) 0 && leb (length rs) mostArcs && eqb numbers (st .n) && eqb amounts (length rs) && all (recordOk st) rs
 
 -- What is known of records that are answered.
 pub record AcceptedNetwork (st : Setting) (net : List Arc) : Type 0 where
   pub opened : Opened st
   pub allowed : Every (Allowed st) net
-  pub few : length net ≤ 4096
+  pub few : length net ≤ mostArcs
 
 -- ---- how the engine is asked
 
--- The cost of an arc of weight w.
-abbrev pub costFor : Question → ℕ → ℕ
-costFor shortestPath w = w
-costFor maximumFlow w = 0
-costFor assignment w = w
+-- The capacity of an arc: 1 for a path, for one unit is sent; its own for a flow; 2 for an assignment, where no more than 1 ever comes, so that an arc is never full.
+abbrev pub capacityFor : Question → Arc → ℕ
+capacityFor shortestPath e = 1
+capacityFor maximumFlow e = e .weight
+capacityFor assignment e = 2
+capacityFor unasked e = 0
 
--- The capacity of an arc of weight w.
-abbrev pub capacityFor : Question → ℕ → ℕ
-capacityFor shortestPath w = 1
-capacityFor maximumFlow w = w
-capacityFor assignment w = 2
-
--- The arc of a record, packed for the engine.
+-- The arc of a record, packed for the engine: a unit costs there what the question says.
 abbrev pub packedFor : Question → ℕ → ℕ
-packedFor q r = packedArc (r / 16777216 % 256) (r / 65536 % 256) (costFor q (r % 65536)) (capacityFor q (r % 65536))
+packedFor q r = packedArc (wordArc r .tail) (wordArc r .head) (unitCost q (wordArc r)) (capacityFor q (wordArc r))
 
 -- The vertex at which something stands: the supply at the source, what is wanted at the sink.
 abbrev pub endFor : Setting → Bool → ℕ
@@ -75,18 +63,19 @@ abbrev pub standingFor : Question → Setting → Bool → ℕ → ℕ
 standingFor shortestPath st wanted v = single (endFor st wanted) 1 v
 standingFor maximumFlow st wanted v = single (endFor st wanted) 134213633 v
 standingFor assignment st wanted v = pick wanted (atSites st v) (atPumps st v)
+standingFor unasked st wanted v = 0
 
 -- What stands at the vertex v for the question of the setting.
 abbrev pub standing : Setting → Bool → ℕ → ℕ
-standing st wanted v = standingFor (st .question) st wanted v
+standing st wanted v = standingFor (asks st) st wanted v
 
 -- The column of costs.
 abbrev pub costs : Question → List Arc → List ℕ
-costs q net = map (λ e. costFor q (e .weight)) net
+costs q net = map (unitCost q) net
 
 -- The column of capacities.
 abbrev pub capacities : Question → List Arc → List ℕ
-capacities q net = map (λ e. capacityFor q (e .weight)) net
+capacities q net = map (capacityFor q) net
 
 -- The engine was asked the question q: what it gave back, from supplies, demands and amounts of 0.
 pub record EngineRunFor (q : Question) (st : Setting) (net : List Arc) (x' pi' need' key' : List ℕ) : Type 0 where
@@ -101,12 +90,12 @@ pub record EngineRunFor (q : Question) (st : Setting) (net : List Arc) (x' pi' n
 
 -- The engine was asked the question of the setting.
 abbrev pub EngineRun : (st : Setting) (net : List Arc) (x' pi' need' key' : List ℕ) → Type 0
-EngineRun st net x' pi' need' key' = EngineRunFor (st .question) st net x' pi' need' key'
+EngineRun st net x' pi' need' key' = EngineRunFor (asks st) st net x' pi' need' key'
 
 -- The node number written for a vertex, read from k: a mark or a distance from its key, or a potential as it stands.
 abbrev pub numberOf : NumberKind → ℕ → ℕ
 numberOf Mark k = indicator (ltb k unreached)
-numberOf Distance k = pick (ltb k unreached) (k / 256) 8322818
+numberOf Distance k = pick (ltb k unreached) (k / 256) mostPotential
 numberOf Potential k = k
 
 -- The numbers written for the entries of a list.
@@ -125,7 +114,7 @@ pub record Wanting (need : List ℕ) : Type 0 where
 -- The number that tells the true answer for a vertex: its least length, or 8322818 where no walk leads; for the claim none, 1 where a walk leads and 0 elsewhere.
 abbrev pub toldBy : Claim → Answer → ℤ
 toldBy ofValue (value d) = pos d
-toldBy ofValue none = pos 8322818
+toldBy ofValue none = pos mostPotential
 toldBy ofNone (value d) = pos 1
 toldBy ofNone none = pos 0
 
@@ -140,6 +129,7 @@ abbrev pub LengthsFor : Question → Setting → List Arc → Claim → (ℕ →
 LengthsFor shortestPath st net c y = (v : ℕ) → v < st .n → Told st net c y v
 LengthsFor maximumFlow st net c y = Unit {0}
 LengthsFor assignment st net c y = Unit {0}
+LengthsFor unasked st net c y = Unit {0}
 
 -- The number of the claim that was found; 0 for a refusal.
 abbrev pub findingNumber : Finding → ℕ
@@ -151,12 +141,12 @@ findingNumber Refused = 0
 pub record Solution (st : Setting) (net : List Arc) (ys : List ℤ) (xs : List ℕ) (reply : ℕ) : Type 0 where
   pub answer : Answer
   pub certified : Certified st (at ys) (loadsOf net xs) answer
-  pub lengths : LengthsFor (st .question) st net (claimFor answer) (at ys)
+  pub lengths : LengthsFor (asks st) st net (claimFor answer) (at ys)
   pub reply-is : reply ≡ claimNumber (claimFor answer)
 
 -- The outcome: refused, with nothing changed; or a certificate.
-pub data CertifyOutcome (q : ℕ) (st : Setting) (rs : List ℕ) (ys : List ℤ) (xs : List ℕ) (ys' : List ℤ) (xs' : List ℕ) (reply : ℕ) : Type 0 where
-  refused : admissible q st rs (length ys) (length xs) ≡ false → ys' ≡ ys → xs' ≡ xs → reply ≡ 0 → CertifyOutcome q st rs ys xs ys' xs' reply
+pub data CertifyOutcome (st : Setting) (rs : List ℕ) (ys : List ℤ) (xs : List ℕ) (ys' : List ℤ) (xs' : List ℕ) (reply : ℕ) : Type 0 where
+  refused : admissible st rs (length ys) (length xs) ≡ false → ys' ≡ ys → xs' ≡ xs → reply ≡ 0 → CertifyOutcome st rs ys xs ys' xs' reply
   solved :
-      admissible q st rs (length ys) (length xs) ≡ true → length ys' ≡ length ys → length xs' ≡ length xs
-      → Solution st (recordArcs rs) ys' xs' reply → CertifyOutcome q st rs ys xs ys' xs' reply
+      admissible st rs (length ys) (length xs) ≡ true → length ys' ≡ length ys → length xs' ≡ length xs
+      → Solution st (wordArcs rs) ys' xs' reply → CertifyOutcome st rs ys xs ys' xs' reply

@@ -1,22 +1,23 @@
--- The three questions as the engine is asked them: the columns of a network, its loads, lists by vertex, and node numbers read from keys.
+-- The three questions as the engine is asked them: the columns of a network, lists by vertex, and node numbers read from keys.
 -- Assumes nothing.
 use mathlib.Core.Path.{_≡_}
 use mathlib.Core.Bool.{Bool, not}
-use mathlib.Core.List.{List, [], _∷_, map}
+use mathlib.Core.List.{List, map}
 use Prim.Native.Nat.{ℕ, _*_, _/_, _<_, _≤_}
 use lib.Dec.{ltb}
 use lib.IntN.{ℤ, pos}
 use lib.ListN.{length, replicate}
 use Rattle.prelude.specs.Choice.{pick, indicator}
 use Rattle.prelude.specs.Lists.{Every}
-use Rattle.network.specs.Network.{Arc, Load, delta}
+use Rattle.network.specs.Limits.{mostVertices, mostArcs, mostPotential}
+use Rattle.network.specs.Network.{Arc, delta}
 use Rattle.network.specs.Question.{Setting, pumps, WeightWithin}
 use Rattle.engine.specs.Residual.{entry, unreached}
 
 -- What reading lets through: a network within the limits, whose arcs join vertices below n.
 pub record Fits (n : ℕ) (es : List Arc) : Type 0 where
-  pub small : n ≤ 255
-  pub few : length es ≤ 4096
+  pub small : n ≤ mostVertices
+  pub few : length es ≤ mostArcs
   pub inside : Every (λ e. (e .tail < n) × (e .head < n)) es
   pub light : Every WeightWithin es
 
@@ -37,12 +38,6 @@ weights es = map (λ e. e .weight) es
 -- The column that holds k for each arc.
 abbrev pub constant : List Arc → ℕ → List ℕ
 constant es k = replicate (length es) k
-
--- The arcs with their amounts, 0 where the amounts have ended.
-unfoldable pub loadsOf : List Arc → List ℕ → List Load
-loadsOf [] xs = []
-loadsOf (e ∷ es) [] = record { arc = e; amount = 0 } ∷ loadsOf es []
-loadsOf (e ∷ es) (x ∷ xs) = record { arc = e; amount = x } ∷ loadsOf es xs
 
 -- ---- by vertex
 
@@ -71,9 +66,9 @@ Falls l l' = (v : ℕ) → entry l' v ≤ entry l v
 abbrev pub reached : List ℕ → ℕ → Bool
 reached key v = ltb (entry key v) unreached
 
--- The least length of a walk to v that a key holds, and 8322818, which is as high as a potential goes, where none leads there.
+-- The least length of a walk to v that a key holds, and as high as a potential goes where none leads there.
 abbrev pub distanceOf : List ℕ → ℕ → ℕ
-distanceOf key v = pick (reached key v) (entry key v / 256) 8322818
+distanceOf key v = pick (reached key v) (entry key v / 256) mostPotential
 
 -- The node numbers of a path: the distances.
 abbrev pub potentialOf : List ℕ → ℕ → ℤ

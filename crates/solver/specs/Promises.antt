@@ -6,10 +6,11 @@ use mathlib.Core.List.{List}
 use Prim.Native.Nat.{ℕ}
 use lib.IntN.{ℤ}
 use lib.ListN.{length}
-use Rattle.network.specs.Network.{Arc}
+use Rattle.network.specs.Network.{Arc, wordArcs}
 use Rattle.network.specs.Question.{Setting, Answer, TrueAnswer}
-use Rattle.network.specs.Tests.{claimNumber, claimFor}
-use Rattle.solver.specs.Certify.{recordArcs, admissible, CertifyOutcome}
+use Rattle.network.specs.Certificate.{claimFor}
+use Rattle.network.specs.Tests.{claimNumber}
+use Rattle.solver.specs.Certify.{admissible, CertifyOutcome}
 
 -- There is a true answer, no other one is true, and the reply is its claim: a value exactly where a value is true.
 pub record Decided (st : Setting) (net : List Arc) (reply : ℕ) : Type 0 where
@@ -21,5 +22,5 @@ pub record Decided (st : Setting) (net : List Arc) (reply : ℕ) : Type 0 where
 -- Whatever is admissible is decided: a value is claimed exactly where there is one.
 abbrev pub Decides : Type 0
 Decides =
-    (q : ℕ) (st : Setting) (rs : List ℕ) (ys ys' : List ℤ) (xs xs' : List ℕ) (reply : ℕ)
-    → admissible q st rs (length ys) (length xs) ≡ true → CertifyOutcome q st rs ys xs ys' xs' reply → Decided st (recordArcs rs) reply
+    (st : Setting) (rs : List ℕ) (ys ys' : List ℤ) (xs xs' : List ℕ) (reply : ℕ)
+    → admissible st rs (length ys) (length xs) ≡ true → CertifyOutcome st rs ys xs ys' xs' reply → Decided st (wordArcs rs) reply

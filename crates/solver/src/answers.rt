@@ -1,46 +1,46 @@
 // Certificates for the three questions: a path that the engine sends along for a path, its phases for a flow and for an assignment.
 ghost use mathlib.Core.Path.{_≡_};
-ghost use mathlib.Core.Logic.{_≢_};
 ghost use lib.ListN.{length};
-ghost use Rattle.network.specs.Question.{shortestPath};
-ghost use Rattle.checks.specs.Setting.{asked};
-ghost use Rattle.solver.specs.Certify.{recordArcs, findingNumber, AcceptedNetwork, EngineRun, Solution};
+ghost use Rattle.network.specs.Network.{wordArcs};
+ghost use Rattle.network.specs.Question.{shortestPath, maximumFlow, assignment, asks};
+ghost use Rattle.checks.specs.Held.{asked};
+ghost use Rattle.solver.specs.Certify.{findingNumber, AcceptedNetwork, EngineRun, Solution};
 use super::Finding;
 use super::records::pack;
 use super::vertices::NumberKind;
 use super::vertices::met;
 use super::vertices::stand;
 use super::vertices::write;
-use checks::Setting;
+use checks::HeldSetting;
 use engine::Sent;
 use engine::clearing::clear_amounts;
 
 // Asks the engine the question of the setting: supplies, demands, packed records.
 fn run(
-    st: Setting,
+    st: HeldSetting,
     records: &[u32],
     x: &mut [u16],
     pi: &mut [u32],
     need: &mut [u32],
     key: &mut [u32],
 )
-    requires { ⌜ AcceptedNetwork (asked st) (recordArcs (now records)) ⌝ }
+    requires { ⌜ AcceptedNetwork (asked st) (wordArcs (now records)) ⌝ }
     requires { ⌜ (length (now x) ≡ length (now records)) × (length (now pi) ≡ st .n) × (length (now need) ≡ st .n) × (length (now key) ≡ st .n) ⌝ }
-    ensures { λ _. ⌜ EngineRun (asked st) (recordArcs (now (records .entry))) (now (x .exit)) (now (pi .exit)) (now (need .exit)) (now (key .exit)) ⌝ }
+    ensures { λ _. ⌜ EngineRun (asked st) (wordArcs (now (records .entry))) (now (x .exit)) (now (pi .exit)) (now (need .exit)) (now (key .exit)) ⌝ }
 {
     let n = key.len();
     let m = records.len();
     let mut arcs = [0u64; 4096];
     let mut left = [0u32; 255];
-    pack(st.question, records, &mut arcs[..m]);
+    pack(st, records, &mut arcs[..m]);
     stand(st, false, &mut left[..n]);
     stand(st, true, need);
     engine::solve(&arcs[..m], x, pi, &mut left[..n], need, key);
 }
 
-// What is found, and numbers and amounts that certify it, for a flow or an assignment.
-fn answer_run(
-    st: Setting,
+// What is found, and numbers and amounts that certify it, for a flow.
+fn answer_flow(
+    st: HeldSetting,
     records: &[u32],
     pi: &mut [u32],
     need: &mut [u32],
@@ -48,17 +48,57 @@ fn answer_run(
     numbers: &mut [i32],
     amounts: &mut [u16],
 ) -> Finding
-    requires { ⌜ AcceptedNetwork (asked st) (recordArcs (now records)) × ((asked st) .question ≢ shortestPath) ⌝ }
+    requires { ⌜ AcceptedNetwork (asked st) (wordArcs (now records)) × (asks (asked st) ≡ maximumFlow) ⌝ }
     requires { ⌜ (length (now amounts) ≡ length (now records)) × (length (now numbers) ≡ st .n) ⌝ }
     requires { ⌜ (length (now pi) ≡ st .n) × (length (now need) ≡ st .n) × (length (now key) ≡ st .n) ⌝ }
-    ensures { λ r. ⌜ Solution (asked st) (recordArcs (now (records .entry))) (now (numbers .exit)) (now (amounts .exit)) (findingNumber r) ⌝ }
+    ensures { λ r. ⌜ Solution (asked st) (wordArcs (now (records .entry))) (now (numbers .exit)) (now (amounts .exit)) (findingNumber r) ⌝ }
 {
-    let question = st.question;
     run(st, records, amounts, pi, need, key);
-    if question == 2 {
-        write(NumberKind::Mark, key, numbers);
-        return Finding::Value;
-    }
+    write(NumberKind::Mark, key, numbers);
+    Finding::Value
+}
+
+pub(crate) fn certify_flow(
+    st: HeldSetting,
+    records: &[u32],
+    numbers: &mut [i32],
+    amounts: &mut [u16],
+) -> Finding
+    requires { ⌜ AcceptedNetwork (asked st) (wordArcs (now records)) × (asks (asked st) ≡ maximumFlow) ⌝ }
+    requires { ⌜ (length (now amounts) ≡ length (now records)) × (length (now numbers) ≡ st .n) ⌝ }
+    ensures { λ r. ⌜ Solution (asked st) (wordArcs (now (records .entry))) (now (numbers .exit)) (now (amounts .exit)) (findingNumber r) ⌝ }
+{
+    let n = numbers.len();
+    let mut pi = [0u32; 255];
+    let mut need = [0u32; 255];
+    let mut key = [0u32; 255];
+    answer_flow(
+        st,
+        records,
+        &mut pi[..n],
+        &mut need[..n],
+        &mut key[..n],
+        numbers,
+        amounts,
+    )
+}
+
+// What is found, and numbers and amounts that certify it, for an assignment.
+fn answer_assignment(
+    st: HeldSetting,
+    records: &[u32],
+    pi: &mut [u32],
+    need: &mut [u32],
+    key: &mut [u32],
+    numbers: &mut [i32],
+    amounts: &mut [u16],
+) -> Finding
+    requires { ⌜ AcceptedNetwork (asked st) (wordArcs (now records)) × (asks (asked st) ≡ assignment) ⌝ }
+    requires { ⌜ (length (now amounts) ≡ length (now records)) × (length (now numbers) ≡ st .n) ⌝ }
+    requires { ⌜ (length (now pi) ≡ st .n) × (length (now need) ≡ st .n) × (length (now key) ≡ st .n) ⌝ }
+    ensures { λ r. ⌜ Solution (asked st) (wordArcs (now (records .entry))) (now (numbers .exit)) (now (amounts .exit)) (findingNumber r) ⌝ }
+{
+    run(st, records, amounts, pi, need, key);
     if met(need) {
         write(NumberKind::Potential, pi, numbers);
         return Finding::Value;
@@ -68,21 +108,21 @@ fn answer_run(
     Finding::None
 }
 
-pub(crate) fn certify_run(
-    st: Setting,
+pub(crate) fn certify_assignment(
+    st: HeldSetting,
     records: &[u32],
     numbers: &mut [i32],
     amounts: &mut [u16],
 ) -> Finding
-    requires { ⌜ AcceptedNetwork (asked st) (recordArcs (now records)) × ((asked st) .question ≢ shortestPath) ⌝ }
+    requires { ⌜ AcceptedNetwork (asked st) (wordArcs (now records)) × (asks (asked st) ≡ assignment) ⌝ }
     requires { ⌜ (length (now amounts) ≡ length (now records)) × (length (now numbers) ≡ st .n) ⌝ }
-    ensures { λ r. ⌜ Solution (asked st) (recordArcs (now (records .entry))) (now (numbers .exit)) (now (amounts .exit)) (findingNumber r) ⌝ }
+    ensures { λ r. ⌜ Solution (asked st) (wordArcs (now (records .entry))) (now (numbers .exit)) (now (amounts .exit)) (findingNumber r) ⌝ }
 {
     let n = numbers.len();
     let mut pi = [0u32; 255];
     let mut need = [0u32; 255];
     let mut key = [0u32; 255];
-    answer_run(
+    answer_assignment(
         st,
         records,
         &mut pi[..n],
@@ -95,22 +135,22 @@ pub(crate) fn certify_run(
 
 // What is found, and numbers and amounts that certify it, for a path.
 fn answer_path(
-    st: Setting,
+    st: HeldSetting,
     records: &[u32],
     left: &mut [u32],
     key: &mut [u32],
     numbers: &mut [i32],
     amounts: &mut [u16],
 ) -> Finding
-    requires { ⌜ AcceptedNetwork (asked st) (recordArcs (now records)) × ((asked st) .question ≡ shortestPath) ⌝ }
+    requires { ⌜ AcceptedNetwork (asked st) (wordArcs (now records)) × (asks (asked st) ≡ shortestPath) ⌝ }
     requires { ⌜ (length (now amounts) ≡ length (now records)) × (length (now numbers) ≡ st .n) ⌝ }
     requires { ⌜ (length (now left) ≡ st .n) × (length (now key) ≡ st .n) ⌝ }
-    ensures { λ r. ⌜ Solution (asked st) (recordArcs (now (records .entry))) (now (numbers .exit)) (now (amounts .exit)) (findingNumber r) ⌝ }
+    ensures { λ r. ⌜ Solution (asked st) (wordArcs (now (records .entry))) (now (numbers .exit)) (now (amounts .exit)) (findingNumber r) ⌝ }
 {
     let t = st.t as usize;
     let m = records.len();
     let mut arcs = [0u64; 4096];
-    pack(st.question, records, &mut arcs[..m]);
+    pack(st, records, &mut arcs[..m]);
     stand(st, false, left);
     let sent = engine::send(&arcs[..m], t, 1, amounts, left, key);
     match sent {
@@ -127,14 +167,14 @@ fn answer_path(
 }
 
 pub(crate) fn certify_path(
-    st: Setting,
+    st: HeldSetting,
     records: &[u32],
     numbers: &mut [i32],
     amounts: &mut [u16],
 ) -> Finding
-    requires { ⌜ AcceptedNetwork (asked st) (recordArcs (now records)) × ((asked st) .question ≡ shortestPath) ⌝ }
+    requires { ⌜ AcceptedNetwork (asked st) (wordArcs (now records)) × (asks (asked st) ≡ shortestPath) ⌝ }
     requires { ⌜ (length (now amounts) ≡ length (now records)) × (length (now numbers) ≡ st .n) ⌝ }
-    ensures { λ r. ⌜ Solution (asked st) (recordArcs (now (records .entry))) (now (numbers .exit)) (now (amounts .exit)) (findingNumber r) ⌝ }
+    ensures { λ r. ⌜ Solution (asked st) (wordArcs (now (records .entry))) (now (numbers .exit)) (now (amounts .exit)) (findingNumber r) ⌝ }
 {
     let n = numbers.len();
     let mut left = [0u32; 255];

@@ -1,10 +1,13 @@
 // Finds a certificate for every network that a session accepts.
 ghost use mathlib.Core.Path.{_≡_};
-ghost use Rattle.checks.specs.Setting.{asked};
+ghost use Rattle.checks.specs.Held.{asked};
 ghost use Rattle.solver.specs.Certify.{findingNumber, CertifyOutcome};
+use answers::certify_assignment;
+use answers::certify_flow;
 use answers::certify_path;
-use answers::certify_run;
-use checks::Setting;
+use checks::HeldSetting;
+use checks::rows::Question;
+use checks::rows::question_of;
 use records::is_admissible;
 
 mod answers;
@@ -30,15 +33,17 @@ pub fn claim_number(finding: Finding) -> u8
 }
 
 // A certificate for the network of the records: what is claimed, with node numbers and amounts. Where the input is not admissible nothing is changed.
-pub fn certify(st: Setting, records: &[u32], numbers: &mut [i32], amounts: &mut [u16]) -> Finding
-    ensures { λ r. ⌜ CertifyOutcome (st .question) (asked st) (now (records .entry)) (now (numbers .entry)) (now (amounts .entry)) (now (numbers .exit)) (now (amounts .exit)) (findingNumber r) ⌝ }
+pub fn certify(st: HeldSetting, records: &[u32], numbers: &mut [i32], amounts: &mut [u16]) -> Finding
+    ensures { λ r. ⌜ CertifyOutcome (asked st) (now (records .entry)) (now (numbers .entry)) (now (amounts .entry)) (now (numbers .exit)) (now (amounts .exit)) (findingNumber r) ⌝ }
 {
-    let question = st.question;
+    let question = question_of(st.question as u32);
     if !is_admissible(st, records, numbers.len(), amounts.len()) {
         return Finding::Refused;
     }
-    if question == 1 {
-        return certify_path(st, records, numbers, amounts);
+    match question {
+        Question::Path => certify_path(st, records, numbers, amounts),
+        Question::Flow => certify_flow(st, records, numbers, amounts),
+        Question::Assignment => certify_assignment(st, records, numbers, amounts),
+        Question::Unasked => Finding::Refused,
     }
-    certify_run(st, records, numbers, amounts)
 }

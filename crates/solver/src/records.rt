@@ -3,34 +3,51 @@ ghost use mathlib.Core.Path.{_≡_};
 ghost use mathlib.Core.List.{map};
 ghost use lib.ListN.{length};
 ghost use Rattle.prelude.specs.Lists.{all};
-ghost use Rattle.network.specs.Tests.{questionOf};
-ghost use Rattle.checks.specs.Setting.{asked};
-ghost use Rattle.solver.specs.Certify.{admissible, recordOk, packedFor};
-use checks::Setting;
-use checks::opening;
+ghost use Rattle.network.specs.Network.{arcHeld};
+ghost use Rattle.network.specs.Question.{asks};
+ghost use Rattle.checks.specs.Held.{asked, questionHeld};
+ghost use Rattle.solver.specs.Certify.{admissible, recordOk, capacityFor, packedFor};
+use checks::HeldSetting;
+use checks::Opening;
+use checks::reading::arc_check;
+use checks::reading::opening_check;
+use checks::rows::Question;
+use checks::rows::question_of;
+use checks::rows::unit_cost;
+use network::MOST_ARCS;
+use network::Record;
+use network::arc_in;
+
+// The capacity of an arc as the engine is told it.
+fn capacity_of(question: Question, arc: Record) -> u32
+    ensures { λ r. ⌜ r ≡ capacityFor (questionHeld question) (arcHeld arc) ⌝ }
+{
+    match question {
+        Question::Path => 1,
+        Question::Flow => arc.weight,
+        Question::Assignment => 2,
+        Question::Unasked => 0,
+    }
+}
 
 // The arc of a record, packed with its cost and its capacity.
-fn packed_arc(question: u8, word: u32) -> u64
-    ensures { λ r. ⌜ r ≡ packedFor (questionOf question) word ⌝ }
+fn packed_arc(question: Question, word: u32) -> u64
+    ensures { λ r. ⌜ r ≡ packedFor (questionHeld question) word ⌝ }
 {
-    let a = (word / 16777216 % 256) as u64;
-    let b = (word / 65536 % 256) as u64;
-    let w = (word % 65536) as u64;
-    let ends = a + 256 * b;
-    if question == 1 {
-        return ends + 65536 * w + 4294967296;
-    }
-    if question == 2 {
-        return ends + 4294967296 * w;
-    }
-    ends + 65536 * w + 8589934592
+    let arc = arc_in(word);
+    let tail = arc.tail as u64;
+    let head = arc.head as u64;
+    let cost = unit_cost(question, arc) as u64;
+    let capacity = capacity_of(question, arc) as u64;
+    tail + 256 * head + 65536 * cost + 4294967296 * capacity
 }
 
 // The packed arcs of the records, in order.
-pub(crate) fn pack(question: u8, records: &[u32], arcs: &mut [u64])
+pub(crate) fn pack(st: HeldSetting, records: &[u32], arcs: &mut [u64])
     requires { ⌜ length (now arcs) ≡ length (now records) ⌝ }
-    ensures { λ _. ⌜ now (arcs .exit) ≡ map (packedFor (questionOf question)) (now (records .entry)) ⌝ }
+    ensures { λ _. ⌜ now (arcs .exit) ≡ map (packedFor (asks (asked st))) (now (records .entry)) ⌝ }
 {
+    let question = question_of(st.question as u32);
     let mut e = 0;
     while e < records.len() {
         arcs[e] = packed_arc(question, records[e]);
@@ -39,17 +56,14 @@ pub(crate) fn pack(question: u8, records: &[u32], arcs: &mut [u64])
 }
 
 // Do checks 7 and 8 let the record through?
-fn record_ok(st: Setting, word: u32) -> bool
+fn record_ok(st: HeldSetting, word: u32) -> bool
     ensures { λ r. ⌜ r ≡ recordOk (asked st) word ⌝ }
 {
-    let a = word / 16777216 % 256;
-    let b = word / 65536 % 256;
-    let w = word % 65536;
-    opening::arc_check(st, a, b, w) == 0
+    arc_check(st, arc_in(word)) == 0
 }
 
 // Do they let every record through?
-fn records_ok(st: Setting, records: &[u32]) -> bool
+fn records_ok(st: HeldSetting, records: &[u32]) -> bool
     ensures { λ r. ⌜ r ≡ all (recordOk (asked st)) (now (records .entry)) ⌝ }
 {
     let mut e = 0;
@@ -63,15 +77,20 @@ fn records_ok(st: Setting, records: &[u32]) -> bool
 }
 
 // Is this what the solver answers?
-pub(crate) fn is_admissible(st: Setting, records: &[u32], numbers: usize, amounts: usize) -> bool
-    ensures { λ r. ⌜ r ≡ admissible (st .question) (asked st) (now (records .entry)) numbers amounts ⌝ }
+pub(crate) fn is_admissible(st: HeldSetting, records: &[u32], numbers: usize, amounts: usize) -> bool
+    ensures { λ r. ⌜ r ≡ admissible (asked st) (now (records .entry)) numbers amounts ⌝ }
 {
-    let question = st.question;
     let n = st.n;
-    if opening::opening_check(question as u32, n as u32, st.s as u32, st.t as u32) != 0 {
+    let opening = Opening {
+        question: st.question as u32,
+        n: n as u32,
+        s: st.s as u32,
+        t: st.t as u32,
+    };
+    if opening_check(opening) != 0 {
         return false;
     }
-    if 4096 < records.len() {
+    if (MOST_ARCS as usize) < records.len() {
         return false;
     }
     if numbers != (n as usize) {

@@ -5,12 +5,16 @@ ghost use Prim.Native.Nat.{ℕ, _/_, _<_, _≤_};
 ghost use lib.Dec.{ltb};
 ghost use lib.ListN.{length};
 ghost use Rattle.prelude.specs.Choice.{pick, indicator};
-ghost use Rattle.checks.specs.Setting.{asked};
+ghost use Rattle.checks.specs.Held.{asked};
 ghost use Rattle.solver.specs.Certify.{endFor, standing, numberOf, NodeNumbers, Wanting};
 ghost use Rattle.engine.specs.Residual.{entry};
-ghost use Rattle.solver.specs.Instance.{VertexList, single as singleAt};
-use checks::Setting;
+ghost use Rattle.solver.specs.Instance.{VertexList, single as singleAt, atPumps, atSites};
+use checks::HeldSetting;
+use checks::reading::pumps;
+use checks::rows::Question;
+use checks::rows::question_of;
 use engine::UNREACHED;
+use network::MOST_POTENTIAL;
 
 // amount at the vertex k, 0 elsewhere.
 fn single(k: u8, amount: u32, v: u8) -> u32
@@ -22,7 +26,7 @@ fn single(k: u8, amount: u32, v: u8) -> u32
     0
 }
 
-fn end_of(st: Setting, wanted: bool) -> u8
+fn end_of(st: HeldSetting, wanted: bool) -> u8
     ensures { λ r. ⌜ r ≡ endFor (asked st) wanted ⌝ }
 {
     if wanted {
@@ -32,10 +36,10 @@ fn end_of(st: Setting, wanted: bool) -> u8
 }
 
 // For an assignment: 1 at every pump, or at every site where wanted.
-fn on_side(n: u8, wanted: bool, v: u8) -> u32
-    ensures { λ r. ⌜ r ≡ pick wanted (indicator (not (ltb v (n / 2)))) (indicator (ltb v (n / 2))) ⌝ }
+fn on_side(st: HeldSetting, wanted: bool, v: u8) -> u32
+    ensures { λ r. ⌜ r ≡ pick wanted (atSites (asked st) v) (atPumps (asked st) v) ⌝ }
 {
-    if v < n / 2 {
+    if v < pumps(st) {
         if wanted {
             return 0;
         }
@@ -48,20 +52,20 @@ fn on_side(n: u8, wanted: bool, v: u8) -> u32
 }
 
 // What stands at the vertex v: the supply, or what is wanted.
-fn standing_at(st: Setting, wanted: bool, v: u8) -> u32
+fn standing_at(st: HeldSetting, wanted: bool, v: u8) -> u32
     ensures { λ r. ⌜ r ≡ standing (asked st) wanted v ⌝ }
 {
+    let question = question_of(st.question as u32);
     let end = end_of(st, wanted);
-    if st.question == 1 {
-        return single(end, 1, v);
+    match question {
+        Question::Path => single(end, 1, v),
+        Question::Flow => single(end, 134213633, v),
+        Question::Assignment => on_side(st, wanted, v),
+        Question::Unasked => 0,
     }
-    if st.question == 2 {
-        return single(end, 134213633, v);
-    }
-    on_side(st.n, wanted, v)
 }
 
-pub(crate) fn stand(st: Setting, wanted: bool, list: &mut [u32])
+pub(crate) fn stand(st: HeldSetting, wanted: bool, list: &mut [u32])
     requires { ⌜ length (now list) ≤ 255 ⌝ }
     ensures { λ _. ⌜ VertexList (length (now (list .entry))) (standing (asked st) wanted) (now (list .exit)) ⌝ }
 {
@@ -94,7 +98,7 @@ fn distance_of(key: u32) -> u32
     if key < UNREACHED {
         return key / 256;
     }
-    8322818
+    MOST_POTENTIAL as u32
 }
 
 // The number that is written for k.

@@ -1,7 +1,7 @@
 -- `helper::annotate` meets its contract.
 -- Assumes nothing.
-use mathlib.Core.Path.{_≡_, refl, sym, _∙_, ap, subst}
-use mathlib.Core.List.{List, [], _∷_, _++_}
+use mathlib.Core.Path.{_≡_, refl, ap, subst}
+use mathlib.Core.List.{List, [], _∷_}
 use Prim.Native.Nat.{ℕ, _+_, _*_, _<_, _≤_}
 use lib.ListN.{length}
 use lib.Dec.{leb}
@@ -9,40 +9,28 @@ use borrow.Author.Needs.{needs}
 use borrow.Author.Tests.{le-leb, lt-leb}
 use Rattle.prelude.specs.Checks.{_unless_, firstBroken}
 use Rattle.prelude.specs.Choice.{pick}
-use Rattle.prelude.proofs.Settle.{Numbered, none-broken, part-refused, part-passed}
-use Rattle.network.specs.Tests.{openingChecks}
-use Rattle.runs.specs.Exchange.{readRules}
-use Rattle.format.specs.Files.{questionIn, nIn, countIn, arcsIn, networkLayout}
-use Rattle.judging.specs.Judging.{settingIn, helperChecks, AcceptedFile}
-use Rattle.helper.specs.Helper.{Done, wrote, refused, sizeFor, annotated}
-use Rattle.helper.proofs.Passing.{numbered-append, rules-numbered}
+use Rattle.prelude.proofs.Settle.{part-refused, part-passed}
+use Rattle.format.specs.Files.{nIn, countIn}
+use Rattle.acceptance.specs.Acceptance.{acceptanceChecks}
+use Rattle.acceptance.proofs.AcceptedFiles.{acceptance-numbered, accepted-by}
+use Rattle.helper.specs.Helper.{HelperSaid, wrote, declined, sizeFor, annotated}
 use Rattle.helper.proofs.annotate.Statement.{statement}
 use Rattle.helper.proofs.annotate.Tie as tie
 
-numbered : (net : List ℕ) → Numbered (helperChecks net)
-numbered net =
-    let opens = openingChecks (questionIn net) (settingIn net) in
-    let reads = readRules (settingIn net) 0 (arcsIn net) in
-    numbered-append (networkLayout net) (opens ++ reads) (refl, (refl, (refl, tt)))
-    (numbered-append opens reads (refl, (refl, (refl, tt))) (rules-numbered (settingIn net) 0 (arcsIn net)))
-
-module _ (net : List ℕ) (why : ℕ) (found : why ≡ firstBroken (helperChecks net)) where
-  at-checks : (room : ℕ) → (why ≡ 0 → ⊥) → refused why ≡ annotated net room
-  at-checks room = part-refused refused (helperChecks net) (20 unless leb (sizeFor net) room ∷ []) (wrote (sizeFor net)) (numbered net) why found
+module _ (net : List ℕ) (why : ℕ) (found : why ≡ firstBroken (acceptanceChecks net)) where
+  at-checks : (room : ℕ) → (why ≡ 0 → ⊥) → declined why ≡ annotated net room
+  at-checks room = part-refused declined (acceptanceChecks net) (20 unless leb (sizeFor net) room ∷ []) (wrote (sizeFor net)) (acceptance-numbered net) why found
 
   module _ (fine : why ≡ 0) where
-    accepted : AcceptedFile net
-    accepted = none-broken (helperChecks net) (numbered net) (sym found ∙ fine)
-
-    past-checks : (room : ℕ) (r : Done) → r ≡ pick (leb (sizeFor net) room) (wrote (sizeFor net)) (refused 20) → r ≡ annotated net room
-    past-checks room = part-passed refused (helperChecks net) (20 unless leb (sizeFor net) room ∷ []) (wrote (sizeFor net)) (numbered net) why found fine
+    past-checks : (room : ℕ) (r : HelperSaid) → r ≡ pick (leb (sizeFor net) room) (wrote (sizeFor net)) (declined 20) → r ≡ annotated net room
+    past-checks room = part-passed declined (acceptanceChecks net) (20 unless leb (sizeFor net) room ∷ []) (wrote (sizeFor net)) (acceptance-numbered net) why found fine
 
     module _ (n m : ℕ) (en : n ≡ nIn net) (em : m ≡ countIn net) where
       size-is : 8 + 4 * n + 6 * m ≡ sizeFor net
       size-is = λ i. 8 + 4 * en i + 6 * em i
 
-      at-room : (room : ℕ) → room < 8 + 4 * n + 6 * m → refused 20 ≡ annotated net room
-      at-room room h = past-checks room (refused 20) (rw (lt-leb (sizeFor net) room (subst (λ (k : ℕ). room < k) size-is h)))
+      at-room : (room : ℕ) → room < 8 + 4 * n + 6 * m → declined 20 ≡ annotated net room
+      at-room room h = past-checks room (declined 20) (rw (lt-leb (sizeFor net) room (subst (λ (k : ℕ). room < k) size-is h)))
 
       at-end : (room : ℕ) → 8 + 4 * n + 6 * m ≤ room → wrote (8 + 4 * n + 6 * m) ≡ annotated net room
       at-end room h = past-checks room (wrote (8 + 4 * n + 6 * m)) (rw (le-leb (sizeFor net) room (subst (λ (k : ℕ). k ≤ room) size-is h)) (ap wrote size-is))
@@ -57,7 +45,7 @@ write-annotation-requires : tie.Need-write-annotation-requires
 write-annotation-requires c κs =
     let s = c .before .before .before .before .before .before .before .before .args in
     let checked = c .before .before .before .before .before .acceptance-check in (
-      accepted (s .net .now) (checked .result) (checked .ensures) (c .before .before .before .before .if1 .left),
+      accepted-by (s .net .now) (checked .result) (checked .ensures) (c .before .before .before .before .if1 .left),
       subst (λ (k : ℕ). k ≤ length (s .buffer .now)) (size-is (s .net .now) (checked .result) (checked .ensures) (c .before .before .before .before .if1 .left) (c .before .before .before .vertices .result) (c .before .before .count .result) (c .before .before .before .vertices .ensures) (c .before .before .count .ensures)) (c .before .if2 .left),
     )
 

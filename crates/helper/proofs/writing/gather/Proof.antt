@@ -6,14 +6,14 @@ use native.Mathlib.Omega.{arith}
 use lib.ListN.{length}
 use borrow.Author.Needs.{needs}
 use Rattle.prelude.proofs.Filling.{Filling, fill-start, fill-turn, fill-end}
-use Rattle.solver.specs.Certify.{recordArc}
+use Rattle.network.specs.Network.{wordArc}
 use Rattle.format.specs.Files.{arcIn}
-use Rattle.helper.proofs.Parts.{gathered}
+use Rattle.helper.proofs.WrittenParts.{gathered}
 use Rattle.helper.proofs.writing.gather.Statement.{statement}
 use Rattle.helper.proofs.writing.gather.Tie as tie
 
 abbrev Inv-loop : tie.InvT-loop
-Inv-loop net records₀ e₀ records e = Filling (λ i w. recordArc w ≡ arcIn net i) 0 records₀ records e
+Inv-loop net records₀ e₀ records e = Filling (λ i w. wordArc w ≡ arcIn net i) 0 records₀ records e
 
 abbrev μ-loop : tie.MeasureT-loop
 μ-loop net records₀ e₀ records e = length records₀ - e
@@ -22,7 +22,7 @@ loop-again : tie.Need-loop-again Inv-loop μ-loop
 loop-again c =
     let s = c .before .before .before .before .before .args in
     let l = c .before .before .loop in
-    fill-turn (λ i w. recordArc w ≡ arcIn (s .net .now) i) 0 (s .records .now) (l .records) (l .e) (c .word .result)
+    fill-turn (λ i w. wordArc w ≡ arcIn (s .net .now) i) 0 (s .records .now) (l .records) (l .e) (c .word .result)
     (omega (arith, c .before .loop-test .taken, l .inv .len)) (c .word .ensures) (l .inv)
 
 returns : tie.Need-returns Inv-loop μ-loop
@@ -31,7 +31,7 @@ returns c =
     let l = c .before .loop in
     let n = length (s .records .now) in
     gathered (arcIn (s .net .now)) (l .records) n (l .inv .len)
-    (fill-end (λ i w. recordArc w ≡ arcIn (s .net .now) i) 0 (s .records .now) (l .records) (l .e) (omega (arith, c .loop-test .left, l .inv .len)) (l .inv))
+    (fill-end (λ i w. wordArc w ≡ arcIn (s .net .now) i) 0 (s .records .now) (l .records) (l .e) (omega (arith, c .loop-test .left, l .inv .len)) (l .inv))
 
 pub gather-spec : {M : Type 1} → statement M
 gather-spec =

@@ -5,7 +5,7 @@ use lib.Seq.{length-take-le}
 use borrow.Author.Needs.{needs}
 use Rattle.engine.specs.Residual.{zeroList}
 use Rattle.engine.proofs.LentParts.{zero-list-length, back-within, back-length}
-use Rattle.helper.proofs.Whole.{few-arcs, few-vertices, gathered-again}
+use Rattle.helper.proofs.FoundAnnotation.{few-arcs, few-vertices, gathered-again}
 use Rattle.helper.proofs.writing.write_annotation.Statement.{statement}
 use Rattle.helper.proofs.writing.write_annotation.Tie as tie
 

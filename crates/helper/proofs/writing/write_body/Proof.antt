@@ -4,10 +4,10 @@ use mathlib.Core.List.{flatMap}
 use Prim.Native.Nat.{_*_}
 use lib.ListN.{length}
 use borrow.Author.Needs.{needs}
-use Rattle.solver.specs.Instance.{loadsOf}
-use Rattle.format.specs.Bytes.{byte32, listTo}
-use Rattle.format.specs.Files.{arcIn, loadBytes}
-use Rattle.helper.proofs.Parts.{front-and-rest, numbers-length}
+use Rattle.network.specs.Network.{wordArcs, loadsOf}
+use Rattle.format.specs.Bytes.{byte32}
+use Rattle.format.specs.Files.{loadBytes}
+use Rattle.helper.proofs.WrittenParts.{front-and-rest, numbers-length}
 use Rattle.helper.proofs.writing.write_body.Statement.{statement}
 use Rattle.helper.proofs.writing.write_body.Tie as tie
 
@@ -15,7 +15,7 @@ returns : tie.Need-returns
 returns c =
     let s = c .before .before .before .before .before .before .before .before .before .before .before .args in
     let ys = s .numbers .now in
-    front-and-rest (s .rest .now) (flatMap byte32 ys) (flatMap loadBytes (loadsOf (listTo (length (s .amounts .now)) (arcIn (s .net .now))) (s .amounts .now)))
+    front-and-rest (s .rest .now) (flatMap byte32 ys) (flatMap loadBytes (loadsOf (wordArcs (s .records .now)) (s .amounts .now)))
     (4 * length ys) (c .before .before .before .before .before .before .write-numbers .ensures) (numbers-length ys) (c .before .before .write-loads .ensures)
 
 pub write-body-spec : {M : Type 1} → statement M

@@ -1,45 +1,42 @@
 -- `helper::writing::write_loads` meets its contract. The loop's invariant: the records below e are written.
 -- Assumes nothing.
-use mathlib.Core.Path.{refl, _∙_, ap}
-use Prim.Native.Nat.{_+_, _-_, _*_}
-use native.Mathlib.Omega.{arith}
-use lib.ListN.{length, getD}
-use lib.Seq.{sets}
+use Prim.Native.Nat.{_-_}
+use lib.ListN.{length}
 use borrow.Author.Needs.{needs}
-use Rattle.network.specs.Network.{Arc, Load}
-use Rattle.solver.specs.Instance.{loadsOf}
-use Rattle.format.specs.Bytes.{listTo}
-use Rattle.format.specs.Files.{arcIn, loadBytes, lowLoad, loadAt}
+use Rattle.network.specs.Network.{wordArcs, loadsOf}
+use Rattle.format.specs.Files.{loadBytes, loadAt}
 use Rattle.format.specs.Promises.{LoadFits}
-use Rattle.format.proofs.Reading.{arc-fits}
-use Rattle.format.proofs.Codings.{loads-coded, low-load}
-use Rattle.helper.proofs.Parts.{Loading, loadAmong, loads-listed, write-none, write-turn, write-length, write-end}
+use Rattle.format.proofs.Codings.{loads-coded}
+use Rattle.helper.proofs.WrittenParts.{Loading, loadAmong, loads-listed, write-none, write-turn, write-length, write-end}
 use Rattle.helper.proofs.writing.write_loads.Statement.{statement}
 use Rattle.helper.proofs.writing.write_loads.Tie as tie
 
 abbrev Inv-loop : tie.InvT-loop
-Inv-loop part₀ net amounts e₀ part e = Loading part₀ (arcIn net) amounts part e
+Inv-loop part₀ records amounts e₀ part e = Loading part₀ records amounts part e
 
 abbrev μ-loop : tie.MeasureT-loop
-μ-loop part₀ net amounts e₀ part e = length amounts - e
+μ-loop part₀ records amounts e₀ part e = length amounts - e
 
 loop-again : tie.Need-loop-again Inv-loop μ-loop
 loop-again c =
     let s = c .before .before .before .before .before .before .before .before .before .before .before .args in
     let l = c .before .before .before .before .before .before .before .loop in
-    let known = c .before .before .before .before .before .before .before .before .before in
-    write-turn loadBytes loadAt 6 LoadFits loads-coded (s .part .now) (loadAmong (arcIn (s .net .now)) (s .amounts .now)) (length (s .amounts .now)) (l .part) (c .before .before .write-load .last .0) (l .e) (c .before .before .before .before .before .before .loop-test .taken)
-    (c .before .before .write-load .ensures
-    ∙ ap (λ (a : Arc). sets (l .part) (6 * l .e) (loadBytes (lowLoad (record { arc = a; amount = getD (s .amounts .now) (l .e) 0 })))) (c .before .before .before .before .before .arc .ensures)
-    ∙ ap (λ (f : Load). sets (l .part) (6 * l .e) (loadBytes f)) (low-load (loadAmong (arcIn (s .net .now)) (s .amounts .now) (l .e)) (record { arc = arc-fits (s .net .now) (λ i. known .shared-slice-known .given i .fits) (11 + 4 * l .e) refl; amount = c .before .before .before .shared-slice-known3 .given (l .e) .fits })))
-    (l .inv)
+    write-turn loadBytes loadAt 6 LoadFits loads-coded (s .part .now) (loadAmong (s .records .now) (s .amounts .now)) (length (s .amounts .now)) (l .part) (c .before .before .write-load .last .0) (l .e)
+    (c .before .before .before .before .before .before .loop-test .taken) (c .before .before .write-load .ensures) (l .inv)
+
+same-length : tie.Need-same-length Inv-loop μ-loop
+same-length c =
+    let s = c .before .before .before .before .before .args in
+    let l = c .before .loop in
+    write-length loadBytes loadAt 6 LoadFits loads-coded (s .part .now) (loadAmong (s .records .now) (s .amounts .now)) (length (s .amounts .now)) (l .part) (l .e) (l .inv)
 
 returns : tie.Need-returns Inv-loop μ-loop
 returns c =
-    let s = c .before .before .before .before .before .args in
+    let s = c .before .before .before .before .before in
+    let rs = s .args .records .now in
+    let xs = s .args .amounts .now in
     let l = c .before .loop in
-    write-end loadBytes loadAt 6 LoadFits loads-coded (s .part .now) (loadAmong (arcIn (s .net .now)) (s .amounts .now)) (length (s .amounts .now)) (l .part) (l .e) (loadsOf (listTo (length (s .amounts .now)) (arcIn (s .net .now))) (s .amounts .now)) (c .loop-test .left)
-    (loads-listed (arcIn (s .net .now)) (s .amounts .now) (length (s .amounts .now))) (l .inv)
+    write-end loadBytes loadAt 6 LoadFits loads-coded (s .args .part .now) (loadAmong rs xs) (length xs) (l .part) (l .e) (loadsOf (wordArcs rs) xs) (c .loop-test .left) (loads-listed rs xs (s .pre)) (l .inv)
 
 pub write-loads-spec : {M : Type 1} → statement M
 write-loads-spec =
@@ -48,13 +45,13 @@ write-loads-spec =
     Inv-loop
     μ-loop
     (λ c. write-none _ _ _ _ _ _ _ _)
-    (λ c κs. search needs)
     (λ c. search needs)
     (λ c. search needs)
-    (λ c. omega (arith, c .shared-slice-known3 .given (c .before .before .before .before .loop .e)))
+    (λ c. search needs)
+    (λ c. search needs)
     (λ c κs. search needs)
     (λ c. search needs)
     (λ c. search needs)
     loop-again
-    (λ c. let s = c .before .before .before .before .before .args in let l = c .before .loop in write-length loadBytes loadAt 6 LoadFits loads-coded (s .part .now) (loadAmong (arcIn (s .net .now)) (s .amounts .now)) (length (s .amounts .now)) (l .part) (l .e) (l .inv))
+    same-length
     returns)

@@ -12,7 +12,7 @@ use Rattle.words.proofs.Signs.{back}
 use Rattle.format.specs.Bytes.{byte32, readSigned}
 use Rattle.format.specs.Promises.{Signed32}
 use Rattle.format.proofs.Codings.{numbers-coded}
-use Rattle.helper.proofs.Parts.{Numbering, numbers-listed, write-none, write-turn, write-length, write-end}
+use Rattle.helper.proofs.WrittenParts.{Numbering, numbers-listed, write-none, write-turn, write-length, write-end}
 use Rattle.helper.proofs.writing.write_numbers.Statement.{statement}
 use Rattle.helper.proofs.writing.write_numbers.Tie as tie
 

@@ -1,38 +1,42 @@
 -- `helper::writing::write_solution` meets its contract.
 -- Assumes nothing.
-use mathlib.Core.Path.{_∙_}
+use mathlib.Core.Path.{sym, _∙_}
 use native.Mathlib.Omega.{arith}
 use borrow.Author.Needs.{needs}
+use Rattle.checks.specs.Held.{asked}
 use Rattle.solver.proofs.CertifyCases.{by-number}
-use Rattle.helper.proofs.Whole.{solved-file, filled}
+use Rattle.helper.proofs.FoundAnnotation.{found, filled, records-many}
 use Rattle.helper.proofs.writing.write_solution.Statement.{statement}
 use Rattle.helper.proofs.writing.write_solution.Tie as tie
 
 write-file-requires : tie.Need-write-file-requires
 write-file-requires c κs =
-    let s = c .before .before .before .before .before .before .before .before .before .before .before .before .before .before .before in
-    let set = c .before .before .before .before .before .before .before .before .before .before .setting in
-    let found = c .before .before .before .before .before .before .before .certify in
-    let claim = c .before .before .before .claim-number in
-    let came = solved-file (s .args .net .now) (s .pre .0) (set .result) (set .ensures) (s .args .records .now) (s .args .numbers .now) (found .last .1 .1 .0)
-    (s .args .amounts .now) (found .last .1 .1 .1 .0) (claim .result) (s .pre .1 .0) (s .pre .1 .1 .0 .0) (s .pre .1 .1 .0 .1) (by-number (claim .ensures) (found .ensures)) in
-    omega (arith, came .numbers-len, s .pre .1 .1 .0 .0, s .pre .1 .1 .1)
+    let claim = c .before .before .before .before in
+    let certify = claim .before .before .before .before in
+    let setting = certify .before .before .before in
+    let s = setting .before .before .before .before .before in
+    let f = found (s .args .net .now) (s .pre .0) (s .args .records .now) (s .pre .1 .0) (asked (setting .setting .result)) (s .args .numbers .now) (certify .certify .last .1 .1 .0)
+    (s .args .amounts .now) (certify .certify .last .1 .1 .1 .0) (claim .claim-number .result) (setting .setting .ensures) (s .pre .1 .1 .0 .0) (s .pre .1 .1 .0 .1) (by-number (claim .claim-number .ensures) (certify .certify .ensures)) in
+    (omega (arith, f .numbers-many, s .pre .1 .1 .1), records-many (s .args .net .now) (s .pre .0) (s .args .records .now) (s .pre .1 .0) ∙ sym (f .amounts-many))
 
 returns : tie.Need-returns
 returns c =
-    let s = c .before .before .before .before .before .before .before .before .before .before .before .before .before .before .before .before .before .before in
-    let set = c .before .before .before .before .before .before .before .before .before .before .before .before .before .setting in
-    let found = c .before .before .before .before .before .before .before .before .before .before .certify in
-    let claim = c .before .before .before .before .before .before .claim-number in
-    let came = solved-file (s .args .net .now) (s .pre .0) (set .result) (set .ensures) (s .args .records .now) (s .args .numbers .now) (found .last .1 .1 .0)
-    (s .args .amounts .now) (found .last .1 .1 .1 .0) (claim .result) (s .pre .1 .0) (s .pre .1 .1 .0 .0) (s .pre .1 .1 .0 .1) (by-number (claim .ensures) (found .ensures)) in
-    filled (s .args .net .now) (s .args .buffer .now) (found .last .1 .1 .0) (found .last .1 .1 .1 .0) (claim .result)
-    (came .numbers-len ∙ s .pre .1 .1 .0 .0) (came .amounts-len ∙ s .pre .1 .1 .0 .1) (c .before .before .write-file .last .0) (s .pre .1 .1 .1) (c .before .before .write-file .ensures) (came .solution)
+    let written = c .before .before in
+    let count = written .before .before .before in
+    let claim = count .before .before in
+    let certify = claim .before .before .before .before in
+    let setting = certify .before .before .before in
+    let s = setting .before .before .before .before .before in
+    let f = found (s .args .net .now) (s .pre .0) (s .args .records .now) (s .pre .1 .0) (asked (setting .setting .result)) (s .args .numbers .now) (certify .certify .last .1 .1 .0)
+    (s .args .amounts .now) (certify .certify .last .1 .1 .1 .0) (claim .claim-number .result) (setting .setting .ensures) (s .pre .1 .1 .0 .0) (s .pre .1 .1 .0 .1) (by-number (claim .claim-number .ensures) (certify .certify .ensures)) in
+    filled (s .args .net .now) (s .args .buffer .now) (certify .certify .last .1 .1 .0) (certify .certify .last .1 .1 .1 .0) (claim .claim-number .result) f
+    (s .args .records .now) (count .count .result) (written .write-file .last .0) (s .pre .1 .0) (count .count .ensures) (s .pre .1 .1 .1) (written .write-file .ensures)
 
 pub write-solution-spec : {M : Type 1} → statement M
 write-solution-spec =
     tie.close
     (tie.spec
+    (λ c κs. search needs)
     (λ c κs. search needs)
     (λ c κs. search needs)
     (λ c κs. search needs)

@@ -7,8 +7,8 @@ use Prim.Native.Nat.{ℕ, _≤_}
 use borrow.Author.Needs.{needs}
 use lib.ListN.{length, take, drop}
 use denote.Ref.{now}
-use Rattle.network.specs.Question.{Setting}
-use Rattle.checks.specs.Setting.{asked}
+use Rattle.network.specs.Question.{Setting, asks}
+use Rattle.checks.specs.Held.{asked}
 use Rattle.engine.specs.Residual.{entry, zeroList}
 use Rattle.engine.specs.declared.Sent.{Sent}
 use Rattle.engine.proofs.LentParts.{zero-list-length, lent-again, back-within, back-length}
@@ -37,7 +37,7 @@ abbrev P : tie.After-pack → List ℕ
 P c = c .pack .last .1 .1 .0
 
 packed : (c : tie.After-pack) → length (P c) ≡ length (R (first c))
-packed c = packed-length (St (first c) .question) (R (first c)) (P c) (c .pack .ensures)
+packed c = packed-length (asks (St (first c))) (R (first c)) (P c) (c .pack .ensures)
 
 -- after `send`: the arcs as they were lent, and the supply
 abbrev at-stand : tie.After-send → tie.After-stand

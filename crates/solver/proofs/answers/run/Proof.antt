@@ -6,7 +6,7 @@ use native.Mathlib.Omega.{arith}
 use lib.ListN.{length, length-map}
 use lib.Seq.{length-take-le}
 use borrow.Author.Needs.{needs}
-use Rattle.checks.specs.Setting.{asked}
+use Rattle.checks.specs.Held.{asked}
 use Rattle.solver.proofs.EngineInputs.{few-records, run-ok}
 use Rattle.engine.specs.Residual.{zeroList}
 use Rattle.engine.proofs.LentParts.{part-small, back-within, back-length}

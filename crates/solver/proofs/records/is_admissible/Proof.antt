@@ -17,6 +17,7 @@ is-admissible-spec =
     (λ c. search needs)
     (λ c κs. search needs)
     (λ c. let o = ne-eqb _ 0 (λ e. c .if1 .taken (c .before .opening-check .ensures ∙ e)) in search tested depth 12)
+    (λ c. search needs)
     (λ c. let o = eq-eqb _ 0 (sym (c .before .before .opening-check .ensures) ∙ c .before .if1 .left) in search tested depth 12)
     (λ c. search needs)
     (λ c.

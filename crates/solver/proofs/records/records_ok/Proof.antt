@@ -5,7 +5,7 @@ use Prim.Native.Nat.{_-_}
 use lib.ListN.{length}
 use borrow.Author.Needs.{needs}
 use borrow.Author.Tests.{not-true, not-false}
-use Rattle.checks.specs.Setting.{asked}
+use Rattle.checks.specs.Held.{asked}
 use Rattle.solver.specs.Certify.{recordOk}
 use Rattle.engine.proofs.ListLoops.{Undecided, all-more, all-fails, all-end}
 use Rattle.solver.proofs.records.records_ok.Statement.{statement}

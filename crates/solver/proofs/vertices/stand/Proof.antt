@@ -6,7 +6,7 @@ use native.Mathlib.Omega.{arith}
 use lib.ListN.{length}
 use borrow.Author.Needs.{needs}
 use Rattle.prelude.proofs.Filling.{Filling, fill-start, fill-turn, fill-end}
-use Rattle.checks.specs.Setting.{asked}
+use Rattle.checks.specs.Held.{asked}
 use Rattle.solver.specs.Certify.{standing}
 use Rattle.solver.proofs.vertices.stand.Statement.{statement}
 use Rattle.solver.proofs.vertices.stand.Tie as tie

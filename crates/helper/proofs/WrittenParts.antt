@@ -1,4 +1,4 @@
--- The parts of a file that are written: records one after the other from the front of a part, and a part that is lent on.
+-- The parts of a file that are written: records one after the other from the front of a part, and a part that is lent on. Records that are gathered.
 -- Assumes nothing.
 use mathlib.Core.Path.{_≡_, refl, sym, _∙_, ap}
 use mathlib.Core.List.{List, [], _∷_, _++_, flatMap, append-nil}
@@ -10,15 +10,14 @@ use lib.IntN.{ℤ, pos}
 use lib.ListN.{length, getD, set, take, drop, length-map, length-drop, drop-of-length-le, List·getD-map}
 use lib.Seq.{sets, length-sets, take-length}
 use borrow.Rule.Slice.PartMut.{midOf, postOf, putMid}
-use Rattle.prelude.specs.Lists.{at}
-use Rattle.network.specs.Network.{Arc, Load}
-use Rattle.solver.specs.Certify.{recordArc, recordArcs}
-use Rattle.solver.specs.Instance.{loadsOf}
+use Rattle.prelude.specs.Lists.{at, listTo}
+use Rattle.prelude.proofs.Lists.{listTo-length, listTo-take}
+use Rattle.network.specs.Network.{Arc, Load, wordArc, wordArcs, wordLoad, loadsOf}
 use Rattle.solver.proofs.ColumnsAndLoads.{loads-arcs}
-use Rattle.format.specs.Bytes.{byte32, readSigned, listTo}
+use Rattle.format.specs.Bytes.{byte32, readSigned}
 use Rattle.format.specs.Files.{loadBytes, loadAt}
 use Rattle.format.specs.Promises.{Signed32, LoadFits}
-use Rattle.format.proofs.Records.{Coding, flat-append, flat-length, listTo-length, listTo-take}
+use Rattle.format.proofs.Records.{Coding, flat-append, flat-length}
 use Rattle.format.proofs.Codings.{numbers-coded, loads-coded}
 use Rattle.format.proofs.Writing.{sets-past, then-sets}
 
@@ -55,41 +54,42 @@ module _ {A : Type 0} (write : A → List ℕ) (read : List ℕ → ℕ → A) (
       let j : e ≡ n = omega (arith, N .within) in
       N .are ∙ ap (λ (ys : List A). sets l₀ 0 (flatMap write ys)) (ap (λ (i : ℕ). listTo i item) j ∙ same)
 
+-- all the entries of a list, listed
+listed : {A : Type 0} (d : A) (xs : List A) (g : ℕ → A) (n : ℕ) → length xs ≡ n → ((e : ℕ) → e < n → g e ≡ getD xs e d) → listTo n g ≡ xs
+listed d xs g n len by =
+    listTo-take d xs g (λ e h. by e (omega arith)) n (omega arith) ∙ ap (λ (k : ℕ). take k xs) (sym len) ∙ take-length xs
+
 -- ---- the node numbers
 
 abbrev pub Numbering : List ℕ → List ℤ → List ℕ → ℕ → Type 0
 Numbering l₀ ys = Writing byte32 readSigned 4 Signed32 numbers-coded l₀ (at ys) (length ys)
 
 pub numbers-listed : (ys : List ℤ) → listTo (length ys) (at ys) ≡ ys
-numbers-listed ys = listTo-take (pos 0) ys (at ys) (λ e h. refl) (length ys) (omega arith) ∙ take-length ys
+numbers-listed ys = listed (pos 0) ys (at ys) (length ys) refl (λ e h. refl)
 
 -- ---- the records with their amounts
 
-abbrev pub loaded : Arc → ℕ → Load
-loaded a x = record { arc = a; amount = x }
+abbrev pub loadAmong : List ℕ → List ℕ → ℕ → Load
+loadAmong rs xs e = wordLoad (getD rs e 0) (getD xs e 0)
 
-abbrev pub loadAmong : (ℕ → Arc) → List ℕ → ℕ → Load
-loadAmong g xs e = loaded (g e) (getD xs e 0)
+abbrev pub Loading : List ℕ → List ℕ → List ℕ → List ℕ → ℕ → Type 0
+Loading l₀ rs xs = Writing loadBytes loadAt 6 LoadFits loads-coded l₀ (loadAmong rs xs) (length xs)
 
-abbrev pub Loading : List ℕ → (ℕ → Arc) → List ℕ → List ℕ → ℕ → Type 0
-Loading l₀ g xs = Writing loadBytes loadAt 6 LoadFits loads-coded l₀ (loadAmong g xs) (length xs)
-
-loads-more : (es : List Arc) (a : Arc) (xs : List ℕ) → loadsOf (es ++ a ∷ []) xs ≡ loadsOf es xs ++ (loaded a (getD xs (length es) 0) ∷ [])
+load-at : (rs xs : List ℕ) (e : ℕ) → e < length rs → loadAmong rs xs e ≡ getD (loadsOf (wordArcs rs) xs) e (wordLoad 0 0)
 unfolding loadsOf
-loads-more [] a [] = refl
-loads-more [] a (x ∷ xs) = refl
-loads-more (e ∷ es) a [] = ap (λ (f : List Load). loaded e 0 ∷ f) (loads-more es a [])
-loads-more (e ∷ es) a (x ∷ xs) = ap (λ (f : List Load). loaded e x ∷ f) (loads-more es a xs)
-
-pub loads-listed : (g : ℕ → Arc) (xs : List ℕ) (n : ℕ) → listTo n (loadAmong g xs) ≡ loadsOf (listTo n g) xs
-unfolding listTo loadsOf
-loads-listed g xs zero = refl
-loads-listed g xs (suc n) =
-    ap (λ (f : List Load). f ++ (loadAmong g xs n ∷ [])) (loads-listed g xs n)
-    ∙ ap (λ (j : ℕ). loadsOf (listTo n g) xs ++ (loaded (g n) (getD xs j 0) ∷ [])) (sym (listTo-length n g)) ∙ sym (loads-more (listTo n g) (g n) xs)
+load-at [] xs e h = absurd (omega arith)
+load-at (r ∷ rs) [] zero h = refl
+load-at (r ∷ rs) [] (suc e) h = load-at rs [] e (omega arith)
+load-at (r ∷ rs) (x ∷ xs) zero h = refl
+load-at (r ∷ rs) (x ∷ xs) (suc e) h = load-at rs xs e (omega arith)
 
 pub loads-length : (es : List Arc) (xs : List ℕ) → length (loadsOf es xs) ≡ length es
 loads-length es xs = sym (length-map (loadsOf es xs) (λ l. l .arc)) ∙ ap length (loads-arcs es xs)
+
+pub loads-listed : (rs xs : List ℕ) → length rs ≡ length xs → listTo (length xs) (loadAmong rs xs) ≡ loadsOf (wordArcs rs) xs
+loads-listed rs xs same =
+    listed (wordLoad 0 0) (loadsOf (wordArcs rs) xs) (loadAmong rs xs) (length xs) (loads-length (wordArcs rs) xs ∙ length-map rs wordArc ∙ same)
+    (λ e h. load-at rs xs e (omega arith))
 
 -- ---- a part that is lent on
 
@@ -120,12 +120,8 @@ front-and-rest l vs ws a {m} e n q = then-sets l 0 vs ws a e (n ∙ sym (zero-ad
 pub numbers-length : (ys : List ℤ) → 4 * length ys ≡ length (flatMap byte32 ys)
 numbers-length ys = sym (flat-length byte32 readSigned 4 Signed32 numbers-coded ys)
 
--- ---- records as one number each
+-- ---- records that are gathered
 
-pub gathered : (g : ℕ → Arc) (ws : List ℕ) (n : ℕ) → length ws ≡ n → ((i : ℕ) → i < n → recordArc (getD ws i 0) ≡ g i) → recordArcs ws ≡ listTo n g
-gathered g ws n len by =
-    let k : length (recordArcs ws) ≡ n = length-map ws recordArc ∙ len in
-    sym (
-    listTo-take (recordArc 0) (recordArcs ws) g (λ e h. sym (by e (omega arith)) ∙ sym (List·getD-map recordArc ws e 0)) n (omega arith)
-    ∙ ap (λ (j : ℕ). take j (recordArcs ws)) (sym k) ∙ take-length (recordArcs ws)
-    )
+pub gathered : (g : ℕ → Arc) (rs : List ℕ) (n : ℕ) → length rs ≡ n → ((i : ℕ) → i < n → wordArc (getD rs i 0) ≡ g i) → wordArcs rs ≡ listTo n g
+gathered g rs n len by =
+    sym (listed (wordArc 0) (wordArcs rs) g n (length-map rs wordArc ∙ len) (λ e h. sym (by e h) ∙ sym (List·getD-map wordArc rs e 0)))
