@@ -34,7 +34,7 @@ module _ (st : Setting) (o : Opened st) where
     weight = omega (arith, h .weight-within);
   }
 
-written-read : (st : Setting) (net : List Arc) → Readable st net → NetworkRead (st .question) (st .n) (st .s) (st .t) net (networkFile (st .question) (st .n) (st .s) (st .t) net)
+written-read : (st : Setting) (net : List Arc) → Admissible st net → NetworkRead (st .question) (st .n) (st .s) (st .t) net (networkFile (st .question) (st .n) (st .s) (st .t) net)
 written-read st net r =
     let o = r .opened in
     let ends = ends-below st o (asks st) (o .ends) in

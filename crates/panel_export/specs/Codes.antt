@@ -3,17 +3,16 @@
 use Prim.Native.Nat.{ℕ, _+_}
 use Rattle.network.specs.Question.{value, none}
 use Rattle.state.specs.Answers.{Said, accepted, gives, refused}
-use Rattle.helper.specs.Helper.{Done, wrote}
-use Rattle.helper.specs.Helper.{refused as declined}
+use Rattle.helper.specs.Helper.{HelperSaid, wrote, declined}
 
--- "Below 4294967296 the value, 4294967296 for none, that plus k for refusal k." Judging never says that it accepts.
+-- Below 4294967296 the value, 4294967296 for none, that plus k for the refusal k. Judging never says that it accepts.
 abbrev pub saidCode : Said → ℕ
 saidCode (gives (value v)) = v
 saidCode (gives none) = 4294967296
 saidCode (refused k) = 4294967296 + k
 saidCode accepted = 4294967296 + 256
 
--- "Its length, or 4294967296 plus k."
-abbrev pub doneCode : Done → ℕ
-doneCode (wrote k) = k
-doneCode (declined k) = 4294967296 + k
+-- The length, or 4294967296 plus k.
+abbrev pub replyCode : HelperSaid → ℕ
+replyCode (wrote k) = k
+replyCode (declined k) = 4294967296 + k

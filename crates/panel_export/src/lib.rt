@@ -3,8 +3,8 @@ ghost use mathlib.Core.Path.{_≡_};
 ghost use lib.ListN.{length};
 ghost use Rattle.state.specs.Answers.{said};
 ghost use Rattle.judging.specs.Judging.{judged};
-ghost use Rattle.helper.specs.Helper.{done, annotated, Held};
-ghost use Rattle.panel_export.specs.Codes.{saidCode, doneCode};
+ghost use Rattle.helper.specs.Helper.{helperSaid, annotated, BufferAfter};
+ghost use Rattle.panel_export.specs.Codes.{saidCode, replyCode};
 use helper::Written;
 use points::Point;
 use state::Answer;
@@ -23,7 +23,7 @@ fn answer_code(answer: Answer) -> u64
 
 // A reply of the helper as one number: the length, or 4294967296 plus k for the refusal k.
 fn written_code(written: Written) -> u64
-    ensures { λ r. ⌜ r ≡ doneCode (done written) ⌝ }
+    ensures { λ r. ⌜ r ≡ replyCode (helperSaid written) ⌝ }
 {
     match written {
         Written::Length(k) => k as u64,
@@ -40,7 +40,7 @@ pub extern "C" fn panel_judge(net: &[u8], ann: &[u8], point: u32) -> u64
 
 #[no_mangle]
 pub extern "C" fn panel_annotate(net: &[u8], buffer: &mut [u8]) -> u64
-    ensures { λ r. ⌜ (r ≡ doneCode (annotated (now (net .entry)) (length (now (buffer .entry))))) × Held (annotated (now (net .entry)) (length (now (buffer .entry)))) (now (net .entry)) (now (buffer .entry)) (now (buffer .exit)) ⌝ }
+    ensures { λ r. ⌜ (r ≡ replyCode (annotated (now (net .entry)) (length (now (buffer .entry))))) × BufferAfter (annotated (now (net .entry)) (length (now (buffer .entry)))) (now (net .entry)) (now (buffer .entry)) (now (buffer .exit)) ⌝ }
 {
     written_code(helper::annotate(net, buffer))
 }

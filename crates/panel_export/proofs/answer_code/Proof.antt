@@ -2,8 +2,8 @@
 -- Assumes nothing.
 use mathlib.Core.Path.{sym, ap}
 use borrow.Author.Needs.{needs}
-use Rattle.session.specs.Session.{said}
-use Rattle.session.specs.declared.Answer.{Answer}
+use Rattle.state.specs.Answers.{said}
+use Rattle.state.specs.declared.Answer.{Answer}
 use Rattle.panel_export.specs.Codes.{saidCode}
 use Rattle.panel_export.proofs.answer_code.Statement.{statement}
 use Rattle.panel_export.proofs.answer_code.Tie as tie

@@ -5,7 +5,7 @@ use mathlib.Core.List.{List}
 use Prim.Native.Nat.{ℕ}
 use native.Mathlib.Omega.{arith}
 use borrow.Author.Needs.{needs}
-use Rattle.helper.specs.Helper.{HelperSaid, done, annotated}
+use Rattle.helper.specs.Helper.{HelperSaid, helperSaid, annotated}
 use Rattle.helper.specs.declared.Written.{Written}
 use Rattle.plan_files.specs.AnnotationLine.{LineOfReply, annotatedInRoom}
 use Rattle.plan_files.proofs.Room.{in-room, within}
@@ -16,8 +16,8 @@ abbrev file : tie.After-annotate → List ℕ
 file c = c .before .before .before .before .before .args .net .now
 
 -- the reply, whichever variant it is
-replied : (c : tie.After-annotate) {written : Written} → c .annotate .result ≡ written → done written ≡ annotatedInRoom (file c)
-replied c e = sym (ap done e) ∙ c .annotate .ensures .0 ∙ ap (annotated (file c)) (sym (c .before .before .room .ensures)) ∙ in-room (file c)
+replied : (c : tie.After-annotate) {written : Written} → c .annotate .result ≡ written → helperSaid written ≡ annotatedInRoom (file c)
+replied c e = sym (ap helperSaid e) ∙ c .annotate .ensures .0 ∙ ap (annotated (file c)) (sym (c .before .before .room .ensures)) ∙ in-room (file c)
 
 same-line : {d e : HelperSaid} (text : List ℕ) → d ≡ e → LineOfReply d text → LineOfReply e text
 same-line text e h = subst (λ (d : HelperSaid). LineOfReply d text) e h

@@ -1,7 +1,7 @@
 -- `plan_files::answer_line::answer` meets its contract: a short point is refused, and the files are judged at a whole one.
 -- Assumes nothing.
 use mathlib.Core.Path.{refl, subst}
-use Prim.Native.Nat.{ℕ}
+use Rattle.points.specs.declared.Point.{Point}
 use native.Mathlib.Omega.{arith}
 use borrow.Author.Needs.{needs}
 use Rattle.state.specs.Answers.{said}
@@ -15,7 +15,7 @@ returns c = record { short = λ h. refl; whole = λ h. absurd (omega arith) }
 returns-2 : tie.Need-returns-2
 returns-2 c = record {
   short = λ h. absurd (omega arith);
-  whole = λ h. subst (λ (r : ℕ). JudgedAt r (said (c .answer-at .result))) (c .before .point .ensures) (c .answer-at .ensures);
+  whole = λ h. subst (λ (r : Point). JudgedAt r (said (c .answer-at .result))) (c .before .point .ensures) (c .answer-at .ensures);
 }
 
 pub answer-spec : {M : Type 1} → statement M
