@@ -18,7 +18,7 @@ use Rattle.prelude.specs.Sums.{sumTo}
 use Rattle.prelude.proofs.Integers.{signed}
 use Rattle.prelude.proofs.Sums.{sumTo-ext, sumTo-add}
 use Rattle.network.specs.Network.{Arc, arcOf, Load, arcs, delta, sumOf, leaving, entering, cost, total, crosses, loadsOf}
-use Rattle.network.specs.Question.{Setting, WeightWithin}
+use Rattle.network.specs.Question.{Setting}
 use Rattle.network.specs.Limits.{mostPotential}
 use Rattle.network.specs.Certificate.{marked}
 use Rattle.network.proofs.Rules.{InRange, Marks, WithinCapacity}

@@ -30,7 +30,7 @@ use Rattle.solver.specs.Instance.{toward, single, atPumps, atSites, Vert
 abbrev pub recordOk : Setting → ℕ → Bool
 recordOk st r = eqb (firstBroken (arcChecks st (wordArc r))) 0
 
--- What the solver answers: a setting that opening accepts, at most 4096 records whose arcs reading accepts, and room for one number a vertex and one amount a record.
+-- What the solver answers: a setting that opening accepts, at most as many records as are read, whose arcs reading accepts, and room for one number a vertex and one amount a record.
 abbrev pub admissible : Setting → List ℕ → ℕ → ℕ → Bool
 admissible st rs numbers amounts =
     eqb (firstBroken (openingChecks st)) 0 && leb (length rs) mostArcs && eqb numbers (st .n) && eqb amounts (length rs) && all (recordOk st) rs
@@ -111,7 +111,7 @@ pub record Wanting (need : List ℕ) : Type 0 where
 
 -- ---- what is handed back
 
--- The number that tells the true answer for a vertex: its least length, or 8322818 where no walk leads; for the claim none, 1 where a walk leads and 0 elsewhere.
+-- The number that tells the true answer for a vertex: its least length, or as high as a potential goes where no walk leads; for the claim none, 1 where a walk leads and 0 elsewhere.
 abbrev pub toldBy : Claim → Answer → ℤ
 toldBy ofValue (value d) = pos d
 toldBy ofValue none = pos mostPotential

@@ -5,6 +5,7 @@ ghost use Prim.Native.Nat.{ℕ, _/_, _<_, _≤_};
 ghost use lib.Dec.{ltb};
 ghost use lib.ListN.{length};
 ghost use Rattle.prelude.specs.Choice.{pick, indicator};
+ghost use Rattle.network.specs.Limits.{mostVertices, mostPotential};
 ghost use Rattle.checks.specs.Held.{asked};
 ghost use Rattle.solver.specs.Certify.{endFor, standing, numberOf, NodeNumbers, Wanting};
 ghost use Rattle.engine.specs.Residual.{entry};
@@ -66,7 +67,7 @@ fn standing_at(st: HeldSetting, wanted: bool, v: u8) -> u32
 }
 
 pub(crate) fn stand(st: HeldSetting, wanted: bool, list: &mut [u32])
-    requires { ⌜ length (now list) ≤ 255 ⌝ }
+    requires { ⌜ length (now list) ≤ mostVertices ⌝ }
     ensures { λ _. ⌜ VertexList (length (now (list .entry))) (standing (asked st) wanted) (now (list .exit)) ⌝ }
 {
     let mut v = 0;
@@ -114,7 +115,7 @@ fn number_of(kind: NumberKind, k: u32) -> u32
 
 // Writes the number of every vertex.
 pub(crate) fn write(kind: NumberKind, from: &[u32], numbers: &mut [i32])
-    requires { ⌜ (length (now numbers) ≡ length (now from)) × ((v : ℕ) → v < length (now from) → numberOf kind (entry (now from) v) ≤ 8388607) ⌝ }
+    requires { ⌜ (length (now numbers) ≡ length (now from)) × ((v : ℕ) → v < length (now from) → numberOf kind (entry (now from) v) ≤ mostPotential) ⌝ }
     ensures { λ _. ⌜ NodeNumbers kind (now (from .entry)) (now (numbers .exit)) ⌝ }
 {
     let mut v = 0;

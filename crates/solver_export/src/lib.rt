@@ -1,5 +1,5 @@
 // The solver for callers in C: each slice is a pointer and a count. The pointer of an empty slice is not null either.
-ghost use Rattle.network.specs.Tests.{settingOf};
+ghost use Rattle.checks.specs.Held.{asked};
 ghost use Rattle.solver.specs.Certify.{CertifyOutcome};
 use checks::Setting;
 
