@@ -222,7 +222,7 @@ sight key v = go (decLt (entry key v) unreached)
 
 -- marks are 0 or 1
 pub marks-fit : (st : Setting) (key : List ℕ) → Marks st (markOf key)
-marks-fit st key v h = go (reached key v)
+marks-fit st key v h = go (reached (entry key v))
   where
     go : (b : Bool) → InRange (pos 0) (pos 1) (pos (indicator b))
     go true = record { above = omega signed; below = omega signed }

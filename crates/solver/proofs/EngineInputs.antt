@@ -21,8 +21,8 @@ use Rattle.engine.specs.Calls.{arcFits, arcsFit, solvable, SolveOutcome}
 use Rattle.engine.proofs.LentParts.{lent-again}
 use Rattle.engine.proofs.LimitTests.{both-on}
 use Rattle.solver.specs.declared.vertices.NumberKind.the-variants.{Mark, Potential}
-use Rattle.solver.specs.Instance.{Fits, constant, VertexList}
-use Rattle.solver.specs.Certify.{AcceptedNetwork, packedFor, standing, EngineRunFor, EngineRun, numberOf}
+use Rattle.solver.specs.Instance.{Fits, constant, VertexList, numberOf}
+use Rattle.solver.specs.Certify.{AcceptedNetwork, packedFor, standing, EngineRunFor, EngineRun}
 use Rattle.solver.proofs.Solutions.{fits, cost-low, same-tails, same-heads, same-costs, same-capacities, keys}
 
 -- ---- packed arcs are within the engine's limits

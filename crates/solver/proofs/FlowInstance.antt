@@ -18,17 +18,17 @@ use Rattle.network.proofs.Rules.{WithinCapacity, FlowCertificate}
 use Rattle.network.proofs.Sound.{balance-parts}
 use Rattle.engine.specs.Residual.{entry}
 use Rattle.engine.specs.Phase.{Solved}
-use Rattle.solver.specs.Instance.{Fits, tails, heads, weights, constant, VertexList, single, Falls, markOf}
+use Rattle.solver.specs.Instance.{Fits, tails, heads, weights, constant, VertexList, single, plenty, Falls, markOf}
 use Rattle.engine.proofs.LastSearch.{in-list, leads-on, leads-back, from-left}
 use Rattle.solver.proofs.ColumnsAndLoads.{since-none, index, loads-arcs, columnArc, every-load, leaving-most, fallen, Carried, carried-by, as-much, at-source, elsewhere, Seen, Unseen, seen, unseen, sight, marks-fit}
 
--- no network that is read holds more than 134213632
+-- no network that is read can carry plenty
 total-below : (es : List Arc) → Every WeightWithin es → total es ≤ mostWeight * length es
 unfolding total
 total-below [] h = omega arith
 total-below (e ∷ es) h = omega (arith, h .0, total-below es (h .1))
 
-pub total-most : (n : ℕ) (es : List Arc) → Fits n es → total es ≤ 134213632
+pub total-most : (n : ℕ) (es : List Arc) → Fits n es → total es < plenty
 total-most n es lim = omega (arith, total-below es (lim .light), lim .few)
 
 -- where arcs that leave the set are full and arcs that enter it are empty, what flows out of it is the cut

@@ -24,8 +24,8 @@ use Rattle.engine.proofs.LastSearch.{near-enough}
 use Rattle.engine.proofs.LentParts.{zero-at}
 use Rattle.engine.proofs.LimitTests.{both-on}
 use Rattle.solver.specs.declared.vertices.NumberKind.the-variants.{Mark, Distance}
-use Rattle.solver.specs.Instance.{tails, heads, constant, VertexList}
-use Rattle.solver.specs.Certify.{AcceptedNetwork, packedFor, costs, capacities, standing, numberOf, NodeNumbers, Solution}
+use Rattle.solver.specs.Instance.{tails, heads, constant, VertexList, numberOf}
+use Rattle.solver.specs.Certify.{AcceptedNetwork, packedFor, costs, capacities, standing, NodeNumbers, Solution}
 use Rattle.solver.proofs.ColumnsAndLoads.{sight}
 use Rattle.solver.proofs.EngineInputs.{packed-length, packed-fit}
 use Rattle.solver.proofs.Solutions.{fits, same-tails, same-heads, same-costs, same-capacities, path-solution, no-path-solution}

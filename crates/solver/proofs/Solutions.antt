@@ -28,8 +28,8 @@ use Rattle.engine.specs.Residual.{entry, unreached, residual}
 use Rattle.engine.specs.PackedArcs.{tailsOf, headsOf, costsOf, capacitiesOf}
 use Rattle.engine.specs.Push.{Moved}
 use Rattle.engine.specs.Phase.{SearchResult, PhaseState, Solved}
-use Rattle.solver.specs.Instance.{Fits, tails, heads, weights, constant, VertexList, single, markOf, toward}
-use Rattle.solver.specs.Certify.{recordOk, admissible, AcceptedNetwork, capacityFor, packedFor, costs, capacities, standingFor, standing, EngineRunFor, EngineRun, numberOf, NodeNumbers, Wanting, toldBy, Told, LengthsFor, Solution}
+use Rattle.solver.specs.Instance.{Fits, tails, heads, weights, constant, VertexList, single, plenty, pairRoom, markOf, toward, numberOf}
+use Rattle.solver.specs.Certify.{recordOk, admissible, AcceptedNetwork, capacityFor, packedFor, costs, capacities, standingFor, standing, EngineRunFor, EngineRun, NodeNumbers, Wanting, toldBy, Told, LengthsFor, Solution}
 use Rattle.solver.specs.declared.vertices.NumberKind.{NumberKind}
 use Rattle.solver.specs.declared.vertices.NumberKind.the-variants.{Mark, Distance, Potential}
 use Rattle.solver.proofs.ColumnsAndLoads.{loads-arcs, Seen, Unseen, sight}
@@ -164,9 +164,9 @@ module _ {st : Setting} {es : List Arc} (a : AcceptedNetwork st es) where
       same : (v : ℕ) → v < st .n → markOf key' v ≡ at ys v
       same v h = sym (w .each v (omega (arith, keys r)))
 
-      certificate : FlowCertificate st (markOf key') (loadsOf es x') (134213633 - entry need' (st .t))
+      certificate : FlowCertificate st (markOf key') (loadsOf es x') (plenty - entry need' (st .t))
       certificate =
-          flow-certificate st es 134213633 ends (fits a) (omega (arith, total-most (st .n) es (fits a))) (r .supply) (r .demand) (r .solved .left-less) (r .solved .need-less)
+          flow-certificate st es plenty ends (fits a) (omega (arith, total-most (st .n) es (fits a))) (r .supply) (r .demand) (r .solved .left-less) (r .solved .need-less)
           (subst (λ (c : List ℕ). Solved (tails es) (heads es) c (weights es) (constant es 0) (r .pi) (r .left) (r .need) x' pi' (r .left') need' key' (r .par')) (constant-map 0 es) (r .solved))
 
   -- ---- assignment
@@ -181,8 +181,8 @@ module _ {st : Setting} {es : List Arc} (a : AcceptedNetwork st es) where
     sides : Every (PumpToSite st) es
     sides = every-map (λ x (h : Allowed st x). subst (λ (q : Question). SidesFor q st x) e (h .joins .sides)) es (a .allowed)
 
-    asked : Solved (tails es) (heads es) (weights es) (constant es 2) (constant es 0) (r .pi) (r .left) (r .need) x' pi' (r .left') need' key' (r .par')
-    asked = subst (λ (c : List ℕ). Solved (tails es) (heads es) (weights es) c (constant es 0) (r .pi) (r .left) (r .need) x' pi' (r .left') need' key' (r .par')) (constant-map 2 es) (r .solved)
+    asked : Solved (tails es) (heads es) (weights es) (constant es pairRoom) (constant es 0) (r .pi) (r .left) (r .need) x' pi' (r .left') need' key' (r .par')
+    asked = subst (λ (c : List ℕ). Solved (tails es) (heads es) (weights es) c (constant es 0) (r .pi) (r .left) (r .need) x' pi' (r .left') need' key' (r .par')) (constant-map pairRoom es) (r .solved)
 
     pub assignment-solution : {ys : List ℤ} → ((v : ℕ) → entry need' v ≡ 0) → NodeNumbers Potential pi' ys → Solution st es ys x' 1
     assignment-solution {ys} met w =

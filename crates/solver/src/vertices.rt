@@ -7,15 +7,18 @@ ghost use lib.ListN.{length};
 ghost use Rattle.prelude.specs.Choice.{pick, indicator};
 ghost use Rattle.network.specs.Limits.{mostVertices, mostPotential};
 ghost use Rattle.checks.specs.Held.{asked};
-ghost use Rattle.solver.specs.Certify.{endFor, standing, numberOf, NodeNumbers, Wanting};
+ghost use Rattle.solver.specs.Certify.{endFor, standing, NodeNumbers, Wanting};
 ghost use Rattle.engine.specs.Residual.{entry};
-ghost use Rattle.solver.specs.Instance.{VertexList, single as singleAt, atPumps, atSites};
+ghost use Rattle.solver.specs.Instance.{VertexList, single as singleAt, atPumps, atSites, numberOf};
 use checks::HeldSetting;
 use checks::reading::pumps;
 use checks::rows::Question;
 use checks::rows::question_of;
 use engine::UNREACHED;
 use network::MOST_POTENTIAL;
+
+// More units than all arcs together can carry.
+const PLENTY: u32 = 134213633;
 
 // amount at the vertex k, 0 elsewhere.
 fn single(k: u8, amount: u32, v: u8) -> u32
@@ -60,7 +63,7 @@ fn standing_at(st: HeldSetting, wanted: bool, v: u8) -> u32
     let end = end_of(st, wanted);
     match question {
         Question::Path => single(end, 1, v),
-        Question::Flow => single(end, 134213633, v),
+        Question::Flow => single(end, PLENTY, v),
         Question::Assignment => on_side(st, wanted, v),
         Question::Unasked => 0,
     }

@@ -11,7 +11,7 @@ use mir.Facts.{toZ-pos}
 use borrow.Author.Needs.{needs, sfits-of}
 use Rattle.prelude.proofs.Filling.{Filling, fill-start, fill-turn, fill-end}
 use Rattle.network.specs.Limits.{mostPotential}
-use Rattle.solver.specs.Certify.{numberOf}
+use Rattle.solver.specs.Instance.{numberOf}
 use Rattle.engine.specs.Residual.{entry}
 use Rattle.solver.proofs.vertices.write.Statement.{statement}
 use Rattle.solver.proofs.vertices.write.Tie as tie
