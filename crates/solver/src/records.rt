@@ -80,7 +80,12 @@ fn records_ok(st: HeldSetting, records: &[u32]) -> bool
 }
 
 // Is this what the solver answers?
-pub(crate) fn is_admissible(st: HeldSetting, records: &[u32], numbers: usize, amounts: usize) -> bool
+pub(crate) fn is_admissible(
+    st: HeldSetting,
+    records: &[u32],
+    numbers: usize,
+    amounts: usize,
+) -> bool
     ensures { λ r. ⌜ r ≡ admissible (asked st) (now (records .entry)) numbers amounts ⌝ }
 {
     let n = st.n;

@@ -1,15 +1,14 @@
 // Lists by vertex: what stands at each when the engine is asked, and the numbers written from what it found.
-ghost use mathlib.Core.Bool.{not, true, false};
+ghost use mathlib.Core.Bool.{true, false};
 ghost use mathlib.Core.Path.{_≡_};
-ghost use Prim.Native.Nat.{ℕ, _/_, _<_, _≤_};
-ghost use lib.Dec.{ltb};
+ghost use Prim.Native.Nat.{ℕ, _<_, _≤_};
 ghost use lib.ListN.{length};
-ghost use Rattle.prelude.specs.Choice.{pick, indicator};
+ghost use Rattle.prelude.specs.Choice.{pick};
 ghost use Rattle.network.specs.Limits.{mostVertices, mostPotential};
 ghost use Rattle.checks.specs.Held.{asked};
 ghost use Rattle.solver.specs.Certify.{endFor, standing, NodeNumbers, Wanting};
 ghost use Rattle.engine.specs.Residual.{entry};
-ghost use Rattle.solver.specs.Instance.{VertexList, single as singleAt, atPumps, atSites, numberOf};
+ghost use Rattle.solver.specs.Instance.{VertexList, single as singleAt, atPumps, atSites, reached, numberOf};
 use checks::HeldSetting;
 use checks::reading::pumps;
 use checks::rows::Question;
@@ -87,10 +86,17 @@ pub(crate) enum NumberKind {
     Potential,
 }
 
+// Did the search reach the vertex of the key?
+fn is_reached(key: u32) -> bool
+    ensures { λ r. ⌜ r ≡ reached key ⌝ }
+{
+    key < UNREACHED
+}
+
 fn mark_of(key: u32) -> u32
     ensures { λ r. ⌜ r ≡ numberOf NumberKind.Mark key ⌝ }
 {
-    if key < UNREACHED {
+    if is_reached(key) {
         return 1;
     }
     0
@@ -99,7 +105,7 @@ fn mark_of(key: u32) -> u32
 fn distance_of(key: u32) -> u32
     ensures { λ r. ⌜ r ≡ numberOf NumberKind.Distance key ⌝ }
 {
-    if key < UNREACHED {
+    if is_reached(key) {
         return key / 256;
     }
     MOST_POTENTIAL as u32
