@@ -15,13 +15,13 @@ use Rattle.network.specs.Limits.{mostVertices, mostArcs, mostWeight, mostPotent
 use Rattle.network.specs.Network.{Arc, wordArc, wordArcs}
 use Rattle.network.specs.Question.{Question, shortestPath, maximumFlow, assignment, Setting, WeightWithin, unasked, asks, unitCost}
 use Rattle.network.proofs.Sums.{Inside}
-use Rattle.engine.specs.Residual.{entry, unreached, zeroList}
+use Rattle.engine.specs.Residual.{entry, zeroList}
 use Rattle.engine.specs.PackedArcs.{tailOf, headOf, costOf, PackedSolved}
 use Rattle.engine.specs.Calls.{arcFits, arcsFit, solvable, SolveOutcome}
 use Rattle.engine.proofs.LentParts.{lent-again}
 use Rattle.engine.proofs.LimitTests.{both-on}
 use Rattle.solver.specs.declared.vertices.NumberKind.the-variants.{Mark, Potential}
-use Rattle.solver.specs.Instance.{Fits, constant, VertexList, numberOf}
+use Rattle.solver.specs.Instance.{Fits, constant, VertexList, reached, numberOf}
 use Rattle.solver.specs.Certify.{AcceptedNetwork, packedFor, standing, EngineRunFor, EngineRun}
 use Rattle.solver.proofs.Solutions.{fits, cost-low, same-tails, same-heads, same-costs, same-capacities, keys}
 
@@ -125,7 +125,7 @@ module _ (st : Setting) (rs : List ℕ) (a : AcceptedNetwork st (wordArcs rs)) (
 -- ---- what was given back
 
 pub mark-low : (k : ℕ) → numberOf Mark k ≤ mostPotential
-mark-low k = go (ltb k unreached)
+mark-low k = go (reached k)
   where
     go : (b : Bool) → indicator b ≤ mostPotential
     go true = omega arith

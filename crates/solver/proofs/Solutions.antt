@@ -9,7 +9,6 @@ use native.Mathlib.Omega.{arith}
 use native.Mathlib.Decide.{decLt}
 use lib.Dec.{T, eqb, leb, eqb→eq, leb→le}
 use lib.IntN.{ℤ, pos}
-use borrow.Author.Tests.{lt-ltb, le-ltb}
 use lib.ListN.{length, length-map, List·getD-eq-default}
 use Rattle.prelude.specs.Checks.{firstBroken}
 use Rattle.prelude.specs.Lists.{Every, all, at}
@@ -29,10 +28,10 @@ use Rattle.engine.specs.PackedArcs.{tailsOf, headsOf, costsOf, capacitiesOf}
 use Rattle.engine.specs.Push.{Moved}
 use Rattle.engine.specs.Phase.{SearchResult, PhaseState, Solved}
 use Rattle.solver.specs.Instance.{Fits, tails, heads, weights, constant, VertexList, single, plenty, pairRoom, markOf, toward, numberOf}
-use Rattle.solver.specs.Certify.{recordOk, admissible, AcceptedNetwork, capacityFor, packedFor, costs, capacities, standingFor, standing, EngineRunFor, EngineRun, NodeNumbers, Wanting, toldBy, Told, LengthsFor, Solution}
+use Rattle.solver.specs.Certify.{recordOk, admissible, AcceptedNetwork, capacityFor, packedFor, endFor, costs, capacities, standingFor, standing, EngineRunFor, EngineRun, NodeNumbers, Wanting, toldBy, Told, LengthsFor, Solution}
 use Rattle.solver.specs.declared.vertices.NumberKind.{NumberKind}
 use Rattle.solver.specs.declared.vertices.NumberKind.the-variants.{Mark, Distance, Potential}
-use Rattle.solver.proofs.ColumnsAndLoads.{loads-arcs, Seen, Unseen, sight}
+use Rattle.solver.proofs.ColumnsAndLoads.{loads-arcs, is-reached, not-reached, Seen, Unseen, sight}
 use Rattle.solver.proofs.PathInstance.{path-certificate, no-path-certificate, least-lengths, no-walks, moved-one}
 use Rattle.solver.proofs.FlowInstance.{flow-certificate, total-most}
 use Rattle.solver.proofs.AssignmentInstance.{assignment-certificate, no-assignment-certificate}
@@ -207,7 +206,7 @@ module _ {st : Setting} {es : List Arc} (a : AcceptedNetwork st es) where
     two : TwoVertices st
     two = subst (λ (q : Question). EndsFor q st) e (a .opened .ends)
 
-    supply : VertexList (st .n) (single (st .s) 1) left
+    supply : VertexList (st .n) (single (endFor st false) 1) left
     supply = subst (λ (q : Question). VertexList (st .n) (standingFor q st false) left) e stands
 
     F : SearchResult (residual (tails es) (heads es) (weights es) (constant es 1) (constant es 0) pi) left key par
@@ -249,7 +248,7 @@ module _ {st : Setting} {es : List Arc} (a : AcceptedNetwork st es) where
         solution st es shortestPath e ys x' (value (entry key (st .t) / 256))
         (subst (λ (y : ℕ → ℤ). RulesHold shortestPath st y (loadsOf es x') (value (entry key (st .t) / 256))) (sym (written-at Distance key ys refl w))
         (path-certificate st es (fits a) (two .source-below) none-yet supply S F (two .sink-below) (two .apart) near one))
-        (tells Distance ofValue w (λ k h. rw (lt-ltb k unreached h)) (λ k h. rw (le-ltb k unreached h)))
+        (tells Distance ofValue w (λ k h. rw (is-reached k h)) (λ k h. rw (not-reached k h)))
       where
         some : Moved (tails es) (heads es) (constant es 1) par key (constant es 0) left x' left' (st .t) 1 g
         some = subst (λ (c : List ℕ). Moved (tails es) (heads es) c par key (constant es 0) left x' left' (st .t) 1 g) (constant-map 1 es)
@@ -264,4 +263,4 @@ module _ {st : Setting} {es : List Arc} (a : AcceptedNetwork st es) where
         solution st es shortestPath e ys (constant es 0) none
         (no-path-too st (markOf key) (at ys) (λ v h. sym (w .each v (omega (arith, n-keys)))) (loadsOf es (constant es 0)) (two .source-below) (two .sink-below) (loads-inside a (constant es 0))
         (no-path-certificate st es (fits a) (two .source-below) none-yet supply S F far))
-        (tells Mark ofNone w (λ k h. rw (lt-ltb k unreached h)) (λ k h. rw (le-ltb k unreached h)))
+        (tells Mark ofNone w (λ k h. rw (is-reached k h)) (λ k h. rw (not-reached k h)))
