@@ -25,7 +25,7 @@ use Rattle.network.proofs.Assignments.{Between, leaves-no-site}
 use Rattle.network.proofs.Sound.{balance-parts}
 use Rattle.engine.specs.Residual.{entry, unreached}
 use Rattle.engine.specs.Phase.{Solved}
-use Rattle.solver.specs.Instance.{Fits, tails, heads, weights, constant, VertexList, atPumps, atSites, Falls, markOf}
+use Rattle.solver.specs.Instance.{Fits, tails, heads, weights, constant, VertexList, pairRoom, atPumps, atSites, Falls, markOf}
 use Rattle.engine.proofs.LastSearch.{in-list, leads-on, leads-back, from-left}
 use Rattle.engine.proofs.LentParts.{zero-at}
 use Rattle.solver.proofs.ColumnsAndLoads.{constant-at, since-none, index, loads-arcs, columnArc, every-arc, every-load, sumOf-used, paid-cost, weighed, Seen, Unseen, sight, marks-fit, no-cross}
@@ -57,7 +57,7 @@ amount-enters (a ∷ es) (y ∷ x) (suc e) h = omega (arith, amount-enters es x 
 module _ (st : Setting) (es : List Arc) (fits : Fits (st .n) es) (even : st .n % 2 ≡ 0) (sides : Every (PumpToSite st) es)
     {pi left need x' pi' left' need' key' par' : List ℕ}
     (supply : VertexList (st .n) (atPumps st) left) (demand : VertexList (st .n) (atSites st) need)
-    (r : Solved (tails es) (heads es) (weights es) (constant es 2) (constant es 0) pi left need x' pi' left' need' key' par') where
+    (r : Solved (tails es) (heads es) (weights es) (constant es pairRoom) (constant es 0) pi left need x' pi' left' need' key' par') where
   abbrev f : List Load
   f = loadsOf es x'
 
@@ -159,8 +159,8 @@ module _ (st : Setting) (es : List Arc) (fits : Fits (st .n) es) (even : st .n %
     at-most-one : (e : ℕ) → e < length es → entry x' e ≤ 1
     at-most-one = one-each (λ v h l. used-up v l)
 
-    room : (e : ℕ) → e < length es → entry x' e < entry (constant es 2) e
-    room e h = omega (arith, at-most-one e h, constant-at es 2 e h)
+    room : (e : ℕ) → e < length es → entry x' e < entry (constant es pairRoom) e
+    room e h = omega (arith, at-most-one e h, constant-at es pairRoom e h)
 
     tight : (e : ℕ) → e < length es → 0 < entry x' e → entry pi' (entry (heads es) e) ≡ entry pi' (entry (tails es) e) + entry (weights es) e
     tight e h p = omega (arith, r .state .nonnegative .forward e (index es e h) (room e h), r .state .nonnegative .backward e (index es e h) p)
@@ -192,7 +192,7 @@ module _ (st : Setting) (es : List Arc) (fits : Fits (st .n) es) (even : st .n %
     nothing-at-site v h l = omega (arith, less v, at-site v h l)
 
     on : (e : ℕ) → e < length es → entry key' (entry (tails es) e) < unreached → entry key' (entry (heads es) e) < unreached
-    on e h = leads-on (r .state) (r .found) e (index es e h) (omega (arith, one-each nothing-at-site e h, constant-at es 2 e h))
+    on e h = leads-on (r .state) (r .found) e (index es e h) (omega (arith, one-each nothing-at-site e h, constant-at es pairRoom e h))
 
     -- what flows stays on one side
     one-side : (e : ℕ) → e < length es → 0 < entry x' e → indicator (m (entry (tails es) e)) ≡ indicator (m (entry (heads es) e))

@@ -8,6 +8,7 @@ use native.Mathlib.Omega.{arith}
 use lib.IntN.{ℤ}
 use lib.ListN.{length, take}
 use Rattle.checks.proofs.Laws.{passed, refused as failed}
+use Rattle.network.specs.Limits.{mostVertices}
 use Rattle.network.specs.Network.{Arc, wordArcs}
 use Rattle.network.specs.Question.{Setting}
 use Rattle.engine.specs.Residual.{zeroList}
@@ -15,15 +16,15 @@ use Rattle.engine.proofs.LentParts.{zero-list-length}
 use Rattle.solver.specs.Certify.{admissible, AcceptedNetwork, Solution, CertifyOutcome, refused, solved}
 use Rattle.solver.proofs.Solutions.{accepted}
 
--- of 255 zeros one is lent for each vertex
+-- of an array of zeros one is lent for each vertex
 module _ {st : Setting} {es : List Arc} (a : AcceptedNetwork st es) (i : ℕ) (e : i ≡ st .n) where
-  lent-length : length (take i (zeroList 255)) ≡ i
-  lent-length = zero-list-length i 255 (omega (arith, a .opened .sized .at-most))
+  lent-length : length (take i (zeroList mostVertices)) ≡ i
+  lent-length = zero-list-length i mostVertices (omega (arith, a .opened .sized .at-most))
 
-  pub lent : i ≡ length (take i (zeroList 255))
+  pub lent : i ≡ length (take i (zeroList mostVertices))
   lent = sym lent-length
 
-  pub one-each : length (take i (zeroList 255)) ≡ st .n
+  pub one-each : length (take i (zeroList mostVertices)) ≡ st .n
   one-each = lent-length ∙ e
 
 -- ---- after the test, whose result u the code negates

@@ -18,7 +18,7 @@ use Rattle.prelude.specs.Sums.{sumTo}
 use Rattle.prelude.proofs.Integers.{signed}
 use Rattle.prelude.proofs.Sums.{sumTo-ext, sumTo-add}
 use Rattle.network.specs.Network.{Arc, arcOf, Load, arcs, delta, sumOf, leaving, entering, cost, total, crosses, loadsOf}
-use Rattle.network.specs.Question.{Setting, WeightWithin}
+use Rattle.network.specs.Question.{Setting}
 use Rattle.network.specs.Limits.{mostPotential}
 use Rattle.network.specs.Certificate.{marked}
 use Rattle.network.proofs.Rules.{InRange, Marks, WithinCapacity}
@@ -194,6 +194,12 @@ module _ {n s t S l d : ℕ} {f : List Load} (c : Carried n s t S l d f) where
 
 -- ---- marks
 
+pub is-reached : (k : ℕ) → k < unreached → reached k ≡ true
+is-reached k h = lt-ltb k unreached h
+
+pub not-reached : (k : ℕ) → unreached ≤ k → reached k ≡ false
+not-reached k h = le-ltb k unreached h
+
 -- what the key of a reached vertex says of its mark and its distance, and that of one not reached
 pub record Seen (key : List ℕ) (v : ℕ) : Type 0 where
   pub below : entry key v < unreached
@@ -208,10 +214,10 @@ pub record Unseen (key : List ℕ) (v : ℕ) : Type 0 where
   pub distance : distanceOf key v ≡ mostPotential
 
 pub seen : (key : List ℕ) (v : ℕ) → entry key v < unreached → Seen key v
-seen key v h = let e = lt-ltb (entry key v) unreached h in record { below = h; mark = rw e; inside = rw e; distance = rw e }
+seen key v h = let e = is-reached (entry key v) h in record { below = h; mark = rw e; inside = rw e; distance = rw e }
 
 pub unseen : (key : List ℕ) (v : ℕ) → unreached ≤ entry key v → Unseen key v
-unseen key v h = let e = le-ltb (entry key v) unreached h in record { above = h; mark = rw e; inside = rw e; distance = rw e }
+unseen key v h = let e = not-reached (entry key v) h in record { above = h; mark = rw e; inside = rw e; distance = rw e }
 
 pub sight : (key : List ℕ) (v : ℕ) → Seen key v ⊎ Unseen key v
 sight key v = go (decLt (entry key v) unreached)
@@ -222,7 +228,7 @@ sight key v = go (decLt (entry key v) unreached)
 
 -- marks are 0 or 1
 pub marks-fit : (st : Setting) (key : List ℕ) → Marks st (markOf key)
-marks-fit st key v h = go (reached key v)
+marks-fit st key v h = go (reached (entry key v))
   where
     go : (b : Bool) → InRange (pos 0) (pos 1) (pos (indicator b))
     go true = record { above = omega signed; below = omega signed }

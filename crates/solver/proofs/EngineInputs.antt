@@ -3,7 +3,7 @@
 use mathlib.Core.Path.{_≡_, refl, sym, _∙_, ap, subst}
 use mathlib.Core.Bool.{Bool, true, false, _&&_, false≢true}
 use mathlib.Core.List.{List, [], _∷_, _++_, map}
-use Prim.Native.Nat.{ℕ, _%_, _<_, _≤_}
+use Prim.Native.Nat.{ℕ, _<_, _≤_}
 use native.Mathlib.Omega.{arith}
 use lib.Dec.{eqb, ltb, leb}
 use borrow.Author.Tests.{lt-ltb, le-leb, eq-eqb}
@@ -11,18 +11,18 @@ use lib.ListN.{length, replicate, take, drop, length-map}
 use lib.Seq.{length-take-le}
 use Rattle.prelude.specs.Choice.{indicator}
 use Rattle.prelude.specs.Lists.{Every, all}
-use Rattle.network.specs.Limits.{mostArcs, mostWeight}
+use Rattle.network.specs.Limits.{mostVertices, mostArcs, mostWeight, mostPotential}
 use Rattle.network.specs.Network.{Arc, wordArc, wordArcs}
 use Rattle.network.specs.Question.{Question, shortestPath, maximumFlow, assignment, Setting, WeightWithin, unasked, asks, unitCost}
 use Rattle.network.proofs.Sums.{Inside}
-use Rattle.engine.specs.Residual.{entry, unreached, zeroList}
+use Rattle.engine.specs.Residual.{entry, zeroList}
 use Rattle.engine.specs.PackedArcs.{tailOf, headOf, costOf, PackedSolved}
 use Rattle.engine.specs.Calls.{arcFits, arcsFit, solvable, SolveOutcome}
 use Rattle.engine.proofs.LentParts.{lent-again}
 use Rattle.engine.proofs.LimitTests.{both-on}
 use Rattle.solver.specs.declared.vertices.NumberKind.the-variants.{Mark, Potential}
-use Rattle.solver.specs.Instance.{Fits, constant, VertexList}
-use Rattle.solver.specs.Certify.{AcceptedNetwork, packedFor, standing, EngineRunFor, EngineRun, numberOf}
+use Rattle.solver.specs.Instance.{Fits, constant, VertexList, reached, numberOf}
+use Rattle.solver.specs.Certify.{AcceptedNetwork, packedFor, standing, EngineRunFor, EngineRun}
 use Rattle.solver.proofs.Solutions.{fits, cost-low, same-tails, same-heads, same-costs, same-capacities, keys}
 
 -- ---- packed arcs are within the engine's limits
@@ -45,9 +45,9 @@ packed-cost q r = omega (arith, cost-low q (wordArc r) (omega arith))
 packed-fits : (q : Question) (n r : ℕ) → Inside n (wordArc r) → WeightWithin (wordArc r) → arcFits n (packedFor q r) ≡ true
 packed-fits q n r i l =
     let k = packedFor q r in
-    both-on (ltb (tailOf k) n && ltb (headOf k) n) (leb (costOf k) 32767) true
+    both-on (ltb (tailOf k) n && ltb (headOf k) n) (leb (costOf k) mostWeight) true
     (both-on (ltb (tailOf k) n) (ltb (headOf k) n) true (lt-ltb (tailOf k) n (omega (arith, i .0))) (lt-ltb (headOf k) n (omega (arith, i .1))))
-    (le-leb (costOf k) 32767 (subst (λ (c : ℕ). c ≤ 32767) (sym (packed-cost q r)) (no-dearer q (wordArc r) l)))
+    (le-leb (costOf k) mostWeight (subst (λ (c : ℕ). c ≤ mostWeight) (sym (packed-cost q r)) (no-dearer q (wordArc r) l)))
 
 all-fit : (q : Question) (n : ℕ) (rs : List ℕ) → Every (Inside n) (wordArcs rs) → Every WeightWithin (wordArcs rs) → all (arcFits n) (map (packedFor q) rs) ≡ true
 all-fit q n [] i l = refl
@@ -55,9 +55,9 @@ all-fit q n (r ∷ rs) i l = both-on (arcFits n (packedFor q r)) (all (arcFits n
 
 pub packed-fit : (q : Question) (n m : ℕ) (rs arcs : List ℕ) → Fits n (wordArcs rs) → arcs ≡ map (packedFor q) rs → m ≡ length rs → arcsFit arcs m n ≡ true
 packed-fit q n m rs arcs F p e =
-    both-on (leb n 255 && leb (length arcs) 4096 && eqb m (length arcs)) (all (arcFits n) arcs) true
-    (both-on (leb n 255 && leb (length arcs) 4096) (eqb m (length arcs)) true
-    (both-on (leb n 255) (leb (length arcs) 4096) true (le-leb n 255 (F .small)) (le-leb (length arcs) 4096 (omega (arith, packed-length q rs arcs p, F .few, length-map rs wordArc))))
+    both-on (leb n mostVertices && leb (length arcs) mostArcs && eqb m (length arcs)) (all (arcFits n) arcs) true
+    (both-on (leb n mostVertices && leb (length arcs) mostArcs) (eqb m (length arcs)) true
+    (both-on (leb n mostVertices) (leb (length arcs) mostArcs) true (le-leb n mostVertices (F .small)) (le-leb (length arcs) mostArcs (omega (arith, packed-length q rs arcs p, F .few, length-map rs wordArc))))
     (eq-eqb m (length arcs) (e ∙ sym (packed-length q rs arcs p))))
     (ap (λ (l : List ℕ). all (arcFits n) l) p ∙ all-fit q n rs (F .inside) (F .light))
 
@@ -124,19 +124,19 @@ module _ (st : Setting) (rs : List ℕ) (a : AcceptedNetwork st (wordArcs rs)) (
 
 -- ---- what was given back
 
-pub mark-low : (k : ℕ) → numberOf Mark k ≤ 8388607
-mark-low k = go (ltb k unreached)
+pub mark-low : (k : ℕ) → numberOf Mark k ≤ mostPotential
+mark-low k = go (reached k)
   where
-    go : (b : Bool) → indicator b ≤ 8388607
+    go : (b : Bool) → indicator b ≤ mostPotential
     go true = omega arith
     go false = omega arith
 
 module _ {q : Question} {st : Setting} {es : List Arc} {x' pi' need' key' : List ℕ} (r : EngineRunFor q st es x' pi' need' key') where
   -- numbers can be written from the keys as marks, and from the potentials
-  pub marks-writable : {k : ℕ} → k ≡ st .n → (k ≡ length key') × ((v : ℕ) → v < length key' → numberOf Mark (entry key' v) ≤ 8388607)
+  pub marks-writable : {k : ℕ} → k ≡ st .n → (k ≡ length key') × ((v : ℕ) → v < length key' → numberOf Mark (entry key' v) ≤ mostPotential)
   marks-writable h = (h ∙ sym (keys r), λ v l. mark-low (entry key' v))
 
-  pub potentials-writable : {k : ℕ} → k ≡ st .n → (k ≡ length pi') × ((v : ℕ) → v < length pi' → numberOf Potential (entry pi' v) ≤ 8388607)
+  pub potentials-writable : {k : ℕ} → k ≡ st .n → (k ≡ length pi') × ((v : ℕ) → v < length pi' → numberOf Potential (entry pi' v) ≤ mostPotential)
   potentials-writable h =
       (h ∙ sym (r .solved .state .sized .pi-len ∙ r .solved .left-len ∙ r .supply .len), λ v l. omega (arith, r .solved .state .sized .pis v))
 

@@ -1,7 +1,7 @@
 -- Maximum flow: what the engine gives back, asked with a supply at the source and a demand at the sink above all capacities, is a certificate.
 -- Assumes nothing.
 use mathlib.Core.Path.{_≡_, refl, ap}
-use mathlib.Core.Bool.{Bool, not, _&&_}
+use mathlib.Core.Bool.{Bool, true, false, not, _&&_}
 use mathlib.Core.Logic.{_⊎_, inl, inr}
 use mathlib.Core.List.{List, [], _∷_}
 use Prim.Native.Nat.{ℕ, _+_, _-_, _*_, _<_, _≤_}
@@ -18,17 +18,18 @@ use Rattle.network.proofs.Rules.{WithinCapacity, FlowCertificate}
 use Rattle.network.proofs.Sound.{balance-parts}
 use Rattle.engine.specs.Residual.{entry}
 use Rattle.engine.specs.Phase.{Solved}
-use Rattle.solver.specs.Instance.{Fits, tails, heads, weights, constant, VertexList, single, Falls, markOf}
+use Rattle.solver.specs.Instance.{Fits, tails, heads, weights, constant, VertexList, single, plenty, Falls, markOf}
+use Rattle.solver.specs.Certify.{endFor}
 use Rattle.engine.proofs.LastSearch.{in-list, leads-on, leads-back, from-left}
 use Rattle.solver.proofs.ColumnsAndLoads.{since-none, index, loads-arcs, columnArc, every-load, leaving-most, fallen, Carried, carried-by, as-much, at-source, elsewhere, Seen, Unseen, seen, unseen, sight, marks-fit}
 
--- no network that is read holds more than 134213632
+-- no network that is read can carry plenty
 total-below : (es : List Arc) → Every WeightWithin es → total es ≤ mostWeight * length es
 unfolding total
 total-below [] h = omega arith
 total-below (e ∷ es) h = omega (arith, h .0, total-below es (h .1))
 
-pub total-most : (n : ℕ) (es : List Arc) → Fits n es → total es ≤ 134213632
+pub total-most : (n : ℕ) (es : List Arc) → Fits n es → total es < plenty
 total-most n es lim = omega (arith, total-below es (lim .light), lim .few)
 
 -- where arcs that leave the set are full and arcs that enter it are empty, what flows out of it is the cut
@@ -45,7 +46,7 @@ weigh x w i j h = rw (i, j) h
 
 module _ (st : Setting) (es : List Arc) (S : ℕ) (ends : TwoVertices st) (fits : Fits (st .n) es) (enough : total es < S)
     {pi left need x' pi' left' need' key' par' : List ℕ}
-    (supply : VertexList (st .n) (single (st .s) S) left) (demand : VertexList (st .n) (single (st .t) S) need)
+    (supply : VertexList (st .n) (single (endFor st false) S) left) (demand : VertexList (st .n) (single (endFor st true) S) need)
     (less : Falls left left') (fewer : Falls need need')
     (r : Solved (tails es) (heads es) (constant es 0) (weights es) (constant es 0) pi left need x' pi' left' need' key' par') where
   abbrev f : List Load
@@ -68,8 +69,8 @@ module _ (st : Setting) (es : List Arc) (S : ℕ) (ends : TwoVertices st) (fits 
       r .balance v,
       supply .entries v h,
       demand .entries v h,
-      fallen (st .n) S (st .s) left left' supply less v h,
-      fallen (st .n) S (st .t) need need' demand fewer v h,
+      fallen (st .n) S (endFor st false) left left' supply less v h,
+      fallen (st .n) S (endFor st true) need need' demand fewer v h,
     ));
   }
 

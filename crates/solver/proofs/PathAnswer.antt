@@ -10,6 +10,7 @@ use lib.Dec.{eqb, ltb}
 use lib.IntN.{ℤ}
 use lib.ListN.{length, length-map, length-replicate}
 use borrow.Author.Tests.{lt-ltb, eq-eqb}
+use Rattle.network.specs.Limits.{mostPotential}
 use Rattle.network.specs.Network.{Arc, wordArc, wordArcs}
 use Rattle.network.specs.Question.{Question, shortestPath, Setting, TwoVertices, EndsFor, asks}
 use Rattle.engine.specs.Residual.{entry, unreached, zeroList, ResidualNetwork, residual}
@@ -23,8 +24,8 @@ use Rattle.engine.proofs.LastSearch.{near-enough}
 use Rattle.engine.proofs.LentParts.{zero-at}
 use Rattle.engine.proofs.LimitTests.{both-on}
 use Rattle.solver.specs.declared.vertices.NumberKind.the-variants.{Mark, Distance}
-use Rattle.solver.specs.Instance.{tails, heads, constant, VertexList}
-use Rattle.solver.specs.Certify.{AcceptedNetwork, packedFor, costs, capacities, standing, numberOf, NodeNumbers, Solution}
+use Rattle.solver.specs.Instance.{tails, heads, constant, VertexList, numberOf}
+use Rattle.solver.specs.Certify.{AcceptedNetwork, packedFor, costs, capacities, standing, NodeNumbers, Solution}
 use Rattle.solver.proofs.ColumnsAndLoads.{sight}
 use Rattle.solver.proofs.EngineInputs.{packed-length, packed-fit}
 use Rattle.solver.proofs.Solutions.{fits, same-tails, same-heads, same-costs, same-capacities, path-solution, no-path-solution}
@@ -83,7 +84,7 @@ module _ {st : Setting} {rs arcs x left key : List ℕ} (g : PathInputs st rs ar
     pub keys-length : length key' ≡ st .n
     keys-length = F .key-len ∙ g .stands .len
 
-    low : (v : ℕ) → v < length key' → numberOf Distance (entry key' v) ≤ 8388607
+    low : (v : ℕ) → v < length key' → numberOf Distance (entry key' v) ≤ mostPotential
     low v h = ⊎-elim (λ r. omega (arith, r .distance, near-enough S F v h (r .below))) (λ r. omega (arith, r .distance)) (sight key' v)
 
   -- the outcome of the call, taken apart
@@ -125,5 +126,5 @@ module _ {st : Setting} {rs arcs x left key : List ℕ} (g : PathInputs st rs ar
       (no-path-solution (g .accepted) (g .path) none-yet (g .stands) (state (r .state) (r .found)) (found (r .state) (r .found)) (r .far) w)
 
   -- the distances can be written
-  pub distances-low : {x' left' key' : List ℕ} {k : ℕ} → Reach x' left' key' k → (v : ℕ) → v < length key' → numberOf Distance (entry key' v) ≤ 8388607
+  pub distances-low : {x' left' key' : List ℕ} {k : ℕ} → Reach x' left' key' k → (v : ℕ) → v < length key' → numberOf Distance (entry key' v) ≤ mostPotential
   distances-low r = low (r .state) (r .found)

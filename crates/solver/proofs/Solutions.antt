@@ -9,7 +9,6 @@ use native.Mathlib.Omega.{arith}
 use native.Mathlib.Decide.{decLt}
 use lib.Dec.{T, eqb, leb, eqb→eq, leb→le}
 use lib.IntN.{ℤ, pos}
-use borrow.Author.Tests.{lt-ltb, le-ltb}
 use lib.ListN.{length, length-map, List·getD-eq-default}
 use Rattle.prelude.specs.Checks.{firstBroken}
 use Rattle.prelude.specs.Lists.{Every, all, at}
@@ -28,11 +27,11 @@ use Rattle.engine.specs.Residual.{entry, unreached, residual}
 use Rattle.engine.specs.PackedArcs.{tailsOf, headsOf, costsOf, capacitiesOf}
 use Rattle.engine.specs.Push.{Moved}
 use Rattle.engine.specs.Phase.{SearchResult, PhaseState, Solved}
-use Rattle.solver.specs.Instance.{Fits, tails, heads, weights, constant, VertexList, single, markOf, toward}
-use Rattle.solver.specs.Certify.{recordOk, admissible, AcceptedNetwork, capacityFor, packedFor, costs, capacities, standingFor, standing, EngineRunFor, EngineRun, numberOf, NodeNumbers, Wanting, toldBy, Told, LengthsFor, Solution}
+use Rattle.solver.specs.Instance.{Fits, tails, heads, weights, constant, VertexList, single, plenty, pairRoom, markOf, toward, numberOf}
+use Rattle.solver.specs.Certify.{recordOk, admissible, AcceptedNetwork, capacityFor, packedFor, endFor, costs, capacities, standingFor, standing, EngineRunFor, EngineRun, NodeNumbers, Wanting, toldBy, Told, LengthsFor, Solution}
 use Rattle.solver.specs.declared.vertices.NumberKind.{NumberKind}
 use Rattle.solver.specs.declared.vertices.NumberKind.the-variants.{Mark, Distance, Potential}
-use Rattle.solver.proofs.ColumnsAndLoads.{loads-arcs, Seen, Unseen, sight}
+use Rattle.solver.proofs.ColumnsAndLoads.{loads-arcs, is-reached, not-reached, Seen, Unseen, sight}
 use Rattle.solver.proofs.PathInstance.{path-certificate, no-path-certificate, least-lengths, no-walks, moved-one}
 use Rattle.solver.proofs.FlowInstance.{flow-certificate, total-most}
 use Rattle.solver.proofs.AssignmentInstance.{assignment-certificate, no-assignment-certificate}
@@ -164,9 +163,9 @@ module _ {st : Setting} {es : List Arc} (a : AcceptedNetwork st es) where
       same : (v : ℕ) → v < st .n → markOf key' v ≡ at ys v
       same v h = sym (w .each v (omega (arith, keys r)))
 
-      certificate : FlowCertificate st (markOf key') (loadsOf es x') (134213633 - entry need' (st .t))
+      certificate : FlowCertificate st (markOf key') (loadsOf es x') (plenty - entry need' (st .t))
       certificate =
-          flow-certificate st es 134213633 ends (fits a) (omega (arith, total-most (st .n) es (fits a))) (r .supply) (r .demand) (r .solved .left-less) (r .solved .need-less)
+          flow-certificate st es plenty ends (fits a) (omega (arith, total-most (st .n) es (fits a))) (r .supply) (r .demand) (r .solved .left-less) (r .solved .need-less)
           (subst (λ (c : List ℕ). Solved (tails es) (heads es) c (weights es) (constant es 0) (r .pi) (r .left) (r .need) x' pi' (r .left') need' key' (r .par')) (constant-map 0 es) (r .solved))
 
   -- ---- assignment
@@ -181,8 +180,8 @@ module _ {st : Setting} {es : List Arc} (a : AcceptedNetwork st es) where
     sides : Every (PumpToSite st) es
     sides = every-map (λ x (h : Allowed st x). subst (λ (q : Question). SidesFor q st x) e (h .joins .sides)) es (a .allowed)
 
-    asked : Solved (tails es) (heads es) (weights es) (constant es 2) (constant es 0) (r .pi) (r .left) (r .need) x' pi' (r .left') need' key' (r .par')
-    asked = subst (λ (c : List ℕ). Solved (tails es) (heads es) (weights es) c (constant es 0) (r .pi) (r .left) (r .need) x' pi' (r .left') need' key' (r .par')) (constant-map 2 es) (r .solved)
+    asked : Solved (tails es) (heads es) (weights es) (constant es pairRoom) (constant es 0) (r .pi) (r .left) (r .need) x' pi' (r .left') need' key' (r .par')
+    asked = subst (λ (c : List ℕ). Solved (tails es) (heads es) (weights es) c (constant es 0) (r .pi) (r .left) (r .need) x' pi' (r .left') need' key' (r .par')) (constant-map pairRoom es) (r .solved)
 
     pub assignment-solution : {ys : List ℤ} → ((v : ℕ) → entry need' v ≡ 0) → NodeNumbers Potential pi' ys → Solution st es ys x' 1
     assignment-solution {ys} met w =
@@ -207,7 +206,7 @@ module _ {st : Setting} {es : List Arc} (a : AcceptedNetwork st es) where
     two : TwoVertices st
     two = subst (λ (q : Question). EndsFor q st) e (a .opened .ends)
 
-    supply : VertexList (st .n) (single (st .s) 1) left
+    supply : VertexList (st .n) (single (endFor st false) 1) left
     supply = subst (λ (q : Question). VertexList (st .n) (standingFor q st false) left) e stands
 
     F : SearchResult (residual (tails es) (heads es) (weights es) (constant es 1) (constant es 0) pi) left key par
@@ -249,7 +248,7 @@ module _ {st : Setting} {es : List Arc} (a : AcceptedNetwork st es) where
         solution st es shortestPath e ys x' (value (entry key (st .t) / 256))
         (subst (λ (y : ℕ → ℤ). RulesHold shortestPath st y (loadsOf es x') (value (entry key (st .t) / 256))) (sym (written-at Distance key ys refl w))
         (path-certificate st es (fits a) (two .source-below) none-yet supply S F (two .sink-below) (two .apart) near one))
-        (tells Distance ofValue w (λ k h. rw (lt-ltb k unreached h)) (λ k h. rw (le-ltb k unreached h)))
+        (tells Distance ofValue w (λ k h. rw (is-reached k h)) (λ k h. rw (not-reached k h)))
       where
         some : Moved (tails es) (heads es) (constant es 1) par key (constant es 0) left x' left' (st .t) 1 g
         some = subst (λ (c : List ℕ). Moved (tails es) (heads es) c par key (constant es 0) left x' left' (st .t) 1 g) (constant-map 1 es)
@@ -264,4 +263,4 @@ module _ {st : Setting} {es : List Arc} (a : AcceptedNetwork st es) where
         solution st es shortestPath e ys (constant es 0) none
         (no-path-too st (markOf key) (at ys) (λ v h. sym (w .each v (omega (arith, n-keys)))) (loadsOf es (constant es 0)) (two .source-below) (two .sink-below) (loads-inside a (constant es 0))
         (no-path-certificate st es (fits a) (two .source-below) none-yet supply S F far))
-        (tells Mark ofNone w (λ k h. rw (lt-ltb k unreached h)) (λ k h. rw (le-ltb k unreached h)))
+        (tells Mark ofNone w (λ k h. rw (is-reached k h)) (λ k h. rw (not-reached k h)))

@@ -1,20 +1,12 @@
--- Laws of the lists by vertex: what stands at a vertex, and a list that is read from the front.
+-- Laws of the lists by vertex: one that is read from the front, and has nothing but zeros so far.
 -- Assumes nothing.
-use mathlib.Core.Path.{_≡_, sym, ap, _∙_}
-use mathlib.Core.Bool.{Bool}
+use mathlib.Core.Path.{_≡_, ap, _∙_}
 use mathlib.Core.List.{List}
 use Prim.Native.Nat.{ℕ, _+_, _<_, _≤_}
 use native.Mathlib.Omega.{arith}
 use native.Mathlib.Decide.{ℕ-discrete, decLt}
 use lib.ListN.{length, List·getD-eq-default}
-use Rattle.network.specs.Question.{Question, Setting}
-use Rattle.solver.specs.Certify.{standingFor}
 use Rattle.engine.specs.Residual.{entry}
-
--- ---- what stands, by the question
-
-pub stands : (q k : Question) (st : Setting) (wanted : Bool) (v r : ℕ) → k ≡ q → r ≡ standingFor q st wanted v → r ≡ standingFor k st wanted v
-stands q k st wanted v r e h = h ∙ ap (λ (z : Question). standingFor z st wanted v) (sym e)
 
 -- ---- nothing wanted below v
 

@@ -3,11 +3,11 @@
 use mathlib.Core.Path.{_≡_}
 use mathlib.Core.Bool.{Bool, true, false, _&&_}
 use mathlib.Core.List.{List, map}
-use Prim.Native.Nat.{ℕ, _/_, _<_, _≤_}
-use lib.Dec.{eqb, ltb, leb}
+use Prim.Native.Nat.{ℕ, _<_, _≤_}
+use lib.Dec.{eqb, leb}
 use lib.IntN.{ℤ, pos}
 use lib.ListN.{length}
-use Rattle.prelude.specs.Choice.{pick, indicator}
+use Rattle.prelude.specs.Choice.{pick}
 use Rattle.prelude.specs.Checks.{firstBroken}
 use Rattle.prelude.specs.Lists.{Every, all, at}
 use Rattle.network.specs.Limits.{mostArcs, mostPotential}
@@ -15,14 +15,13 @@ use Rattle.network.specs.Network.{Arc, wordArc, wordArcs, loadsOf}
 use Rattle.network.specs.Question.{Question, shortestPath, maximumFlow, assignment, unasked, Setting, asks, unitCost, Opened, Allowed, Answer, value, none, TrueAnswer}
 use Rattle.network.specs.Certificate.{Claim, ofValue, ofNone, claimFor, Certified}
 use Rattle.network.specs.Tests.{claimNumber, openingChecks, arcChecks}
-use Rattle.engine.specs.Residual.{entry, unreached}
+use Rattle.engine.specs.Residual.{entry}
 use Rattle.engine.specs.PackedArcs.{packedArc}
 use Rattle.engine.specs.Phase.{Solved}
 use Rattle.solver.specs.declared.Finding.{Finding}
 use Rattle.solver.specs.declared.Finding.the-variants.{Value, None, Refused}
 use Rattle.solver.specs.declared.vertices.NumberKind.{NumberKind}
-use Rattle.solver.specs.declared.vertices.NumberKind.the-variants.{Mark, Distance, Potential}
-use Rattle.solver.specs.Instance.{toward, single, atPumps, atSites, VertexList, tails, heads, constant}
+use Rattle.solver.specs.Instance.{toward, single, plenty, pairRoom, atPumps, atSites, VertexList, tails, heads, constant, numberOf}
 
 -- ---- what is handed over
 
@@ -30,7 +29,7 @@ use Rattle.solver.specs.Instance.{toward, single, atPumps, atSites, Vert
 abbrev pub recordOk : Setting → ℕ → Bool
 recordOk st r = eqb (firstBroken (arcChecks st (wordArc r))) 0
 
--- What the solver answers: a setting that opening accepts, at most 4096 records whose arcs reading accepts, and room for one number a vertex and one amount a record.
+-- What the solver answers: a setting that opening accepts, at most as many records as are read, whose arcs reading accepts, and room for one number a vertex and one amount a record.
 abbrev pub admissible : Setting → List ℕ → ℕ → ℕ → Bool
 admissible st rs numbers amounts =
     eqb (firstBroken (openingChecks st)) 0 && leb (length rs) mostArcs && eqb numbers (st .n) && eqb amounts (length rs) && all (recordOk st) rs
@@ -43,11 +42,11 @@ pub record AcceptedNetwork (st : Setting) (net : List Arc) : Type 0 where
 
 -- ---- how the engine is asked
 
--- The capacity of an arc: 1 for a path, for one unit is sent; its own for a flow; 2 for an assignment, where no more than 1 ever comes, so that an arc is never full.
+-- The capacity of an arc: 1 for a path, for one unit is sent; its own for a flow; room to spare for an assignment.
 abbrev pub capacityFor : Question → Arc → ℕ
 capacityFor shortestPath e = 1
 capacityFor maximumFlow e = e .weight
-capacityFor assignment e = 2
+capacityFor assignment e = pairRoom
 capacityFor unasked e = 0
 
 -- The arc of a record, packed for the engine: a unit costs there what the question says.
@@ -58,10 +57,10 @@ packedFor q r = packedArc (wordArc r .tail) (wordArc r .head) (unitCost q (wordA
 abbrev pub endFor : Setting → Bool → ℕ
 endFor st wanted = pick wanted (st .t) (st .s)
 
--- What stands at the vertex v: the supply, or what is wanted. 134213633 is more than all arcs can carry.
+-- What stands at the vertex v: the supply, or what is wanted.
 abbrev pub standingFor : Question → Setting → Bool → ℕ → ℕ
 standingFor shortestPath st wanted v = single (endFor st wanted) 1 v
-standingFor maximumFlow st wanted v = single (endFor st wanted) 134213633 v
+standingFor maximumFlow st wanted v = single (endFor st wanted) plenty v
 standingFor assignment st wanted v = pick wanted (atSites st v) (atPumps st v)
 standingFor unasked st wanted v = 0
 
@@ -92,12 +91,6 @@ pub record EngineRunFor (q : Question) (st : Setting) (net : List Arc) (x' pi' n
 abbrev pub EngineRun : (st : Setting) (net : List Arc) (x' pi' need' key' : List ℕ) → Type 0
 EngineRun st net x' pi' need' key' = EngineRunFor (asks st) st net x' pi' need' key'
 
--- The node number written for a vertex, read from k: a mark or a distance from its key, or a potential as it stands.
-abbrev pub numberOf : NumberKind → ℕ → ℕ
-numberOf Mark k = indicator (ltb k unreached)
-numberOf Distance k = pick (ltb k unreached) (k / 256) mostPotential
-numberOf Potential k = k
-
 -- The numbers written for the entries of a list.
 pub record NodeNumbers (kind : NumberKind) (from : List ℕ) (ys : List ℤ) : Type 0 where
   pub len : length ys ≡ length from
@@ -111,7 +104,7 @@ pub record Wanting (need : List ℕ) : Type 0 where
 
 -- ---- what is handed back
 
--- The number that tells the true answer for a vertex: its least length, or 8322818 where no walk leads; for the claim none, 1 where a walk leads and 0 elsewhere.
+-- The number that tells the true answer for a vertex: its least length, or as high as a potential goes where no walk leads; for the claim none, 1 where a walk leads and 0 elsewhere.
 abbrev pub toldBy : Claim → Answer → ℤ
 toldBy ofValue (value d) = pos d
 toldBy ofValue none = pos mostPotential

@@ -3,16 +3,18 @@
 use mathlib.Core.Path.{_≡_}
 use mathlib.Core.Bool.{Bool, not}
 use mathlib.Core.List.{List, map}
-use Prim.Native.Nat.{ℕ, _*_, _/_, _<_, _≤_}
+use Prim.Native.Nat.{ℕ, _+_, _*_, _/_, _<_, _≤_}
 use lib.Dec.{ltb}
 use lib.IntN.{ℤ, pos}
 use lib.ListN.{length, replicate}
 use Rattle.prelude.specs.Choice.{pick, indicator}
 use Rattle.prelude.specs.Lists.{Every}
-use Rattle.network.specs.Limits.{mostVertices, mostArcs, mostPotential}
+use Rattle.network.specs.Limits.{mostVertices, mostArcs, mostWeight, mostPotential}
 use Rattle.network.specs.Network.{Arc, delta}
 use Rattle.network.specs.Question.{Setting, pumps, WeightWithin}
 use Rattle.engine.specs.Residual.{entry, unreached}
+use Rattle.solver.specs.declared.vertices.NumberKind.{NumberKind}
+use Rattle.solver.specs.declared.vertices.NumberKind.the-variants.{Mark, Distance, Potential}
 
 -- What reading lets through: a network within the limits, whose arcs join vertices below n.
 pub record Fits (n : ℕ) (es : List Arc) : Type 0 where
@@ -50,6 +52,14 @@ pub record VertexList (n : ℕ) (f : ℕ → ℕ) (l : List ℕ) : Type 0 where
 abbrev pub single : ℕ → ℕ → ℕ → ℕ
 single k a v = a * delta k v
 
+-- More units than all arcs together can carry: what stands at the source of a flow, and is wanted at its sink.
+abbrev pub plenty : ℕ
+plenty = 1 + mostArcs * mostWeight
+
+-- The capacity of an arc of an assignment: no more than 1 ever comes, so that the arc is never full.
+abbrev pub pairRoom : ℕ
+pairRoom = 2
+
 -- 1 at every pump, 0 elsewhere.
 abbrev pub atPumps : Setting → ℕ → ℕ
 atPumps st v = indicator (ltb v (pumps st))
@@ -62,21 +72,26 @@ atSites st v = indicator (not (ltb v (pumps st)))
 abbrev pub Falls : List ℕ → List ℕ → Type 0
 Falls l l' = (v : ℕ) → entry l' v ≤ entry l v
 
--- Did the search reach the vertex v?
-abbrev pub reached : List ℕ → ℕ → Bool
-reached key v = ltb (entry key v) unreached
+-- Does the key say that the search reached its vertex?
+abbrev pub reached : ℕ → Bool
+reached k = ltb k unreached
 
--- The least length of a walk to v that a key holds, and as high as a potential goes where none leads there.
+-- The node number written for a vertex, read from k. From its key: a mark, 1 where the search came; or the least length of a walk to it, and as high as a potential goes where none leads there.
+-- Or its potential, as it stands.
+abbrev pub numberOf : NumberKind → ℕ → ℕ
+numberOf Mark k = indicator (reached k)
+numberOf Distance k = pick (reached k) (k / 256) mostPotential
+numberOf Potential k = k
+
+-- The distances by vertex; as the node numbers of a path; and the marks.
 abbrev pub distanceOf : List ℕ → ℕ → ℕ
-distanceOf key v = pick (reached key v) (entry key v / 256) mostPotential
+distanceOf key v = numberOf Distance (entry key v)
 
--- The node numbers of a path: the distances.
 abbrev pub potentialOf : List ℕ → ℕ → ℤ
 potentialOf key v = pos (distanceOf key v)
 
--- The node numbers that mark what a search reached: 1 there, else 0.
 abbrev pub markOf : List ℕ → ℕ → ℤ
-markOf key v = pos (indicator (reached key v))
+markOf key v = pos (numberOf Mark (entry key v))
 
 -- The setting with another sink.
 abbrev pub toward : Setting → ℕ → Setting

@@ -14,6 +14,8 @@ use super::vertices::write;
 use checks::HeldSetting;
 use engine::Sent;
 use engine::clearing::clear_amounts;
+use network::MOST_ARCS;
+use network::MOST_VERTICES;
 
 // Asks the engine the question of the setting: supplies, demands, packed records.
 fn run(
@@ -30,8 +32,8 @@ fn run(
 {
     let n = key.len();
     let m = records.len();
-    let mut arcs = [0u64; 4096];
-    let mut left = [0u32; 255];
+    let mut arcs = [0u64; MOST_ARCS as usize];
+    let mut left = [0u32; MOST_VERTICES as usize];
     pack(st, records, &mut arcs[..m]);
     stand(st, false, &mut left[..n]);
     stand(st, true, need);
@@ -69,9 +71,9 @@ pub(crate) fn certify_flow(
     ensures { λ r. ⌜ Solution (asked st) (wordArcs (now (records .entry))) (now (numbers .exit)) (now (amounts .exit)) (findingNumber r) ⌝ }
 {
     let n = numbers.len();
-    let mut pi = [0u32; 255];
-    let mut need = [0u32; 255];
-    let mut key = [0u32; 255];
+    let mut pi = [0u32; MOST_VERTICES as usize];
+    let mut need = [0u32; MOST_VERTICES as usize];
+    let mut key = [0u32; MOST_VERTICES as usize];
     answer_flow(
         st,
         records,
@@ -119,9 +121,9 @@ pub(crate) fn certify_assignment(
     ensures { λ r. ⌜ Solution (asked st) (wordArcs (now (records .entry))) (now (numbers .exit)) (now (amounts .exit)) (findingNumber r) ⌝ }
 {
     let n = numbers.len();
-    let mut pi = [0u32; 255];
-    let mut need = [0u32; 255];
-    let mut key = [0u32; 255];
+    let mut pi = [0u32; MOST_VERTICES as usize];
+    let mut need = [0u32; MOST_VERTICES as usize];
+    let mut key = [0u32; MOST_VERTICES as usize];
     answer_assignment(
         st,
         records,
@@ -149,7 +151,7 @@ fn answer_path(
 {
     let t = st.t as usize;
     let m = records.len();
-    let mut arcs = [0u64; 4096];
+    let mut arcs = [0u64; MOST_ARCS as usize];
     pack(st, records, &mut arcs[..m]);
     stand(st, false, left);
     let sent = engine::send(&arcs[..m], t, 1, amounts, left, key);
@@ -177,7 +179,7 @@ pub(crate) fn certify_path(
     ensures { λ r. ⌜ Solution (asked st) (wordArcs (now (records .entry))) (now (numbers .exit)) (now (amounts .exit)) (findingNumber r) ⌝ }
 {
     let n = numbers.len();
-    let mut left = [0u32; 255];
-    let mut key = [0u32; 255];
+    let mut left = [0u32; MOST_VERTICES as usize];
+    let mut key = [0u32; MOST_VERTICES as usize];
     answer_path(st, records, &mut left[..n], &mut key[..n], numbers, amounts)
 }

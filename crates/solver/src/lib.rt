@@ -33,7 +33,12 @@ pub fn claim_number(finding: Finding) -> u8
 }
 
 // A certificate for the network of the records: what is claimed, with node numbers and amounts. Where the input is not admissible nothing is changed.
-pub fn certify(st: HeldSetting, records: &[u32], numbers: &mut [i32], amounts: &mut [u16]) -> Finding
+pub fn certify(
+    st: HeldSetting,
+    records: &[u32],
+    numbers: &mut [i32],
+    amounts: &mut [u16],
+) -> Finding
     ensures { λ r. ⌜ CertifyOutcome (asked st) (now (records .entry)) (now (numbers .entry)) (now (amounts .entry)) (now (numbers .exit)) (now (amounts .exit)) (findingNumber r) ⌝ }
 {
     let question = question_of(st.question as u32);

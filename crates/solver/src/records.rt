@@ -18,6 +18,9 @@ use network::MOST_ARCS;
 use network::Record;
 use network::arc_in;
 
+// The capacity of an arc of an assignment: it is never full.
+const PAIR_ROOM: u32 = 2;
+
 // The capacity of an arc as the engine is told it.
 fn capacity_of(question: Question, arc: Record) -> u32
     ensures { λ r. ⌜ r ≡ capacityFor (questionHeld question) (arcHeld arc) ⌝ }
@@ -25,7 +28,7 @@ fn capacity_of(question: Question, arc: Record) -> u32
     match question {
         Question::Path => 1,
         Question::Flow => arc.weight,
-        Question::Assignment => 2,
+        Question::Assignment => PAIR_ROOM,
         Question::Unasked => 0,
     }
 }
@@ -77,7 +80,12 @@ fn records_ok(st: HeldSetting, records: &[u32]) -> bool
 }
 
 // Is this what the solver answers?
-pub(crate) fn is_admissible(st: HeldSetting, records: &[u32], numbers: usize, amounts: usize) -> bool
+pub(crate) fn is_admissible(
+    st: HeldSetting,
+    records: &[u32],
+    numbers: usize,
+    amounts: usize,
+) -> bool
     ensures { λ r. ⌜ r ≡ admissible (asked st) (now (records .entry)) numbers amounts ⌝ }
 {
     let n = st.n;

@@ -1,20 +1,23 @@
 // Lists by vertex: what stands at each when the engine is asked, and the numbers written from what it found.
-ghost use mathlib.Core.Bool.{not, true, false};
+ghost use mathlib.Core.Bool.{true, false};
 ghost use mathlib.Core.Path.{_≡_};
-ghost use Prim.Native.Nat.{ℕ, _/_, _<_, _≤_};
-ghost use lib.Dec.{ltb};
+ghost use Prim.Native.Nat.{ℕ, _<_, _≤_};
 ghost use lib.ListN.{length};
-ghost use Rattle.prelude.specs.Choice.{pick, indicator};
+ghost use Rattle.prelude.specs.Choice.{pick};
+ghost use Rattle.network.specs.Limits.{mostVertices, mostPotential};
 ghost use Rattle.checks.specs.Held.{asked};
-ghost use Rattle.solver.specs.Certify.{endFor, standing, numberOf, NodeNumbers, Wanting};
+ghost use Rattle.solver.specs.Certify.{endFor, standing, NodeNumbers, Wanting};
 ghost use Rattle.engine.specs.Residual.{entry};
-ghost use Rattle.solver.specs.Instance.{VertexList, single as singleAt, atPumps, atSites};
+ghost use Rattle.solver.specs.Instance.{VertexList, single as singleAt, atPumps, atSites, reached, numberOf};
 use checks::HeldSetting;
 use checks::reading::pumps;
 use checks::rows::Question;
 use checks::rows::question_of;
 use engine::UNREACHED;
 use network::MOST_POTENTIAL;
+
+// More units than all arcs together can carry.
+const PLENTY: u32 = 134213633;
 
 // amount at the vertex k, 0 elsewhere.
 fn single(k: u8, amount: u32, v: u8) -> u32
@@ -59,14 +62,14 @@ fn standing_at(st: HeldSetting, wanted: bool, v: u8) -> u32
     let end = end_of(st, wanted);
     match question {
         Question::Path => single(end, 1, v),
-        Question::Flow => single(end, 134213633, v),
+        Question::Flow => single(end, PLENTY, v),
         Question::Assignment => on_side(st, wanted, v),
         Question::Unasked => 0,
     }
 }
 
 pub(crate) fn stand(st: HeldSetting, wanted: bool, list: &mut [u32])
-    requires { ⌜ length (now list) ≤ 255 ⌝ }
+    requires { ⌜ length (now list) ≤ mostVertices ⌝ }
     ensures { λ _. ⌜ VertexList (length (now (list .entry))) (standing (asked st) wanted) (now (list .exit)) ⌝ }
 {
     let mut v = 0;
@@ -83,10 +86,17 @@ pub(crate) enum NumberKind {
     Potential,
 }
 
+// Did the search reach the vertex of the key?
+fn is_reached(key: u32) -> bool
+    ensures { λ r. ⌜ r ≡ reached key ⌝ }
+{
+    key < UNREACHED
+}
+
 fn mark_of(key: u32) -> u32
     ensures { λ r. ⌜ r ≡ numberOf NumberKind.Mark key ⌝ }
 {
-    if key < UNREACHED {
+    if is_reached(key) {
         return 1;
     }
     0
@@ -95,7 +105,7 @@ fn mark_of(key: u32) -> u32
 fn distance_of(key: u32) -> u32
     ensures { λ r. ⌜ r ≡ numberOf NumberKind.Distance key ⌝ }
 {
-    if key < UNREACHED {
+    if is_reached(key) {
         return key / 256;
     }
     MOST_POTENTIAL as u32
@@ -114,7 +124,7 @@ fn number_of(kind: NumberKind, k: u32) -> u32
 
 // Writes the number of every vertex.
 pub(crate) fn write(kind: NumberKind, from: &[u32], numbers: &mut [i32])
-    requires { ⌜ (length (now numbers) ≡ length (now from)) × ((v : ℕ) → v < length (now from) → numberOf kind (entry (now from) v) ≤ 8388607) ⌝ }
+    requires { ⌜ (length (now numbers) ≡ length (now from)) × ((v : ℕ) → v < length (now from) → numberOf kind (entry (now from) v) ≤ mostPotential) ⌝ }
     ensures { λ _. ⌜ NodeNumbers kind (now (from .entry)) (now (numbers .exit)) ⌝ }
 {
     let mut v = 0;

@@ -1,7 +1,6 @@
 // The solver for callers in C: each slice is a pointer and a count. The pointer of an empty slice is not null either.
-ghost use Rattle.network.specs.Tests.{settingOf};
 ghost use Rattle.solver.specs.Certify.{CertifyOutcome};
-use checks::Setting;
+use checks::HeldSetting;
 
 #[no_mangle]
 pub extern "C" fn solver_certify(
@@ -13,8 +12,8 @@ pub extern "C" fn solver_certify(
     numbers: &mut [i32],
     amounts: &mut [u16],
 ) -> u8
-    ensures { λ r. ⌜ CertifyOutcome question (settingOf question n s t) (now (records .entry)) (now (numbers .entry)) (now (amounts .entry)) (now (numbers .exit)) (now (amounts .exit)) r ⌝ }
+    ensures { λ r. ⌜ CertifyOutcome (record { question = question; n = n; s = s; t = t }) (now (records .entry)) (now (numbers .entry)) (now (amounts .entry)) (now (numbers .exit)) (now (amounts .exit)) r ⌝ }
 {
-    let st = Setting { question, n, s, t };
+    let st = HeldSetting { question, n, s, t };
     solver::claim_number(solver::certify(st, records, numbers, amounts))
 }

@@ -7,6 +7,7 @@ use Prim.Native.Nat.{ℕ, _≤_}
 use borrow.Author.Needs.{needs}
 use lib.ListN.{length, take, drop}
 use denote.Ref.{now}
+use Rattle.network.specs.Limits.{mostArcs}
 use Rattle.network.specs.Question.{Setting, asks}
 use Rattle.checks.specs.Held.{asked}
 use Rattle.engine.specs.Residual.{entry, zeroList}
@@ -26,7 +27,7 @@ St c = asked (c .args .st)
 abbrev R : tie.Start → List ℕ
 R c = now (c .args .records)
 
-few : (c : tie.Start) → length (R c) ≤ 4096
+few : (c : tie.Start) → length (R c) ≤ mostArcs
 few c = few-records (R c) (c .pre .0 .0)
 
 -- after `pack`
@@ -50,7 +51,7 @@ abbrev at-start : tie.After-send → tie.Start
 at-start c = first (at-pack c)
 
 abbrev A : tie.After-send → List ℕ
-A c = take (length (R (at-start c))) (P (at-pack c) ++ drop (length (R (at-start c))) (zeroList 4096))
+A c = take (length (R (at-start c))) (P (at-pack c) ++ drop (length (R (at-start c))) (zeroList mostArcs))
 
 abbrev L : tie.After-send → List ℕ
 L c = at-stand c .stand .last .1 .1 .0
@@ -59,7 +60,7 @@ inputs : (c : tie.After-send) → PathInputs (St (at-start c)) (R (at-start c)) 
 inputs c = let s = at-start c in record {
   accepted = s .pre .0 .0;
   path = s .pre .0 .1;
-  packs = lent-again (length (R s)) (zeroList 4096) (P (at-pack c)) (packed (at-pack c)) ∙ at-pack c .pack .ensures;
+  packs = lent-again (length (R s)) (zeroList mostArcs) (P (at-pack c)) (packed (at-pack c)) ∙ at-pack c .pack .ensures;
   amounts = s .pre .1 .0 .0;
   stands = subst (λ (n : ℕ). VertexList n (standing (St s) false) (L c)) (s .pre .1 .1 .0) (at-stand c .stand .ensures);
   key-len = s .pre .1 .1 .1;
@@ -82,16 +83,16 @@ array-borrow-prefix-arcs : tie.Need-array-borrow-prefix-arcs
 array-borrow-prefix-arcs c = few (c .before .before .before .before .before)
 
 slice-aggregate-pack : tie.Need-slice-aggregate-pack
-slice-aggregate-pack c = let s = c .before .before .before .before .before .before in sym (zero-list-length (length (R s)) 4096 (few s))
+slice-aggregate-pack c = let s = c .before .before .before .before .before .before in sym (zero-list-length (length (R s)) mostArcs (few s))
 
 pack-requires : tie.Need-pack-requires
-pack-requires c κs = let s = c .before .before .before .before .before .before in zero-list-length (length (R s)) 4096 (few s)
+pack-requires c κs = let s = c .before .before .before .before .before .before in zero-list-length (length (R s)) mostArcs (few s)
 
 array-share-prefix-arcs : tie.Need-array-share-prefix-arcs
-array-share-prefix-arcs c = let p = c .before .before .before .before .before in back-within (length (R (first p))) (zeroList 4096) (P p) (packed p)
+array-share-prefix-arcs c = let p = c .before .before .before .before .before in back-within (length (R (first p))) (zeroList mostArcs) (P p) (packed p)
 
 slice-aggregate-send : tie.Need-slice-aggregate-send
-slice-aggregate-send c = let p = c .before .before .before .before .before .before in back-length (length (R (first p))) (zeroList 4096) (P p) (packed p)
+slice-aggregate-send c = let p = c .before .before .before .before .before .before in back-length (length (R (first p))) (zeroList mostArcs) (P p) (packed p)
 
 write-requires : tie.Need-write-requires
 write-requires c κs =

@@ -1,7 +1,7 @@
 -- `solver::records::packed_arc` meets its contract: the parts are those of the word, and below what they are packed in.
 -- Assumes nothing.
 use mathlib.Core.Path.{_≡_, ap, _∙_}
-use Prim.Native.Nat.{ℕ, _<_}
+use Prim.Native.Nat.{_<_}
 use native.Mathlib.Omega.{arith}
 use borrow.Author.Needs.{needs}
 use Rattle.network.specs.Network.{Arc, wordArc}

@@ -3,7 +3,7 @@
 use mathlib.Core.Path.{sym, ap, _∙_}
 use borrow.Author.Needs.{needs}
 use Rattle.solver.specs.declared.vertices.NumberKind.{NumberKind}
-use Rattle.solver.specs.Certify.{numberOf}
+use Rattle.solver.specs.Instance.{numberOf}
 use Rattle.solver.proofs.vertices.number_of.Statement.{statement}
 use Rattle.solver.proofs.vertices.number_of.Tie as tie
 

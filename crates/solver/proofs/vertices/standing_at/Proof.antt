@@ -4,7 +4,7 @@ use mathlib.Core.Path.{sym, ap, _∙_}
 use Prim.Native.Nat.{ℕ}
 use borrow.Author.Needs.{needs}
 use Rattle.checks.specs.Held.{questionHeld}
-use Rattle.solver.specs.Instance.{single}
+use Rattle.solver.specs.Instance.{single, plenty}
 use Rattle.solver.proofs.vertices.standing_at.Statement.{statement}
 use Rattle.solver.proofs.vertices.standing_at.Tie as tie
 
@@ -15,7 +15,7 @@ returns c =
 
 returns-2 : tie.Need-returns-2
 returns-2 c =
-    let end = ap (λ (e : ℕ). single e 134213633 (c .before .before .before .before .before .before .args .v)) (c .before .before .before .end-of .ensures) in
+    let end = ap (λ (e : ℕ). single e plenty (c .before .before .before .before .before .before .args .v)) (c .before .before .before .end-of .ensures) in
     rw (sym (c .before .before .before .before .question-of .ensures) ∙ ap questionHeld (c .before .enum-told2 .given .1)) (c .single2 .ensures ∙ end)
 
 returns-3 : tie.Need-returns-3

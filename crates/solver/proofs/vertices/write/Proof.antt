@@ -10,7 +10,8 @@ use mir.Val.{toZ, hbits}
 use mir.Facts.{toZ-pos}
 use borrow.Author.Needs.{needs, sfits-of}
 use Rattle.prelude.proofs.Filling.{Filling, fill-start, fill-turn, fill-end}
-use Rattle.solver.specs.Certify.{numberOf}
+use Rattle.network.specs.Limits.{mostPotential}
+use Rattle.solver.specs.Instance.{numberOf}
 use Rattle.engine.specs.Residual.{entry}
 use Rattle.solver.proofs.vertices.write.Statement.{statement}
 use Rattle.solver.proofs.vertices.write.Tie as tie
@@ -22,7 +23,7 @@ abbrev μ-loop : tie.MeasureT-loop
 μ-loop kind from numbers₀ v₀ numbers v = length from - v
 
 -- a number that is written fits
-small : (r k : ℕ) → r ≡ k → k ≤ 8388607 → r < 2 ^ hbits w32
+small : (r k : ℕ) → r ≡ k → k ≤ mostPotential → r < 2 ^ hbits w32
 small r k e h = omega arith
 
 cast-numbers : tie.Need-cast-numbers Inv-loop μ-loop
