@@ -171,9 +171,17 @@ pub fn rule_ok(row: Row, ends: Ends, arc: Record, x: u32) -> bool
     ensures { λ r. ⌜ r ≡ rulesHeld row .onArc (endsHeld ends) (loadHeld arc x) ⌝ }
 {
     match row {
-        Row::PathValue => words::signed::at_most_sum(ends.head_number, ends.tail_number, arc.weight),
+        Row::PathValue => words::signed::at_most_sum(
+            ends.head_number,
+            ends.tail_number,
+            arc.weight,
+        ),
         Row::FlowValue => true,
-        Row::AssignmentValue => words::signed::at_most_sum(ends.head_number, ends.tail_number, arc.weight),
+        Row::AssignmentValue => words::signed::at_most_sum(
+            ends.head_number,
+            ends.tail_number,
+            arc.weight,
+        ),
         Row::PathNone => stays_inside(ends, arc, x),
         Row::AssignmentNone => stays_inside(ends, arc, x),
         Row::Nothing => false,

@@ -40,7 +40,9 @@ pub fn with_arc(point: Point, print: Print, arc: Record) -> Print
     ensures { λ r. ⌜ r ≡ extendPrint point print (arcHeld arc) ⌝ }
 {
     let key = key_of(arc);
-    Print { residue: field::extend(point.r, print.residue, key) }
+    Print {
+        residue: field::extend(point.r, print.residue, key),
+    }
 }
 
 // 14: do the two fingerprints agree?

@@ -207,7 +207,13 @@ impl State {
     {
         let reading = self.reading;
         let numbering = self.numbering;
-        let why = number_check(self.phase, reading.setting, numbering.claim, numbering.given, y);
+        let why = number_check(
+            self.phase,
+            reading.setting,
+            numbering.claim,
+            numbering.given,
+            y,
+        );
         if why != 0 {
             return Turn {
                 state: self,
@@ -335,7 +341,15 @@ impl State {
         }
         let row = row_of(st.question, numbering.claim);
         let marks = numbering.marks;
-        totals_check(row, st, potentials, marks, balances, repeating.cost, repeating.cut)
+        totals_check(
+            row,
+            st,
+            potentials,
+            marks,
+            balances,
+            repeating.cost,
+            repeating.cut,
+        )
     }
 
     // The answer where finishing is not refused.

@@ -20,7 +20,7 @@ answer-of-requires : tie.Need-answer-of-requires
 answer-of-requires c κs = search needs
 
 returns : tie.Need-returns
-returns c = 
+returns c =
     let s = c .before .before .before .before .before .before .before .args in
     let g = s .self .repeating in
     (rw (c .before .before .before .row-of .ensures) at (c .answer-of .ensures))

@@ -31,7 +31,7 @@ lists-check-requires : tie.Need-lists-check-requires
 lists-check-requires c κs = search needs
 
 returns-3 : tie.Need-returns-3
-returns-3 c = 
+returns-3 c =
     let s = c .before .before .before .before .before .before .before .before .before .before .before .args in let x = s .self in let u = sumsHeld (s .balances) (x .repeating .cost) (x .repeating .cut) in
     let h1 = eq-eqb (x .phase) 3 (c .before .before .before .before .before .if1 .left) in
     let h2 = eq-eqb (x .numbering .given) (x .reading .setting .n) (c .before .before .if2 .left) in
@@ -45,7 +45,7 @@ totals-check-requires : tie.Need-totals-check-requires
 totals-check-requires c κs = search needs
 
 returns-4 : tie.Need-returns-4
-returns-4 c = 
+returns-4 c =
     let s = c .before .before .before .before .before .before .before .before .before .before .before .before .before .before .before .before .args in let x = s .self in let u = sumsHeld (s .balances) (x .repeating .cost) (x .repeating .cut) in
     let h1 = eq-eqb (x .phase) 3 (c .before .before .before .before .before .before .before .before .before .before .if1 .left) in
     let h2 = eq-eqb (x .numbering .given) (x .reading .setting .n) (c .before .before .before .before .before .before .before .if2 .left) in

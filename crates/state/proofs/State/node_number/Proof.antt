@@ -18,13 +18,13 @@ number-check-requires c κs = search needs
 
 returns : tie.Need-returns
 unfolding numberTurn
-returns c = 
+returns c =
     let s = c .before .before .before .before in
     let found = simp (toZ-ofZ (s .fits .y)) at (c .before .number-check .ensures) in
     turn-refused (s .args .self) (withNumber (s .args .self) (s .args .y)) (numberChecks (s .args .self) (s .args .y)) (refl, (refl, (refl, tt))) (c .before .number-check .result) found (c .if1 .taken)
 
 with-number-requires : tie.Need-with-number-requires
-with-number-requires c κs = 
+with-number-requires c κs =
     let s = c .before .before .before .before in
     let found = simp (toZ-ofZ (s .fits .y)) at (c .before .number-check .ensures) in
     let h = turn-holds (s .args .self) (withNumber (s .args .self) (s .args .y)) (numberChecks (s .args .self) (s .args .y)) (refl, (refl, (refl, tt))) (c .before .number-check .result) found (c .if1 .left) in
@@ -32,7 +32,7 @@ with-number-requires c κs =
 
 returns-2 : tie.Need-returns-2
 unfolding numberTurn
-returns-2 c = 
+returns-2 c =
     let s = c .before .before .before .before .before in
     let x = s .args .self in
     let found = simp (toZ-ofZ (s .fits .y)) at (c .before .before .number-check .ensures) in

@@ -19,7 +19,7 @@ idle-requires c κs = search needs
 
 returns : tie.Need-returns
 unfolding openTurn
-returns c = 
+returns c =
     let s = c .before .before .before .args in
     let check = c .before .before .open-check in
     ap (λ (x : State). stays x (check .result)) (c .idle .ensures)
@@ -42,7 +42,7 @@ begun-requires c κs = search needs
 
 returns-2 : tie.Need-returns-2
 unfolding openTurn
-returns-2 c = 
+returns-2 c =
     let s = c .before .before .before .before .before .before .before .args in
     let check = c .before .before .before .before .before .before .open-check in
     turn-accepted idle (opened (handed (s .o)) (s .point)) (openChecks (handed (s .o)) (s .point)) (refl, (refl, (refl, (refl, tt)))) (check .result) (check .ensures) (c .before .before .before .before .before .if1 .left)

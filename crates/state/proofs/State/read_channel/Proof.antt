@@ -16,19 +16,19 @@ read-check-requires c κs = search needs
 
 returns : tie.Need-returns
 unfolding readTurn
-returns c = 
+returns c =
     let s = c .before .before .before .before .args in
     turn-refused (s .self) (withRead (s .self) (arcHeld (s .arc))) (readChecks (s .self) (arcHeld (s .arc))) (refl, (refl, (refl, (refl, tt)))) (c .before .read-check .result) (c .before .read-check .ensures) (c .if1 .taken)
 
 with-arc-requires : tie.Need-with-arc-requires
-with-arc-requires c κs = 
+with-arc-requires c κs =
     let s = c .before .before .before .before .args in
     let h = turn-holds (s .self) (withRead (s .self) (arcHeld (s .arc))) (readChecks (s .self) (arcHeld (s .arc))) (refl, (refl, (refl, (refl, tt)))) (c .before .read-check .result) (c .before .read-check .ensures) (c .if1 .left) in
     ltb→lt (s .self .reading .list .count) 4096 (h .1 .0)
 
 returns-2 : tie.Need-returns-2
 unfolding readTurn
-returns-2 c = 
+returns-2 c =
     let s = c .before .before .before .before .before .args in
     turn-accepted (s .self) (withRead (s .self) (arcHeld (s .arc))) (readChecks (s .self) (arcHeld (s .arc))) (refl, (refl, (refl, (refl, tt)))) (c .before .before .read-check .result) (c .before .before .read-check .ensures) (c .before .if1 .left) _
     (read-done (s .self) (arcHeld (s .arc)) (c .with-arc .result) (c .with-arc .ensures))

@@ -16,12 +16,12 @@ repeat-check-requires c κs = search needs
 
 returns : tie.Need-returns
 unfolding repeatTurn
-returns c = 
+returns c =
     let s = c .before .before .args in
     turn-refused (s .self) (withRepeat (s .self) (loadHeld (s .arc) (s .x))) (repeatChecks (s .self) (at (s .potentials .now)) (loadHeld (s .arc) (s .x))) (refl, (refl, (refl, (refl, (refl, (refl, (refl, tt))))))) (c .before .repeat-check .result) (c .before .repeat-check .ensures) (c .if1 .taken)
 
 with-repeat-requires : tie.Need-with-repeat-requires
-with-repeat-requires c κs = 
+with-repeat-requires c κs =
     let s = c .before .before .args in
     let h = turn-holds (s .self) (withRepeat (s .self) (loadHeld (s .arc) (s .x))) (repeatChecks (s .self) (at (s .potentials .now)) (loadHeld (s .arc) (s .x))) (refl, (refl, (refl, (refl, (refl, (refl, (refl, tt))))))) (c .before .repeat-check .result) (c .before .repeat-check .ensures) (c .if1 .left) in
     let l = load-limits (s .self) (at (s .potentials .now)) (s .arc) (s .x) h in
@@ -29,7 +29,7 @@ with-repeat-requires c κs =
 
 returns-2 : tie.Need-returns-2
 unfolding repeatTurn
-returns-2 c = 
+returns-2 c =
     let s = c .before .before .before .args in
     turn-accepted (s .self) (withRepeat (s .self) (loadHeld (s .arc) (s .x))) (repeatChecks (s .self) (at (s .potentials .now)) (loadHeld (s .arc) (s .x))) (refl, (refl, (refl, (refl, (refl, (refl, (refl, tt))))))) (c .before .before .repeat-check .result) (c .before .before .repeat-check .ensures) (c .before .if1 .left) _ (c .with-repeat .ensures)
 

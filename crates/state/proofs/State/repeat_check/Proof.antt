@@ -31,8 +31,8 @@ arc-check-requires : tie.Need-arc-check-requires
 arc-check-requires c κs = search needs
 
 returns-4 : tie.Need-returns-4
-returns-4 c = 
-    let s = c .before .before .before .before .before .before .before .before .before .before .before .before .before .before .args in let x = s .self in 
+returns-4 c =
+    let s = c .before .before .before .before .before .before .before .before .before .before .before .before .before .before .args in let x = s .self in
     let h1 = eq-eqb (x .phase) 3 (c .before .before .before .before .before .before .before .before .if1 .left) in
     let h2 = eq-eqb (x .numbering .given) (x .reading .setting .n) (c .before .before .before .before .before .if2 .left) in
     let h3 = lt-ltb (x .repeating .list .count) (x .reading .list .count) (c .before .before .if3 .left) in
@@ -49,8 +49,8 @@ load-check-requires : tie.Need-load-check-requires
 load-check-requires c κs = search needs
 
 returns-5 : tie.Need-returns-5
-returns-5 c = 
-    let s = c .before .before .before .before .before .before .before .before .before .before .before .before .before .before .before .before .before .before .args in let x = s .self in 
+returns-5 c =
+    let s = c .before .before .before .before .before .before .before .before .before .before .before .before .before .before .before .before .before .before .args in let x = s .self in
     let h1 = eq-eqb (x .phase) 3 (c .before .before .before .before .before .before .before .before .before .before .before .before .if1 .left) in
     let h2 = eq-eqb (x .numbering .given) (x .reading .setting .n) (c .before .before .before .before .before .before .before .before .before .if2 .left) in
     let h3 = lt-ltb (x .repeating .list .count) (x .reading .list .count) (c .before .before .before .before .before .before .if3 .left) in

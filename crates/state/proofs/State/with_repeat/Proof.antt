@@ -38,7 +38,7 @@ unit-cost-requires : tie.Need-unit-cost-requires
 unit-cost-requires c κs = search needs
 
 cost-after-requires : tie.Need-cost-after-requires
-cost-after-requires c κs = 
+cost-after-requires c κs =
     let s = c .before .before .before .before .before .before .before .before .before .before .before .before in
     (rw (c .before .unit-cost .ensures, c .before .before .before .before .before .before .before .question-of .ensures) (cost-small (asks (settingHeld (s .args .self))) (arcHeld (s .args .arc)) (s .pre .1 .0)), s .pre .1 .1)
 
@@ -49,7 +49,7 @@ cut-after-requires : tie.Need-cut-after-requires
 cut-after-requires c κs = search needs
 
 returns : tie.Need-returns
-returns c = 
+returns c =
     let s = c .before .before .before .before .before .before .before .before .before .before .before .before .before .before .before .before in
     let x = s .args .self in
     let q = c .before .before .before .before .before .before .before .before .before .before .before .question-of .ensures in
