@@ -45,14 +45,14 @@ all-five : {a b c d e : Bool} → a ≡ true → b ≡ true → c ≡ true → d
 all-five p q r s t = λ i. p i && q i && r i && s i && t i
 
 -- what the solver found for a file: as many numbers and amounts as the file says, and a certificate
-pub record Found (net : List ℕ) (ys : List ℤ) (xs : List ℕ) (claim : ℕ) : Type 0 where
+pub record FoundSolution (net : List ℕ) (ys : List ℤ) (xs : List ℕ) (claim : ℕ) : Type 0 where
   pub numbers-many : length ys ≡ nIn net
   pub amounts-many : length xs ≡ countIn net
   pub solution : Solution (settingIn net) (arcsIn net) ys xs claim
 
 -- what came back of something admissible
 came-back : (net : List ℕ) (st : Setting) (rs : List ℕ) (ys ys' : List ℤ) (xs xs' : List ℕ) (claim : ℕ) → st ≡ settingIn net → wordArcs rs ≡ arcsIn net
-    → length ys ≡ nIn net → length xs ≡ countIn net → admissible st rs (length ys) (length xs) ≡ true → CertifyOutcome st rs ys xs ys' xs' claim → Found net ys' xs' claim
+    → length ys ≡ nIn net → length xs ≡ countIn net → admissible st rs (length ys) (length xs) ≡ true → CertifyOutcome st rs ys xs ys' xs' claim → FoundSolution net ys' xs' claim
 came-back net st rs ys ys' xs xs' claim filed e p q ok (refused n a b k) = absurd (false≢true (sym n ∙ ok))
 came-back net st rs ys ys' xs xs' claim filed e p q ok (solved o a b s) =
     record { numbers-many = a ∙ p; amounts-many = b ∙ q; solution = subst (λ (k : Setting). Solution k (arcsIn net) ys' xs' claim) filed (subst (λ (l : List Arc). Solution st l ys' xs' claim) e s) }
@@ -78,7 +78,7 @@ module _ (net : List ℕ) (h : AcceptedFile net) where
         (records-ok (settingIn net) rs (subst (Every (Allowed (settingIn net))) (sym e) (file-allowed net h)))
 
     pub found : (st : Setting) (ys ys' : List ℤ) (xs xs' : List ℕ) (claim : ℕ) → st ≡ settingIn net → length ys ≡ nIn net → length xs ≡ countIn net
-        → CertifyOutcome st rs ys xs ys' xs' claim → Found net ys' xs' claim
+        → CertifyOutcome st rs ys xs ys' xs' claim → FoundSolution net ys' xs' claim
     found st ys ys' xs xs' claim filed p q =
         came-back net st rs ys ys' xs xs' claim filed e p q
         (subst (λ (k : Setting). admissible k rs (length ys) (length xs) ≡ true) (sym filed) (gathered-admissible (length ys) (length xs) p q))
@@ -92,7 +92,7 @@ gathered-again net rs m k h c e =
 
 -- ---- what stands in the buffer
 
-module _ (net before : List ℕ) (ys : List ℤ) (xs : List ℕ) (claim : ℕ) (f : Found net ys xs claim) where
+module _ (net before : List ℕ) (ys : List ℤ) (xs : List ℕ) (claim : ℕ) (f : FoundSolution net ys xs claim) where
   abbrev loads : List Load
   loads = loadsOf (arcsIn net) xs
 

@@ -1,11 +1,11 @@
 // One network: the helper annotates it, its annotation is judged, shuffled and twisted, and the answers are compared.
 use super::annotations::exchange;
 use super::annotations::record_at;
-use super::points::Shape;
-use super::points::any_point;
-use super::points::judged;
-use super::points::key;
-use super::points::point;
+use super::places::Shape;
+use super::places::any_point;
+use super::places::judged;
+use super::places::key;
+use super::places::point;
 use super::tally;
 use super::tally::count;
 use super::twists::LEFT_OUT;

@@ -3,7 +3,7 @@ use super::annotations::move_amount;
 use super::annotations::move_arc;
 use super::annotations::number_at;
 use super::annotations::record_at;
-use super::points::Shape;
+use super::places::Shape;
 use format::bytes::byte;
 use format::bytes::number16;
 use format::bytes::number32;

@@ -29,7 +29,7 @@ use Rattle.state.specs.Arrays.{takenAt, moved}
 use Rattle.runs.proofs.VertexArrays.{length-listTo, at-listTo, listTo-is, changed}
 
 -- a load between vertices that there are, and with numbers no larger than the greatest weight
-pub record WithinLimits (q : Question) (l : Load) : Type 0 where
+pub record LoadWithin (q : Question) (l : Load) : Type 0 where
   pub tail-below : l .arc .tail < mostVertices
   pub head-below : l .arc .head < mostVertices
   pub amount-within : l .amount ≤ mostWeight
@@ -77,20 +77,20 @@ part-of : (w : ℕ) (b : Bool) → w * indicator b ≤ w
 part-of w true = omega arith
 part-of w false = omega arith
 
-module _ (q : Question) (f : List Load) (loads : Every (WithinLimits q) f) (few : length f ≤ mostArcs) where
+module _ (q : Question) (f : List Load) (loads : Every (LoadWithin q) f) (few : length f ≤ mostArcs) where
   -- no arc ends at a vertex past the end
   pub balances-at : at (listTo mostVertices (λ v. balance v f)) ≡ (λ v. balance v f)
   balances-at = at-listTo mostVertices (λ v. balance v f) past
     where
       past : (v : ℕ) → mostVertices ≤ v → balance v f ≡ pos 0
       past v h =
-          let out = sumOf-none (λ e. e .tail) v f (every-map (λ l (k : WithinLimits q l). let b = k .tail-below in omega arith) f loads) in
-          let in′ = sumOf-none (λ e. e .head) v f (every-map (λ l (k : WithinLimits q l). let b = k .head-below in omega arith) f loads) in
+          let out = sumOf-none (λ e. e .tail) v f (every-map (λ l (k : LoadWithin q l). let b = k .tail-below in omega arith) f loads) in
+          let in′ = sumOf-none (λ e. e .head) v f (every-map (λ l (k : LoadWithin q l). let b = k .head-below in omega arith) f loads) in
           omega (signed, balance-parts (leaving v f) (entering v f), parts-min (balance v f))
 
   at-an-end : (end : Arc → ℕ) (v : ℕ) → sumOf (λ e. delta (end e) v) f ≤ mostArcs * mostWeight
   at-an-end end v =
-      let most = sumOf-most (λ e. delta (end e) v) mostWeight f (every-map (λ l (k : WithinLimits q l). let b = k .amount-within in omega (arith, at-one-end (l .amount) (end (l .arc)) v)) f loads) in
+      let most = sumOf-most (λ e. delta (end e) v) mostWeight f (every-map (λ l (k : LoadWithin q l). let b = k .amount-within in omega (arith, at-one-end (l .amount) (end (l .arc)) v)) f loads) in
       omega arith
 
   balance-within : (v : ℕ) → (posPart (balance v f) ≤ mostArcs * mostWeight) × (negPart (balance v f) ≤ mostArcs * mostWeight)
@@ -99,7 +99,7 @@ module _ (q : Question) (f : List Load) (loads : Every (WithinLimits q) f) (few 
       let in′ = at-an-end (λ e. e .head) v in
       omega (arith, balance-parts (leaving v f) (entering v f), parts-min (balance v f))
 
-  module _ (l : Load) (h : WithinLimits q l) where
+  module _ (l : Load) (h : LoadWithin q l) where
     pub balances-more : moved (listTo mostVertices (λ v. balance v f)) (l .arc .tail) (l .arc .head) (l .amount) ≡ listTo mostVertices (λ v. balance v (f ++ l ∷ []))
     unfolding moved
     balances-more =
@@ -152,7 +152,7 @@ module _ (q : Question) (f : List Load) (loads : Every (WithinLimits q) f) (few 
 
     pub cost-more : boundedSum (pos (sumOf (unitCost q) f)) (pos (l .amount * unitCost q (l .arc))) ≡ pos (sumOf (unitCost q) (f ++ l ∷ []))
     cost-more =
-        let most = sumOf-most (unitCost q) (mostWeight * mostWeight) f (every-map (λ b (k : WithinLimits q b). mul-le-mul (k .amount-within) (k .cost-within)) f loads) in
+        let most = sumOf-most (unitCost q) (mostWeight * mostWeight) f (every-map (λ b (k : LoadWithin q b). mul-le-mul (k .amount-within) (k .cost-within)) f loads) in
         plus-pos (sumOf (unitCost q) f) (l .amount * unitCost q (l .arc)) (omega arith) (omega (arith, mul-le-mul (h .amount-within) (h .cost-within)))
         ∙ ap pos (sym (sumOf-snoc (unitCost q) f l))
 
@@ -160,7 +160,7 @@ module _ (q : Question) (f : List Load) (loads : Every (WithinLimits q) f) (few 
         ≡ pos (sumAcross (unitsMost q) m (arcs (f ++ l ∷ [])))
     cut-more m =
         let most = across-most (unitsMost q) m mostWeight (arcs f) (image-every (λ b. b .arc) (λ e. unitsMost q e * indicator (crosses m e) ≤ mostWeight) f
-        (every-map (λ b (k : WithinLimits q b). let w = k .units-within in omega (arith, part-of (unitsMost q (b .arc)) (crosses m (b .arc)))) f loads)) in
+        (every-map (λ b (k : LoadWithin q b). let w = k .units-within in omega (arith, part-of (unitsMost q (b .arc)) (crosses m (b .arc)))) f loads)) in
         plus-pos (sumAcross (unitsMost q) m (arcs f)) (unitsMost q (l .arc) * indicator (crosses m (l .arc))) (omega (arith, length-map f (λ b. b .arc)))
         (let w = h .units-within in omega (arith, part-of (unitsMost q (l .arc)) (crosses m (l .arc))))
         ∙ ap pos (sym (ap (sumAcross (unitsMost q) m) (arcs-snoc f l) ∙ across-snoc (unitsMost q) m (arcs f) (l .arc)))

@@ -36,7 +36,7 @@ use Rattle.runs.specs.Exchange.{numbersOf, sumsAt}
 use Rattle.runs.proofs.AcceptedLists.{AcceptedLists, closed, during, after, certifying, streamOf, sessionOf, afterRefusal, next, reply}
 use Rattle.runs.proofs.MarkWords.{marks-more, marks-same}
 use Rattle.runs.proofs.VertexArrays.{all-zero, at-list, list-more}
-use Rattle.runs.proofs.RepeatedSums.{WithinLimits, units-limited, balances-at, balances-more, cost-more, cut-more}
+use Rattle.runs.proofs.RepeatedSums.{LoadWithin, units-limited, balances-at, balances-more, cost-more, cut-more}
 use Rattle.runs.proofs.Invariant.{LoadPassed, AnnotationPassed, Invariant, none-yet, repeat-passed}
 
 -- the answer that says it
@@ -54,7 +54,7 @@ agreeAt r l m = samePrint (printOf r l) (printOf r m)
 stream-more : (r : Point) (l : List Arc) (e : Arc) → extendStream r (streamOf r l) e ≡ streamOf r (l ++ e ∷ [])
 stream-more r l e = λ i. record { count = sym (length-append l (e ∷ [])) i; print = print-more r l e i }
 
-within-limits : (st : Setting) → Opened st → (a : Numbers) (b : Load) → LoadPassed st a b → WithinLimits (asks st) b
+within-limits : (st : Setting) → Opened st → (a : Numbers) (b : Load) → LoadPassed st a b → LoadWithin (asks st) b
 within-limits st o a b h =
     let u = units-limited (asks st) (a .claim) (b .arc) (h .allowed .weight-within) in
     record {
@@ -132,7 +132,7 @@ module _ (st : Setting) (r : Point) where
       few : length f ≤ mostArcs
       few = omega (arith, g .repeated, g .list .few)
 
-      loads-within : Every (WithinLimits (asks st)) f
+      loads-within : Every (LoadWithin (asks st)) f
       loads-within = every-map (within-limits st o numbersHere) f (g .loads)
 
       -- ---- a node number
@@ -163,7 +163,7 @@ module _ (st : Setting) (r : Point) where
       abbrev loaded : Load → Session
       loaded b = joined (session here .potentials) (moved (session here .balances) (b .arc .tail) (b .arc .head) (b .amount)) (withRepeat (session here .state) b)
 
-      repeat-one : (b : Load) → WithinLimits (asks st) b → loaded b ≡ session (certifying l k ys (f ++ b ∷ []))
+      repeat-one : (b : Load) → LoadWithin (asks st) b → loaded b ≡ session (certifying l k ys (f ++ b ∷ []))
       repeat-one b h = λ i. joined (session here .potentials) (balances-more (asks st) f loads-within few b h i)
           (stateOf 3 (session here .state .reading) (session here .state .numbering)
           (record {

@@ -3,7 +3,7 @@ use super::runs::Run;
 use super::runs::none_yet;
 use super::runs::show;
 use super::runs::told;
-use super::steps::Numbers;
+use super::steps::Arguments;
 use super::steps::step;
 use super::steps::void;
 use format::bytes::byte;
@@ -23,8 +23,8 @@ struct Trial {
 }
 
 // The numbers of the word at a place.
-fn numbers(script: &[u8], at: usize) -> Numbers {
-    Numbers {
+fn numbers(script: &[u8], at: usize) -> Arguments {
+    Arguments {
         a: listed(script, at, 0),
         b: listed(script, at, 1),
         c: listed(script, at, 2),
@@ -34,7 +34,7 @@ fn numbers(script: &[u8], at: usize) -> Numbers {
 }
 
 // Does the step once.
-fn once(t: Trial, letter: u8, v: Numbers) -> Trial {
+fn once(t: Trial, letter: u8, v: Arguments) -> Trial {
     let r = step(t.session, letter, v);
     let answer = r.answer;
     let run = told(t.run, code(answer));

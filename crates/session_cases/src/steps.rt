@@ -7,7 +7,7 @@ use state::Answer;
 use testing::numbers::as_signed;
 
 // The numbers of a step, as many as it takes.
-pub struct Numbers {
+pub struct Arguments {
     pub a: u32,
     pub b: u32,
     pub c: u32,
@@ -41,7 +41,7 @@ fn extended(x: Session, point: u32, fingerprint: u32, key: u32) -> Reply {
 }
 
 // The step that a letter stands for.
-pub fn step(x: Session, letter: u8, v: Numbers) -> Reply {
+pub fn step(x: Session, letter: u8, v: Arguments) -> Reply {
     match letter {
         b'O' => opened(v.a, v.b, v.c, v.d, v.e),
         b'R' => x.read_channel(v.a, v.b, v.c),
