@@ -71,9 +71,9 @@ pub struct Reading {
 
 // The claim, how many node numbers are given, and the marks.
 pub struct Numbering {
+    marks: [u64; 4],
     claim: u8,
     given: u8,
-    marks: [u64; 4],
 }
 
 // The arcs that are repeated: their list, their cost, and the capacity of those from mark 1 to mark 0.
@@ -84,11 +84,12 @@ pub struct Repeating {
 }
 
 // phase: 1 reading is under way, 2 reading has just ended, 3 a claim stands; any other: void or ended.
+// Wide fields stand first, so that no gap between fields is copied.
 pub struct State {
-    phase: u8,
-    reading: Reading,
     numbering: Numbering,
     repeating: Repeating,
+    reading: Reading,
+    phase: u8,
 }
 
 // What a step makes of a state: 0 and the next state, or the number of the refusal and the state as it was.
