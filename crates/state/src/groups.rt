@@ -109,7 +109,7 @@ pub(crate) fn cut_after(cut: i64, units: u32, crossing: bool) -> i64
 }
 
 // The state before the claim that has read nothing.
-pub(crate) fn begun(phase: u8, setting: HeldSetting, point: Point) -> State
+pub(crate) fn begun(phase: u64, setting: HeldSetting, point: Point) -> State
     ensures { λ r. ⌜ r ≡ begun phase setting point emptyStream ⌝ }
 {
     let reading = Reading {

@@ -89,7 +89,7 @@ pub struct State {
     numbering: Numbering,
     repeating: Repeating,
     reading: Reading,
-    phase: u8,
+    phase: u64,
 }
 
 // What a step makes of a state: 0 and the next state, or the number of the refusal and the state as it was.

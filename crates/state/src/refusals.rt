@@ -42,7 +42,7 @@ pub(crate) fn open_check(o: Opening, point: Point) -> u8
 }
 
 // An arc to be read: 5 to 8.
-pub(crate) fn read_check(phase: u8, st: HeldSetting, count: u32, arc: Record) -> u8
+pub(crate) fn read_check(phase: u64, st: HeldSetting, count: u32, arc: Record) -> u8
     ensures { λ r. ⌜ r ≡ firstBroken (5 unless eqb phase 1 ∷ readingChecks (asked st) count (arcHeld arc)) ⌝ }
 {
     if phase != 1 {
@@ -52,7 +52,7 @@ pub(crate) fn read_check(phase: u8, st: HeldSetting, count: u32, arc: Record) ->
 }
 
 // A node number: 5 or 10.
-pub(crate) fn number_check(phase: u8, st: HeldSetting, claim: u8, given: u8, y: i32) -> u8
+pub(crate) fn number_check(phase: u64, st: HeldSetting, claim: u8, given: u8, y: i32) -> u8
     ensures { λ r. ⌜ r ≡ firstBroken (5 unless eqb phase 3 ∷ numberingChecks (asked st) (claimOf claim) given y) ⌝ }
 {
     let n = st.n;
