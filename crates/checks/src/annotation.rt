@@ -46,7 +46,7 @@ pub fn claim_ok(st: HeldSetting, claim: u32) -> bool
     if 2 < claim {
         return false;
     }
-    is_admitted(row_of(st.question, claim as u8))
+    is_admitted(row_of(st.question, claim))
 }
 
 // The lowest node number.
@@ -78,10 +78,10 @@ fn highest_node(row: Row) -> i32
 }
 
 // Is the node number of the source 0?
-fn source_zero(st: HeldSetting, v: u8, z: i32) -> bool
+fn source_zero(st: HeldSetting, v: u32, z: i32) -> bool
     ensures { λ r. ⌜ r ≡ implies (eqb v (st .s)) (eqZ z (pos 0)) ⌝ }
 {
-    let s = st.s;
+    let s = st.s as u32;
     if v == s {
         return z == 0;
     }
@@ -89,11 +89,11 @@ fn source_zero(st: HeldSetting, v: u8, z: i32) -> bool
 }
 
 // Is the mark z of the vertex v 1 at the source and 0 at the sink?
-fn separates(st: HeldSetting, v: u8, z: i32) -> bool
+fn separates(st: HeldSetting, v: u32, z: i32) -> bool
     ensures { λ r. ⌜ r ≡ separates (asked st) v z ⌝ }
 {
-    let s = st.s;
-    let t = st.t;
+    let s = st.s as u32;
+    let t = st.t as u32;
     if v == s {
         if z != 1 {
             return false;
@@ -110,7 +110,7 @@ fn separates(st: HeldSetting, v: u8, z: i32) -> bool
 }
 
 // The rule on the node number of a vertex, besides the range.
-fn on_node(row: Row, st: HeldSetting, v: u8, z: i32) -> bool
+fn on_node(row: Row, st: HeldSetting, v: u32, z: i32) -> bool
     ensures { λ r. ⌜ r ≡ rulesHeld row .onNode (asked st) v z ⌝ }
 {
     match row {
@@ -124,7 +124,7 @@ fn on_node(row: Row, st: HeldSetting, v: u8, z: i32) -> bool
 }
 
 // 10: does the node number z of the vertex v meet the rules about that vertex alone?
-pub fn node_ok(row: Row, st: HeldSetting, v: u8, z: i32) -> bool
+pub fn node_ok(row: Row, st: HeldSetting, v: u32, z: i32) -> bool
     ensures { λ r. ⌜ r ≡ nodeMeets (rulesHeld row) (asked st) v z ⌝ }
 {
     let low = lowest_node(row);

@@ -42,7 +42,7 @@ pub fn question_of(number: u32) -> Question
 }
 
 // The row of rules for a question and a claim.
-pub fn row_of(question: u8, claim: u8) -> Row
+pub fn row_of(question: u8, claim: u32) -> Row
     ensures { λ r. ⌜ rulesHeld r ≡ rulesFor (questionOf question) (claimOf claim) ⌝ }
 {
     let asked = question_of(question as u32);

@@ -15,13 +15,12 @@ use Rattle.prelude.specs.Choice.{pick, indicator}
 use Rattle.prelude.specs.Lists.{at}
 use Rattle.prelude.specs.Sums.{allTo}
 use Rattle.words.specs.Bounded.{small, boundedSum}
-use Rattle.prelude.proofs.Booleans.{and-left, and-right}
 use Rattle.prelude.proofs.Integers.{signed, parts-add}
 use Rattle.prelude.proofs.Settle.{settled, hold-left, Numbered, none-broken, part-refused, part-passed}
 use Rattle.network.specs.Network.{Arc, Load, arcHeld, loadHeld}
 use Rattle.network.specs.Question.{Question, shortestPath, maximumFlow, assignment, unasked, Setting, asks, EndsFor, Opened, unitCost}
 use Rattle.network.specs.Certificate.{Claim, ofValue, ofNone, Ends, endsOf, Rules, rulesFor, rulesOf}
-use Rattle.network.specs.Tests.{openingChecks, claimOf, claimOk, balancesOk, sumsOk}
+use Rattle.network.specs.Tests.{openingChecks, balancesOk, sumsOk}
 use Rattle.network.specs.declared.Record.{Record}
 use Rattle.network.proofs.Allowed.{asked-least, opening-rule, weight-rule}
 use Rattle.points.specs.Points.{pointOk}
@@ -87,9 +86,6 @@ pub read-done : (x : State) (e : Arc) (m : Stream) → m ≡ extendStream (x .re
 read-done x e m h = λ i. stateOf (x .phase) (record { setting = x .reading .setting; point = x .reading .point; list = h i }) (x .numbering) (x .repeating)
 
 -- ---- numbers that fit eight bits, by the checks that they passed
-
-pub claim-small : (st : Setting) (k : ℕ) → T (claimOk st k) → k ≤ 2
-claim-small st k t = leb→le k 2 (and-right (leb 1 k) (leb k 2) (and-left (leb 1 k && leb k 2) (rulesOf st (claimOf k) .admitted) t))
 
 -- what opening lets pass: s and t are below n, or 0
 pub open-small : (st : Setting) (r : Point) (why : ℕ) → why ≡ firstBroken (openChecks st r) → why ≡ 0 → (st .question ≤ 3) × (st .n ≤ 255) × (st .s ≤ 255) × (st .t ≤ 255)

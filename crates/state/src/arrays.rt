@@ -39,7 +39,7 @@ pub(crate) fn ends_of(potentials: &[i32; 255], marks: [u64; 4], arc: Record) -> 
 }
 
 // The node number y for the vertex v.
-pub(crate) fn store_at(potentials: &mut [i32], v: u8, y: i32)
+pub(crate) fn store_at(potentials: &mut [i32], v: u32, y: i32)
     ensures { λ _. ⌜ now (potentials .exit) ≡ set (now (potentials .entry)) v y ⌝ }
 {
     let i = v as usize;

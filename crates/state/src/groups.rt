@@ -42,7 +42,7 @@ pub(crate) fn with_arc(point: Point, list: Stream, most: u32, arc: Record) -> St
 }
 
 // A claim with no node number yet.
-pub(crate) fn claimed(claim: u8) -> Numbering
+pub(crate) fn claimed(claim: u32) -> Numbering
     ensures { λ r. ⌜ r ≡ claimed claim ⌝ }
 {
     Numbering {
@@ -61,7 +61,7 @@ pub(crate) fn with_number(mut g: Numbering, n: u8, y: i32) -> Numbering
     g.given = given + 1;
     if y == 1 {
         let marks = g.marks;
-        let next = with_mark(marks, given as u32);
+        let next = with_mark(marks, given);
         g.marks = next;
         return g;
     }

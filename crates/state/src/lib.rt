@@ -69,11 +69,11 @@ pub struct Reading {
     list: Stream,
 }
 
-// The claim, how many node numbers are given, and the marks.
+// The marks, the claim, and how many node numbers are given.
 pub struct Numbering {
     marks: [u64; 4],
-    claim: u8,
-    given: u8,
+    claim: u32,
+    given: u32,
 }
 
 // The arcs that are repeated: their list, their cost, and the capacity of those from mark 1 to mark 0.
@@ -84,7 +84,7 @@ pub struct Repeating {
 }
 
 // phase: 1 reading is under way, 2 reading has just ended, 3 a claim stands; any other: void or ended.
-// Wide fields stand first, so that no gap between fields is copied.
+// Wide fields stand first and every group fills whole words: a gap would be copied in pieces at each step.
 pub struct State {
     numbering: Numbering,
     repeating: Repeating,
@@ -195,7 +195,7 @@ impl State {
             };
         }
         self.phase = 3;
-        self.numbering = claimed(claim as u8);
+        self.numbering = claimed(claim);
         Turn {
             state: self,
             why: 0,
@@ -268,7 +268,7 @@ impl State {
         if self.phase != 3 {
             return 5;
         }
-        if numbering.given != st.n {
+        if numbering.given != st.n as u32 {
             return 5;
         }
         if reading.list.count <= repeating.list.count {
@@ -333,7 +333,7 @@ impl State {
         if self.phase != 3 {
             return 5;
         }
-        if numbering.given != st.n {
+        if numbering.given != st.n as u32 {
             return 5;
         }
         let why = lists_check(reading.list, repeating.list);

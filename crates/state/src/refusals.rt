@@ -52,10 +52,10 @@ pub(crate) fn read_check(phase: u64, st: HeldSetting, count: u32, arc: Record) -
 }
 
 // A node number: 5 or 10.
-pub(crate) fn number_check(phase: u64, st: HeldSetting, claim: u8, given: u8, y: i32) -> u8
+pub(crate) fn number_check(phase: u64, st: HeldSetting, claim: u32, given: u32, y: i32) -> u8
     ensures { λ r. ⌜ r ≡ firstBroken (5 unless eqb phase 3 ∷ numberingChecks (asked st) (claimOf claim) given y) ⌝ }
 {
-    let n = st.n;
+    let n = st.n as u32;
     if phase != 3 {
         return 5;
     }

@@ -11,7 +11,6 @@ claim-ok-spec =
     (tie.spec
     (λ c. search tested depth 12)
     (λ c. search tested depth 12)
-    (λ c. search needs)
     (λ c κs. search needs)
     (λ c κs. search needs)
     (λ c. let e = rw (c .before .row-of .ensures) at (c .is-admitted .ensures) in search tested depth 12))

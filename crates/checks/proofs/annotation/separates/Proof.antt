@@ -1,5 +1,6 @@
 -- `checks::annotation::separates` meets its contract.
 -- Assumes nothing.
+use borrow.Author.Needs.{needs}
 use Rattle.checks.proofs.Laws.{signed}
 use Rattle.checks.proofs.annotation.separates.Statement.{statement}
 use Rattle.checks.proofs.annotation.separates.Tie as tie
@@ -8,6 +9,8 @@ pub separates-spec : {M : Type 1} → statement M
 separates-spec =
     tie.close
     (tie.spec
+    (λ c. search needs)
+    (λ c. search needs)
     (λ c. search signed depth 12)
     (λ c. search signed depth 12)
     (λ c. search signed depth 12)

@@ -1,5 +1,6 @@
 -- `checks::annotation::source_zero` meets its contract.
 -- Assumes nothing.
+use borrow.Author.Needs.{needs}
 use Rattle.checks.proofs.Laws.{signed}
 use Rattle.checks.proofs.annotation.source_zero.Statement.{statement}
 use Rattle.checks.proofs.annotation.source_zero.Tie as tie
@@ -8,5 +9,6 @@ pub source-zero-spec : {M : Type 1} → statement M
 source-zero-spec =
     tie.close
     (tie.spec
+    (λ c. search needs)
     (λ c. search signed depth 12)
     (λ c. search signed depth 12))

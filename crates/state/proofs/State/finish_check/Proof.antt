@@ -24,6 +24,9 @@ use Rattle.state.proofs.State.finish_check.Tie as tie
 returns : tie.Need-returns
 returns c = search tested depth 12
 
+cast-if2 : tie.Need-cast-if2
+cast-if2 c = search needs
+
 returns-2 : tie.Need-returns-2
 returns-2 c = search tested depth 12
 
@@ -54,4 +57,4 @@ returns-4 c =
     on ℕ (l .result) _ 5 (isClaimed x) h1 (on ℕ (l .result) _ 5 (eqb (x .numbering .given) (x .reading .setting .n)) h2 (broken-later (13 unless leb (x .reading .list .count) (x .repeating .list .count) ∷ 14 unless samePrint (x .reading .list .print) (x .repeating .list .print) ∷ []) (15 unless balancesOk (settingHeld x) (claimHeld x) u ∷ 16 unless sumsOk (settingHeld x) (numbersHeld x (at (s .potentials))) u ∷ []) (refl, (refl, tt)) (w .result) (w .ensures) (c .before .before .before .before .before .if3 .left) (l .result) (l .ensures ∙ totals-read x (s .potentials) (s .balances) (c .before .before .before .before .row-of .ensures) (back w64 (x .repeating .cost) (omega (arith, c .before .before .struct-told .given))) (back w64 (x .repeating .cut) (omega (arith, c .before .struct-told2 .given))))))
 
 pub finish-check-spec : {M : Type 1} → statement M
-finish-check-spec = tie.close (tie.spec returns returns-2 lists-check-requires returns-3 row-of-requires totals-check-requires returns-4)
+finish-check-spec = tie.close (tie.spec returns cast-if2 returns-2 lists-check-requires returns-3 row-of-requires totals-check-requires returns-4)

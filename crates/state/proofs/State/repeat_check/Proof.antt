@@ -21,6 +21,9 @@ use Rattle.state.proofs.State.repeat_check.Tie as tie
 returns : tie.Need-returns
 returns c = search tested depth 12
 
+cast-if2 : tie.Need-cast-if2
+cast-if2 c = search needs
+
 returns-2 : tie.Need-returns-2
 returns-2 c = search tested depth 12
 
@@ -59,4 +62,4 @@ returns-5 c =
     on ℕ (l .result) _ 5 (isClaimed x) h1 (on ℕ (l .result) _ 5 (eqb (x .numbering .given) (x .reading .setting .n)) h2 (on ℕ (l .result) _ 6 (ltb (x .repeating .list .count) (x .reading .list .count)) h3 (broken-later (arcChecks (settingHeld x) (arcHeld (s .arc))) (11 unless leb (s .x) (rulesOf (settingHeld x) (claimHeld x) .most (arcHeld (s .arc))) ∷ 12 unless rulesOf (settingHeld x) (claimHeld x) .onArc (endsOf (at (s .potentials .now)) (marksHeld x) (arcHeld (s .arc))) (loadHeld (s .arc) (s .x)) ∷ []) (refl, (refl, tt)) (w .result) (w .ensures) (c .before .before .before .before .if4 .left) (l .result) (l .ensures ∙ load-read x (at (s .potentials .now)) (s .arc) (s .x) (c .before .row-of .ensures) (c .before .before .ends-of .ensures)))))
 
 pub repeat-check-spec : {M : Type 1} → statement M
-repeat-check-spec = tie.close (tie.spec returns returns-2 returns-3 arc-check-requires returns-4 ends-of-requires row-of-requires load-check-requires returns-5)
+repeat-check-spec = tie.close (tie.spec returns cast-if2 returns-2 returns-3 arc-check-requires returns-4 ends-of-requires row-of-requires load-check-requires returns-5)

@@ -10,9 +10,10 @@ pub number-check-spec : {M : Type 1} → statement M
 number-check-spec =
     tie.close
     (tie.spec
+    (λ c. search needs)
     (λ c. search tested depth 12)
     (λ c. search tested depth 12)
     (λ c κs. search needs)
     (λ c κs. search needs)
-    (λ c. let test = rw (c .before .before .row-of .ensures) at (simp (toZ-ofZ (c .before .before .before .before .before .fits .y)) at (c .before .node-ok .ensures)) in search tested depth 12)
-    (λ c. let test = rw (c .before .before .row-of .ensures) at (simp (toZ-ofZ (c .before .before .before .before .before .fits .y)) at (c .before .node-ok .ensures)) in search tested depth 12))
+    (λ c. let test = rw (c .before .before .row-of .ensures) at (simp (toZ-ofZ (c .before .before .before .before .before .before .fits .y)) at (c .before .node-ok .ensures)) in search tested depth 12)
+    (λ c. let test = rw (c .before .before .row-of .ensures) at (simp (toZ-ofZ (c .before .before .before .before .before .before .fits .y)) at (c .before .node-ok .ensures)) in search tested depth 12))
