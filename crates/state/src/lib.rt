@@ -69,11 +69,11 @@ pub struct Reading {
     list: Stream,
 }
 
-// The marks, the claim, and how many node numbers are given.
+// The claim, how many node numbers are given, and the marks.
 pub struct Numbering {
-    marks: [u64; 4],
     claim: u32,
     given: u32,
+    marks: [u64; 4],
 }
 
 // The arcs that are repeated: their list, their cost, and the capacity of those from mark 1 to mark 0.
@@ -84,12 +84,12 @@ pub struct Repeating {
 }
 
 // phase: 1 reading is under way, 2 reading has just ended, 3 a claim stands; any other: void or ended.
-// Wide fields stand first and every group fills whole words: a gap would be copied in pieces at each step.
+// Every group fills whole words: a gap would be copied in pieces at each step.
 pub struct State {
+    phase: u64,
+    reading: Reading,
     numbering: Numbering,
     repeating: Repeating,
-    reading: Reading,
-    phase: u64,
 }
 
 // What a step makes of a state: 0 and the next state, or the number of the refusal and the state as it was.
