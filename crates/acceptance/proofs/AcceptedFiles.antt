@@ -12,8 +12,8 @@ use Rattle.network.specs.Limits.{mostArcs}
 use Rattle.network.specs.Question.{Opened, Allowed}
 use Rattle.network.specs.Tests.{openingChecks, readingAll}
 use Rattle.network.proofs.Allowed.{opening-rule, opening-numbered, reading-rule, reading-few, reading-numbered}
-use Rattle.format.specs.Files.{arcsIn, networkLayout}
-use Rattle.acceptance.specs.Acceptance.{settingIn, acceptanceChecks, AcceptedFile}
+use Rattle.format.specs.Files.{settingIn, arcsIn, networkLayout}
+use Rattle.acceptance.specs.Acceptance.{acceptanceChecks, AcceptedFile}
 
 module _ (net : List ℕ) where
   abbrev opens : List Check

@@ -11,10 +11,9 @@ use Rattle.network.specs.Network.{Arc}
 use Rattle.network.specs.Question.{Question, shortestPath, maximumFlow, assignment, unasked, Setting, asks, EndsFor, Opened, Allowed}
 use Rattle.network.specs.Tests.{openingChecks, readingAll}
 use Rattle.network.proofs.Allowed.{asked-least, opening-test, reading-test}
-use Rattle.format.specs.Files.{networkFile, arcsIn}
+use Rattle.format.specs.Files.{settingIn, networkFile, arcsIn}
 use Rattle.format.specs.Promises.{ArcFits, NetworkRead}
 use Rattle.format.proofs.Promises.{network-round-trip}
-use Rattle.acceptance.specs.Acceptance.{settingIn}
 use Rattle.acceptance.specs.Promises.{Admissible, WrittenAccepted, AcceptedMeans}
 use Rattle.acceptance.proofs.AcceptedFiles.{accepted, file-opened, file-allowed, file-few}
 
@@ -34,20 +33,26 @@ module _ (st : Setting) (o : Opened st) where
     weight = omega (arith, h .weight-within);
   }
 
-written-read : (st : Setting) (net : List Arc) → Admissible st net → NetworkRead (st .question) (st .n) (st .s) (st .t) net (networkFile (st .question) (st .n) (st .s) (st .t) net)
+written-read : (st : Setting) (net : List Arc) → Admissible st net → NetworkRead st net (networkFile st net)
 written-read st net r =
     let o = r .opened in
     let ends = ends-below st o (asks st) (o .ends) in
-    network-round-trip (st .question) (st .n) (st .s) (st .t) net (omega (arith, asked-least (st .question) (opening-test st o .0))) (omega (arith, o .sized .at-most))
-    (omega (arith, ends .0)) (omega (arith, ends .1)) (omega (arith, r .few)) (every-map (arc-fits st o) net (r .allowed))
+    network-round-trip st net
+    (record {
+      question = omega (arith, asked-least (st .question) (opening-test st o .0));
+      n = omega (arith, o .sized .at-most);
+      s = omega (arith, ends .0);
+      t = omega (arith, ends .1);
+    })
+    (omega (arith, r .few)) (every-map (arc-fits st o) net (r .allowed))
 
 -- ---- kept
 
 pub written-accepted : WrittenAccepted
 written-accepted st net r =
-    let file = networkFile (st .question) (st .n) (st .s) (st .t) net in
+    let file = networkFile st net in
     let back = written-read st net r in
-    let same : settingIn file ≡ st = λ i. record { question = back .question-back i; n = back .n-back i; s = back .s-back i; t = back .t-back i } in
+    let same = back .setting-back in
     record {
       bytes = back .bytes;
       accepted = accepted file (back .passes) (subst (λ (x : Setting). Hold (openingChecks x)) (sym same) (opening-test st (r .opened)))

@@ -3,13 +3,8 @@
 use mathlib.Core.List.{List, _++_}
 use Prim.Native.Nat.{ℕ}
 use Rattle.prelude.specs.Checks.{Check, Hold}
-use Rattle.network.specs.Question.{Setting}
 use Rattle.network.specs.Tests.{openingChecks, readingAll}
-use Rattle.format.specs.Files.{questionIn, nIn, sIn, tIn, arcsIn, networkLayout}
-
--- What the header asks.
-abbrev pub settingIn : List ℕ → Setting
-settingIn net = record { question = questionIn net; n = nIn net; s = sIn net; t = tIn net }
+use Rattle.format.specs.Files.{settingIn, arcsIn, networkLayout}
 
 -- The checks of a network file, which the helper makes before 20: 17, 18 and 19 of its layout, 1, 2 and 3 of its header, then 6, 7 and 8 of each record in turn.
 abbrev pub acceptanceChecks : List ℕ → List Check

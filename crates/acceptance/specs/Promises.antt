@@ -8,9 +8,9 @@ use Rattle.prelude.specs.Lists.{Every}
 use Rattle.network.specs.Limits.{mostArcs}
 use Rattle.network.specs.Network.{Arc}
 use Rattle.network.specs.Question.{Setting, Opened, Allowed}
-use Rattle.format.specs.Files.{networkFile, arcsIn}
+use Rattle.format.specs.Files.{settingIn, networkFile, arcsIn}
 use Rattle.format.specs.Promises.{Byte}
-use Rattle.acceptance.specs.Acceptance.{settingIn, AcceptedFile}
+use Rattle.acceptance.specs.Acceptance.{AcceptedFile}
 
 -- A list of arcs that may be read in a setting: opening accepts the setting, reading each arc, and there are not too many.
 pub record Admissible (st : Setting) (net : List Arc) : Type 0 where
@@ -27,7 +27,7 @@ pub record Says (st : Setting) (net : List Arc) (file : List ℕ) : Type 0 where
 
 -- Whatever may be read can be written: the bytes of its network file are accepted and say just that.
 abbrev pub WrittenAccepted : Type 0
-WrittenAccepted = (st : Setting) (net : List Arc) → Admissible st net → Says st net (networkFile (st .question) (st .n) (st .s) (st .t) net)
+WrittenAccepted = (st : Setting) (net : List Arc) → Admissible st net → Says st net (networkFile st net)
 
 -- An accepted file says what may be read.
 abbrev pub AcceptedMeans : Type 0

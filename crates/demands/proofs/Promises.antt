@@ -24,9 +24,9 @@ use Rattle.network.specs.Tests.{claimNumber}
 use Rattle.points.specs.Points.{IsPoint}
 use Rattle.points.specs.declared.Point.{Point}
 use Rattle.state.specs.Answers.{gives}
-use Rattle.format.specs.Files.{arcsIn, annotationFile}
+use Rattle.format.specs.Files.{settingIn, arcsIn, annotationFile}
 use Rattle.format.specs.Promises.{Signed32, LoadFits}
-use Rattle.acceptance.specs.Acceptance.{settingIn, acceptanceChecks, AcceptedFile}
+use Rattle.acceptance.specs.Acceptance.{acceptanceChecks, AcceptedFile}
 use Rattle.acceptance.proofs.AcceptedFiles.{file-opened, file-allowed}
 use Rattle.judging.specs.Judging.{judged}
 use Rattle.judging.proofs.Promises.{certificates-judged}

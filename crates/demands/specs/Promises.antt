@@ -8,8 +8,8 @@ use Rattle.network.specs.Question.{Answer, TrueAnswer}
 use Rattle.points.specs.Points.{IsPoint}
 use Rattle.points.specs.declared.Point.{Point}
 use Rattle.state.specs.Answers.{gives}
-use Rattle.format.specs.Files.{arcsIn}
-use Rattle.acceptance.specs.Acceptance.{settingIn, AcceptedFile}
+use Rattle.format.specs.Files.{settingIn, arcsIn}
+use Rattle.acceptance.specs.Acceptance.{AcceptedFile}
 use Rattle.judging.specs.Judging.{judged}
 use Rattle.helper.specs.Helper.{HelperSaid, wrote, annotated, sizeFor, Annotation, BufferAfter}
 

@@ -11,7 +11,7 @@ use Rattle.prelude.specs.Checks.{firstBroken}
 use Rattle.prelude.specs.Lists.{listTo}
 use Rattle.prelude.proofs.Lists.{every-append, listTo-length}
 use Rattle.format.specs.Bytes.{byteAt, byte32, readSigned}
-use Rattle.format.specs.Files.{networkMark, annotationMark, networkSize, annotationSize, networkHeader, annotationHeader, arcBytes, loadBytes, networkFile, annotationFile, arcAt, loadAt, questionIn, nIn, sIn, tIn, countIn, claimIn, annotationCount, arcIn, loadIn, networkLayout, annotationLayout}
+use Rattle.format.specs.Files.{networkMark, annotationMark, networkSize, annotationSize, networkHeader, annotationHeader, arcBytes, loadBytes, networkFile, annotationFile, arcAt, loadAt, questionIn, nIn, sIn, tIn, settingIn, countIn, claimIn, annotationCount, arcIn, loadIn, networkLayout, annotationLayout}
 use Rattle.format.specs.Promises.{Byte, ArcFits, LoadFits, Signed32, NetworkRoundTrip, AnnotationRoundTrip, OnlyNetwork, OnlyAnnotation, OneLayout}
 use Rattle.format.proofs.Halves.{whole}
 use Rattle.format.proofs.Windows.{window, window-append, window-all, pair}
@@ -23,19 +23,16 @@ use Rattle.format.proofs.Layouts.{holds, length-is, begins, other-mark}
 
 pub network-round-trip : NetworkRoundTrip
 unfolding networkFile
-network-round-trip question n s t arcs hq hn hs ht m w =
-    let header = networkHeader question n s t (length arcs) in
+network-round-trip st arcs h m w =
+    let header = networkHeader st (length arcs) in
     let file = header ++ flatMap arcBytes arcs in
     let body = flat-length arcBytes arcAt 4 ArcFits arcs-coded arcs in
     let count = both-bytes (length arcs) (omega arith) in
     record {
       bytes = every-append Byte header (flatMap arcBytes arcs)
-          (omega arith, (omega arith, (omega arith, (omega arith, (omega arith, (hq, (hn, (hs, (ht, count))))))))) (flat-bytes arcBytes arcAt 4 ArcFits arcs-coded arcs w);
+          (omega arith, (omega arith, (omega arith, (omega arith, (omega arith, (h .question, (h .n, (h .s, (h .t, count))))))))) (flat-bytes arcBytes arcAt 4 ArcFits arcs-coded arcs w);
       passes = holds 11 networkMark (networkSize (countIn file)) file (omega arith) tt refl (omega arith);
-      question-back = refl;
-      n-back = refl;
-      s-back = refl;
-      t-back = refl;
+      setting-back = refl;
       arcs-back =
           ap (λ (k : ℕ). listTo k (arcIn file)) (whole 256 (length arcs))
           ∙ subst (λ (l : List ℕ). listTo (length arcs) (arcIn (header ++ l)) ≡ arcs) (append-nil (flatMap arcBytes arcs))
@@ -74,7 +71,7 @@ only-network file b p =
     let k = countIn file in
     let size : 11 + 4 * k ≡ length file = omega (arith, length-is 11 networkMark (networkSize k) file p) in
     sym (ap₂ _++_
-    (ap (networkHeader (questionIn file) (nIn file) (sIn file) (tIn file)) (listTo-length k (arcIn file))
+    (ap (networkHeader (settingIn file)) (listTo-length k (arcIn file))
     ∙ ap₂ (λ (m c : List ℕ). m ++ questionIn file ∷ nIn file ∷ sIn file ∷ tIn file ∷ c) (begins 11 networkMark (networkSize k) file b p) (pair file b 9))
     (written-back arcBytes arcAt 4 ArcFits arcs-coded file b 11 k)
     ∙ sym (window-append file 0 11 (4 * k))

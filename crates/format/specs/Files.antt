@@ -9,6 +9,7 @@ use lib.ListN.{length}
 use Rattle.prelude.specs.Checks.{Check, _unless_}
 use Rattle.prelude.specs.Lists.{listTo}
 use Rattle.network.specs.Network.{Arc, Load, arcOf}
+use Rattle.network.specs.Question.{Setting}
 use Rattle.format.specs.Bytes.{byteAt, byte16, read16, byte32, readSigned}
 
 -- ---- what is written
@@ -25,8 +26,8 @@ abbrev pub markAndVersion : ℕ → List ℕ
 markAndVersion third = 68 ∷ 82 ∷ third ∷ byte16 1
 
 -- A network's header goes on with a byte for the question, one for n, one for s and one for t, and the count of records in 16 bits: 11 bytes.
-abbrev pub networkHeader : ℕ → ℕ → ℕ → ℕ → ℕ → List ℕ
-networkHeader question n s t count = markAndVersion networkMark ++ question ∷ n ∷ s ∷ t ∷ byte16 count
+abbrev pub networkHeader : Setting → ℕ → List ℕ
+networkHeader st count = markAndVersion networkMark ++ st .question ∷ st .n ∷ st .s ∷ st .t ∷ byte16 count
 
 -- An annotation's header goes on with a byte for the claim, and the count of records in 16 bits: 8 bytes.
 abbrev pub annotationHeader : ℕ → ℕ → List ℕ
@@ -41,8 +42,8 @@ abbrev pub loadBytes : Load → List ℕ
 loadBytes l = arcBytes (l .arc) ++ byte16 (l .amount)
 
 -- A whole network file.
-unfoldable pub networkFile : ℕ → ℕ → ℕ → ℕ → List Arc → List ℕ
-networkFile question n s t arcs = networkHeader question n s t (length arcs) ++ flatMap arcBytes arcs
+unfoldable pub networkFile : Setting → List Arc → List ℕ
+networkFile st arcs = networkHeader st (length arcs) ++ flatMap arcBytes arcs
 
 -- A whole annotation file: between the header and the records stand the node numbers, each as the 32 bits of its two's complement.
 unfoldable pub annotationFile : ℕ → List ℤ → List Load → List ℕ
@@ -68,6 +69,10 @@ sIn file = byteAt file 7
 
 abbrev pub tIn : List ℕ → ℕ
 tIn file = byteAt file 8
+
+-- What the header asks.
+abbrev pub settingIn : List ℕ → Setting
+settingIn file = record { question = questionIn file; n = nIn file; s = sIn file; t = tIn file }
 
 abbrev pub countIn : List ℕ → ℕ
 countIn file = read16 file 9

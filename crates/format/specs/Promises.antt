@@ -10,12 +10,19 @@ use lib.Signed.{mag}
 use Rattle.prelude.specs.Checks.{Hold, firstBroken}
 use Rattle.prelude.specs.Lists.{Every}
 use Rattle.network.specs.Network.{Arc, Load}
-use Rattle.format.specs.Files.{networkFile, annotationFile, questionIn, nIn, sIn, tIn, arcsIn, claimIn, numbersIn, loadsIn, networkLayout, annotationLayout}
+use Rattle.network.specs.Question.{Setting}
+use Rattle.format.specs.Files.{networkFile, annotationFile, settingIn, arcsIn, claimIn, numbersIn, loadsIn, networkLayout, annotationLayout}
 
 -- ---- what the fields hold
 
 abbrev pub Byte : ℕ → Type 0
 Byte b = b < 256
+
+pub record SettingFits (st : Setting) : Type 0 where
+  pub question : Byte (st .question)
+  pub n : Byte (st .n)
+  pub s : Byte (st .s)
+  pub t : Byte (st .t)
 
 pub record ArcFits (a : Arc) : Type 0 where
   pub tail : Byte (a .tail)
@@ -33,20 +40,15 @@ Signed32 z = mag z < 2 ^ 31
 -- ---- the promises
 
 -- What is written is bytes, passes every check of the layout and is read back as it was.
-pub record NetworkRead (question n s t : ℕ) (arcs : List Arc) (file : List ℕ) : Type 0 where
+pub record NetworkRead (st : Setting) (arcs : List Arc) (file : List ℕ) : Type 0 where
   pub bytes : Every Byte file
   pub passes : Hold (networkLayout file)
-  pub question-back : questionIn file ≡ question
-  pub n-back : nIn file ≡ n
-  pub s-back : sIn file ≡ s
-  pub t-back : tIn file ≡ t
+  pub setting-back : settingIn file ≡ st
   pub arcs-back : arcsIn file ≡ arcs
 
 abbrev pub NetworkRoundTrip : Type 0
 NetworkRoundTrip =
-    (question n s t : ℕ) (arcs : List Arc)
-    → Byte question → Byte n → Byte s → Byte t → length arcs ≤ 65535 → Every ArcFits arcs
-    → NetworkRead question n s t arcs (networkFile question n s t arcs)
+    (st : Setting) (arcs : List Arc) → SettingFits st → length arcs ≤ 65535 → Every ArcFits arcs → NetworkRead st arcs (networkFile st arcs)
 
 pub record AnnotationRead (claim : ℕ) (numbers : List ℤ) (loads : List Load) (file : List ℕ) : Type 0 where
   pub bytes : Every Byte file
@@ -65,7 +67,7 @@ AnnotationRoundTrip =
 abbrev pub OnlyNetwork : Type 0
 OnlyNetwork =
     (file : List ℕ) → Every Byte file → Hold (networkLayout file)
-    → file ≡ networkFile (questionIn file) (nIn file) (sIn file) (tIn file) (arcsIn file)
+    → file ≡ networkFile (settingIn file) (arcsIn file)
 
 abbrev pub OnlyAnnotation : Type 0
 OnlyAnnotation =

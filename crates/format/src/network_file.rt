@@ -95,7 +95,7 @@ pub fn word(file: &[u8], e: usize) -> u32
 
 // The eleven bytes of the header.
 pub fn write_header(buffer: &mut [u8], question: u8, n: u8, s: u8, t: u8, count: u16)
-    ensures { λ _. ⌜ now (buffer .exit) ≡ sets (now (buffer .entry)) 0 (networkHeader question n s t count) ⌝ }
+    ensures { λ _. ⌜ now (buffer .exit) ≡ sets (now (buffer .entry)) 0 (networkHeader (record { question = question; n = n; s = s; t = t }) count) ⌝ }
 {
     write_mark(buffer, b'N');
     put_byte(buffer, 5, question);

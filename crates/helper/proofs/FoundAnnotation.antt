@@ -21,11 +21,11 @@ use Rattle.network.specs.Certificate.{claimFor}
 use Rattle.network.specs.Tests.{openingChecks, arcChecks, claimNumber}
 use Rattle.network.proofs.Allowed.{arc-test}
 use Rattle.format.specs.Bytes.{byte32, readSigned}
-use Rattle.format.specs.Files.{nIn, countIn, arcIn, arcsIn, annotationHeader, annotationFile, loadBytes, loadAt}
+use Rattle.format.specs.Files.{settingIn, nIn, countIn, arcIn, arcsIn, annotationHeader, annotationFile, loadBytes, loadAt}
 use Rattle.format.specs.Promises.{Signed32, LoadFits}
 use Rattle.format.proofs.Records.{flat-length}
 use Rattle.format.proofs.Codings.{numbers-coded, loads-coded}
-use Rattle.acceptance.specs.Acceptance.{settingIn, AcceptedFile}
+use Rattle.acceptance.specs.Acceptance.{AcceptedFile}
 use Rattle.acceptance.proofs.AcceptedFiles.{opening-held, file-opened, file-allowed, file-few}
 use Rattle.engine.specs.Residual.{zeroList}
 use Rattle.engine.proofs.LentParts.{zero-list-length, lent-again}

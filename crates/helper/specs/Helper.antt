@@ -12,8 +12,8 @@ use Rattle.network.specs.Network.{Load, arcs}
 use Rattle.network.specs.Question.{asks, Answer}
 use Rattle.network.specs.Certificate.{claimFor, Certified}
 use Rattle.network.specs.Tests.{claimNumber}
-use Rattle.format.specs.Files.{nIn, countIn, arcsIn, annotationFile, annotationSize}
-use Rattle.acceptance.specs.Acceptance.{settingIn, acceptanceChecks}
+use Rattle.format.specs.Files.{settingIn, nIn, countIn, arcsIn, annotationFile, annotationSize}
+use Rattle.acceptance.specs.Acceptance.{acceptanceChecks}
 use Rattle.solver.specs.Certify.{LengthsFor}
 use Rattle.helper.specs.declared.Written.{Written}
 use Rattle.helper.specs.declared.Written.the-variants.{Length, Refused}

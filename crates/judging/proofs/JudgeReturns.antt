@@ -11,8 +11,7 @@ use Rattle.network.specs.Question.{Setting}
 use Rattle.points.specs.declared.Point.{Point}
 use Rattle.checks.specs.Held.{handed}
 use Rattle.checks.specs.declared.Opening.{Opening}
-use Rattle.format.specs.Files.{nIn, arcsIn, networkLayout, annotationLayout}
-use Rattle.acceptance.specs.Acceptance.{settingIn}
+use Rattle.format.specs.Files.{settingIn, nIn, arcsIn, networkLayout, annotationLayout}
 use Rattle.state.specs.Answers.{Said, accepted, gives, refused}
 use Rattle.state.specs.Turns.{openTurn}
 use Rattle.state.specs.declared.Turn.{Turn}

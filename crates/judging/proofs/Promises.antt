@@ -19,10 +19,9 @@ use Rattle.network.specs.Tests.{openingChecks, readingChecks, readingAll, claim
 use Rattle.network.proofs.Promises.{certificates-sound}
 use Rattle.points.specs.Points.{misleadingPoints}
 use Rattle.points.specs.declared.Point.{Point}
-use Rattle.format.specs.Files.{nIn, arcsIn, claimIn, numbersIn, loadsIn, annotationFile, networkLayout, annotationLayout}
+use Rattle.format.specs.Files.{settingIn, nIn, arcsIn, claimIn, numbersIn, loadsIn, annotationFile, networkLayout, annotationLayout}
 use Rattle.format.specs.Promises.{Byte}
 use Rattle.format.proofs.Promises.{annotation-round-trip}
-use Rattle.acceptance.specs.Acceptance.{settingIn}
 use Rattle.state.specs.Answers.{Said, accepted, gives, refused}
 use Rattle.state.specs.State.{openChecks}
 use Rattle.runs.specs.Run.{Step, read, end, claim, number, repeat, finish, runFrom, listFrom, listRead, Wrong, WrongAt}

@@ -9,8 +9,7 @@ use Rattle.network.specs.Network.{Load}
 use Rattle.network.specs.Tests.{readingAll, claimOf, answerOf}
 use Rattle.points.specs.Points.{IsPoint}
 use Rattle.points.specs.declared.Point.{Point}
-use Rattle.format.specs.Files.{nIn, arcsIn, claimIn, numbersIn, loadsIn, networkLayout, annotationLayout}
-use Rattle.acceptance.specs.Acceptance.{settingIn}
+use Rattle.format.specs.Files.{settingIn, nIn, arcsIn, claimIn, numbersIn, loadsIn, networkLayout, annotationLayout}
 use Rattle.state.specs.Answers.{Said, gives, refused}
 use Rattle.state.specs.State.{openChecks}
 use Rattle.runs.specs.Run.{Wrong}

@@ -13,9 +13,9 @@ use Rattle.network.specs.Certificate.{claimFor, Certified}
 use Rattle.network.specs.Tests.{claimNumber}
 use Rattle.points.specs.Points.{IsPoint, misleadingPoints}
 use Rattle.points.specs.declared.Point.{Point}
-use Rattle.format.specs.Files.{nIn, arcsIn, claimIn, annotationFile, annotationLayout}
+use Rattle.format.specs.Files.{settingIn, nIn, arcsIn, claimIn, annotationFile, annotationLayout}
 use Rattle.format.specs.Promises.{LoadFits, Signed32}
-use Rattle.acceptance.specs.Acceptance.{settingIn, AcceptedFile}
+use Rattle.acceptance.specs.Acceptance.{AcceptedFile}
 use Rattle.state.specs.Answers.{gives}
 use Rattle.runs.specs.Run.{runFrom}
 use Rattle.runs.specs.Exchange.{exchange, outcome}

@@ -1,7 +1,7 @@
 // Judging two files at a point.
 ghost use mathlib.Core.Path.{_≡_};
 ghost use Rattle.checks.specs.Held.{handed};
-ghost use Rattle.acceptance.specs.Acceptance.{settingIn};
+ghost use Rattle.format.specs.Files.{settingIn};
 ghost use Rattle.state.specs.Answers.{said};
 ghost use Rattle.judging.specs.Judging.{judged};
 use checks::Opening;

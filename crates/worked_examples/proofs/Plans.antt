@@ -20,8 +20,8 @@ use Rattle.network.proofs.Promises.{one-answer, certificates-sound, tests-suffi
 use Rattle.points.specs.Points.{IsPoint}
 use Rattle.points.specs.declared.Point.{Point}
 use Rattle.state.specs.Answers.{gives}
-use Rattle.format.specs.Files.{networkFile, nIn, arcsIn}
-use Rattle.acceptance.specs.Acceptance.{settingIn, acceptanceChecks, AcceptedFile}
+use Rattle.format.specs.Files.{settingIn, networkFile, nIn, arcsIn}
+use Rattle.acceptance.specs.Acceptance.{acceptanceChecks, AcceptedFile}
 use Rattle.acceptance.proofs.AcceptedFiles.{file-opened, file-allowed}
 use Rattle.judging.specs.Judging.{judged}
 use Rattle.solver.specs.Certify.{LengthsFor}
@@ -93,7 +93,7 @@ module _ (w : Plan) (accepted : AcceptedFile (w .file)) where
 -- What is computed of a plan: six equations and two tests. With the least lengths of a route they give its outcomes.
 pub plan-yields :
     (w : Plan)
-    → w .file ≡ networkFile (w .setting .question) (w .setting .n) (w .setting .s) (w .setting .t) (w .net)
+    → w .file ≡ networkFile (w .setting) (w .net)
     → settingIn (w .file) ≡ w .setting
     → arcsIn (w .file) ≡ w .net
     → arcs (loads w) ≡ w .net

@@ -15,8 +15,8 @@ use Rattle.points.specs.Points.{IsPoint, printOf}
 use Rattle.points.specs.declared.Point.{Point}
 use Rattle.points.specs.declared.Print.{Print}
 use Rattle.state.specs.Answers.{gives}
-use Rattle.format.specs.Files.{networkFile, annotationFile, arcsIn}
-use Rattle.acceptance.specs.Acceptance.{settingIn, AcceptedFile}
+use Rattle.format.specs.Files.{settingIn, networkFile, annotationFile, arcsIn}
+use Rattle.acceptance.specs.Acceptance.{AcceptedFile}
 use Rattle.judging.specs.Judging.{judged}
 use Rattle.helper.specs.Helper.{Annotation}
 
@@ -83,7 +83,7 @@ pub record AnyAnnotation (w : Plan) (ann : List ℕ) (a : Annotation (w .file) a
 
 -- The file is the encoding of what is asked; the panel accepts it and reads that back; the answer is the true one; the certificate meets every rule for it; and judging the file with the certificate's annotation gives the answer at every point.
 pub record PlanYields (w : Plan) : Type 0 where
-  pub encoded : w .file ≡ networkFile (w .setting .question) (w .setting .n) (w .setting .s) (w .setting .t) (w .net)
+  pub encoded : w .file ≡ networkFile (w .setting) (w .net)
   pub accepted : AcceptedFile (w .file)
   pub setting-back : settingIn (w .file) ≡ w .setting
   pub net-back : arcsIn (w .file) ≡ w .net
