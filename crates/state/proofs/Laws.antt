@@ -6,7 +6,7 @@ use mathlib.Core.List.{List, [], _∷_, _++_, append-nil}
 use Prim.Native.Nat.{ℕ, _+_, _*_, _≤_, _<_}
 use native.Mathlib.Nat.{mul-le-mul, le-trans}
 use native.Mathlib.Omega.{arith}
-use lib.Dec.{T, leb, leb→le, ltb→lt, lit≤}
+use lib.Dec.{T, eqb, leb, ltb, leb→le, ltb→lt, lit≤}
 use lib.IntN.{ℤ, pos, _+ℤ_}
 use mir.Syntax.{w32}
 use mir.Val.{Fits}
@@ -20,13 +20,13 @@ use Rattle.prelude.proofs.Settle.{settled, hold-left, Numbered, none-broken, pa
 use Rattle.network.specs.Network.{Arc, Load, arcHeld, loadHeld}
 use Rattle.network.specs.Question.{Question, shortestPath, maximumFlow, assignment, unasked, Setting, asks, EndsFor, Opened, unitCost}
 use Rattle.network.specs.Certificate.{Claim, ofValue, ofNone, Ends, endsOf, Rules, rulesFor, rulesOf}
-use Rattle.network.specs.Tests.{openingChecks, balancesOk, sumsOk}
+use Rattle.network.specs.Tests.{openingChecks, arcChecks, balancesOk, sumsOk}
 use Rattle.network.specs.declared.Record.{Record}
 use Rattle.network.proofs.Allowed.{asked-least, opening-rule, weight-rule}
 use Rattle.points.specs.Points.{pointOk}
 use Rattle.points.specs.declared.Point.{Point}
 use Rattle.checks.specs.Held.{sumsHeld}
-use Rattle.state.specs.State.{settingHeld, claimHeld, marksHeld, numbersHeld, extendStream, marksAfter, numberMore, repeatMore, stateOf, openChecks, withRead, repeatChecks, withRepeat}
+use Rattle.state.specs.State.{isClaimed, settingHeld, claimHeld, marksHeld, numbersHeld, extendStream, marksAfter, numberMore, repeatMore, stateOf, openChecks, withRead, repeatChecks, withRepeat}
 use Rattle.state.specs.Turns.{turned}
 use Rattle.state.specs.declared.Numbering.{Numbering}
 use Rattle.state.specs.declared.State.{State}
@@ -144,12 +144,31 @@ cost-small unasked e h = lit≤ tt
 
 -- ---- checks of what was read from the state
 
--- the amount and the rule of an arc, by the row and the ends that were found
-pub load-read : (x : State) (y : ℕ → ℤ) (arc : Record) (v : ℕ) {rules : Rules} {ends : Ends}
-    → rules ≡ rulesOf (settingHeld x) (claimHeld x) → ends ≡ endsOf y (marksHeld x) (arcHeld arc)
-    → firstBroken (11 unless leb v (rules .most (arcHeld arc)) ∷ 12 unless rules .onArc ends (loadHeld arc v) ∷ [])
-    ≡ firstBroken (11 unless leb v (rulesOf (settingHeld x) (claimHeld x) .most (arcHeld arc)) ∷ 12 unless rulesOf (settingHeld x) (claimHeld x) .onArc (endsOf y (marksHeld x) (arcHeld arc)) (loadHeld arc v) ∷ [])
-load-read x y arc v e f = λ i. firstBroken (11 unless leb v (e i .most (arcHeld arc)) ∷ 12 unless e i .onArc (f i) (loadHeld arc v) ∷ [])
+-- a repeated arc: the checks on the arc, and after them those on its amount
+abbrev arcPart : State → Arc → List Check
+arcPart x e =
+    5 unless isClaimed x
+    ∷ 5 unless eqb (x .numbering .given) (x .reading .setting .n)
+    ∷ 6 unless ltb (x .repeating .list .count) (x .reading .list .count)
+    ∷ arcChecks (settingHeld x) e
+
+abbrev loadPart : Rules → Ends → Load → List Check
+loadPart rules ends l = 11 unless leb (l .amount) (rules .most (l .arc)) ∷ 12 unless rules .onArc ends l ∷ []
+
+-- `first` was found of the checks on the arc
+module _ (x : State) (y : ℕ → ℤ) (arc : Record) (v : ℕ) (first : ℕ) (found : first ≡ firstBroken (arcPart x (arcHeld arc))) where
+  abbrev loads : List Check
+  loads = loadPart (rulesOf (settingHeld x) (claimHeld x)) (endsOf y (marksHeld x) (arcHeld arc)) (loadHeld arc v)
+
+  pub arc-broken : (first ≡ 0 → ⊥) → first ≡ firstBroken (repeatChecks x y (loadHeld arc v))
+  arc-broken = broken-first (arcPart x (arcHeld arc)) loads (refl, (refl, (refl, (refl, (refl, tt))))) first found
+
+  -- `second` was found of those on the amount, by the row and the ends that were found
+  pub load-broken : first ≡ 0 → {rules : Rules} {ends : Ends} → rules ≡ rulesOf (settingHeld x) (claimHeld x) → ends ≡ endsOf y (marksHeld x) (arcHeld arc)
+      → (second : ℕ) → second ≡ firstBroken (loadPart rules ends (loadHeld arc v)) → second ≡ firstBroken (repeatChecks x y (loadHeld arc v))
+  load-broken z e f second g =
+      broken-later (arcPart x (arcHeld arc)) loads (refl, (refl, (refl, (refl, (refl, tt))))) first found z second
+      (g ∙ λ i. firstBroken (loadPart (e i) (f i) (loadHeld arc v)))
 
 -- the balances and the sums, by the row and the sums that were found
 pub totals-read : (x : State) (ys bs : List ℤ) {rules : Rules} {k c : ℤ}

@@ -1,17 +1,18 @@
 // What a session knows but for the node numbers and the balances of the vertices, and its steps on that alone: a caller who keeps the two arrays in place copies only this.
 ghost use mathlib.Core.Path.{_≡_};
 ghost use mathlib.Core.Bool.{not, _&&_};
+ghost use mathlib.Core.List.{_∷_};
 ghost use Prim.Native.Nat.{_≤_, _<_};
-ghost use lib.Dec.{eqb};
+ghost use lib.Dec.{eqb, ltb};
 ghost use lib.ListN.{set};
-ghost use Rattle.prelude.specs.Checks.{firstBroken};
+ghost use Rattle.prelude.specs.Checks.{_unless_, firstBroken};
 ghost use Rattle.prelude.specs.Choice.{pick};
 ghost use Rattle.prelude.specs.Lists.{at};
-ghost use Rattle.network.specs.Network.{arcHeld, loadHeld};
-ghost use Rattle.network.specs.Tests.{answerOf};
+ghost use Rattle.network.specs.Network.{arcHeld, loadHeld, crosses};
+ghost use Rattle.network.specs.Tests.{arcChecks, answerOf};
 ghost use Rattle.checks.specs.Held.{handed, rulesHeld, sumsHeld};
 ghost use Rattle.state.specs.Answers.{answered};
-ghost use Rattle.state.specs.State.{isClaimed, settingHeld, claimHeld, idle, withRepeat, repeatChecks, finishChecks};
+ghost use Rattle.state.specs.State.{isClaimed, settingHeld, claimHeld, marksHeld, idle, withRepeat, finishChecks};
 ghost use Rattle.state.specs.Turns.{openTurn, readTurn, endTurn, claimTurn, numberTurn, repeatTurn};
 use arrays::ends_of;
 use arrays::store_at;
@@ -41,7 +42,6 @@ use refusals::number_check;
 use refusals::open_check;
 use refusals::read_check;
 use refusals::totals_check;
-use words::marks::is_marked;
 use words::signed::to_unsigned;
 
 pub mod arrays;
@@ -257,9 +257,9 @@ impl State {
         self
     }
 
-    // 0, or the number of the first check that refuses an arc to be repeated: 5 to 8, 11 or 12.
-    fn repeat_check(self, potentials: &[i32; 255], arc: Record, x: u32) -> u8
-        ensures { λ r. ⌜ r ≡ firstBroken (repeatChecks self (at (now (potentials .entry))) (loadHeld arc x)) ⌝ }
+    // 0, or the number of the first check that refuses an arc to be repeated, whatever its amount: 5 to 8.
+    fn repeat_check(self, arc: Record) -> u8
+        ensures { λ r. ⌜ r ≡ firstBroken (5 unless isClaimed self ∷ 5 unless eqb (self .numbering .given) (self .reading .setting .n) ∷ 6 unless ltb (self .repeating .list .count) (self .reading .list .count) ∷ arcChecks (settingHeld self) (arcHeld arc)) ⌝ }
     {
         let reading = self.reading;
         let numbering = self.numbering;
@@ -274,28 +274,20 @@ impl State {
         if reading.list.count <= repeating.list.count {
             return 6;
         }
-        let why = arc_check(st, arc);
-        if why != 0 {
-            return why;
-        }
-        let marks = numbering.marks;
-        let ends = ends_of(potentials, marks, arc);
-        load_check(row_of(st.question, numbering.claim), ends, arc, x)
+        arc_check(st, arc)
     }
 
-    // The state with one arc more repeated.
-    fn with_repeat(mut self, arc: Record, x: u32) -> State
+    // The state with one arc more repeated, which leads from mark 1 to mark 0 or does not.
+    fn with_repeat(mut self, crossing: bool, arc: Record, x: u32) -> State
         requires { ⌜ self .repeating .list .count < self .reading .list .count ⌝ }
         requires { ⌜ arc .weight ≤ 32767 ⌝ }
         requires { ⌜ x ≤ 32767 ⌝ }
+        requires { ⌜ crossing ≡ crosses (marksHeld self) (arcHeld arc) ⌝ }
         ensures { λ r. ⌜ r ≡ withRepeat self (loadHeld arc x) ⌝ }
     {
         let reading = self.reading;
-        let numbering = self.numbering;
         let repeating = self.repeating;
         let question = question_of(reading.setting.question as u32);
-        let marks = numbering.marks;
-        let crossing = leads_out(is_marked(marks, arc.tail), is_marked(marks, arc.head));
         let next = Repeating {
             list: with_arc(reading.point, repeating.list, reading.list.count, arc),
             cost: cost_after(repeating.cost, unit_cost(question, arc), x),
@@ -309,15 +301,28 @@ impl State {
     pub fn repeat_channel(self, potentials: &[i32; 255], arc: Record, x: u32) -> Turn
         ensures { λ r. ⌜ r ≡ repeatTurn self (at (now (potentials .entry))) (loadHeld arc x) ⌝ }
     {
-        let why = self.repeat_check(potentials, arc, x);
+        let reading = self.reading;
+        let numbering = self.numbering;
+        let refused = self.repeat_check(arc);
+        if refused != 0 {
+            return Turn {
+                state: self,
+                why: refused,
+            };
+        }
+        let row = row_of(reading.setting.question, numbering.claim);
+        let marks = numbering.marks;
+        let ends = ends_of(potentials, marks, arc);
+        let why = load_check(row, ends, arc, x);
         if why != 0 {
             return Turn {
                 state: self,
                 why: why,
             };
         }
+        let crossing = leads_out(ends.tail_marked, ends.head_marked);
         Turn {
-            state: self.with_repeat(arc, x),
+            state: self.with_repeat(crossing, arc, x),
             why: 0,
         }
     }

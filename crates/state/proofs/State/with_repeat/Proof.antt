@@ -1,7 +1,6 @@
 -- `state::State::with_repeat` meets its contract.
 -- Assumes nothing.
 use mathlib.Core.Path.{_∙_, ap, ap₂}
-use mathlib.Core.Bool.{Bool, not, _&&_}
 use native.Mathlib.Omega.{arith}
 use lib.IntN.{ℤ, pos}
 use mir.Syntax.{w64}
@@ -22,15 +21,6 @@ cast-question-of c = search needs
 question-of-requires : tie.Need-question-of-requires
 question-of-requires c κs = search needs
 
-is-marked-requires : tie.Need-is-marked-requires
-is-marked-requires c κs = search needs
-
-is-marked-requires-2 : tie.Need-is-marked-requires-2
-is-marked-requires-2 c κs = search needs
-
-leads-out-requires : tie.Need-leads-out-requires
-leads-out-requires c κs = search needs
-
 with-arc-requires : tie.Need-with-arc-requires
 with-arc-requires c κs = search needs
 
@@ -39,8 +29,8 @@ unit-cost-requires c κs = search needs
 
 cost-after-requires : tie.Need-cost-after-requires
 cost-after-requires c κs =
-    let s = c .before .before .before .before .before .before .before .before .before .before .before .before in
-    (rw (c .before .unit-cost .ensures, c .before .before .before .before .before .before .before .question-of .ensures) (cost-small (asks (settingHeld (s .args .self))) (arcHeld (s .args .arc)) (s .pre .1 .0)), s .pre .1 .1)
+    let s = c .before .before .before .before .before .before .before in
+    (rw (c .before .unit-cost .ensures, c .before .before .before .question-of .ensures) (cost-small (asks (settingHeld (s .args .self))) (arcHeld (s .args .arc)) (s .pre .1 .0)), s .pre .1 .1 .0)
 
 units-most-requires : tie.Need-units-most-requires
 units-most-requires c κs = search needs
@@ -50,16 +40,15 @@ cut-after-requires c κs = search needs
 
 returns : tie.Need-returns
 returns c =
-    let s = c .before .before .before .before .before .before .before .before .before .before .before .before .before .before .before .before in
+    let s = c .before .before .before .before .before .before .before .before .before .before .before in
     let x = s .args .self in
-    let q = c .before .before .before .before .before .before .before .before .before .before .before .question-of .ensures in
+    let q = c .before .before .before .before .before .before .before .question-of .ensures in
     let cost = c .before .before .before .cost-after in
     repeat-done x (loadHeld (s .args .arc) (s .args .x)) (c .before .before .before .before .before .before .with-arc .ensures)
     (back w64 (cost .result) (cost .ok) ∙ cost .ensures
     ∙ ap₂ (λ (z : ℤ) (u : ℕ). boundedSum z (pos (s .args .x * u))) (back w64 (x .repeating .cost) (omega (arith, c .before .before .before .before .struct-told .given))) (c .before .before .before .before .before .unit-cost .ensures ∙ ap (λ (k : Question). unitCost k (arcHeld (s .args .arc))) q))
     (back w64 (c .cut-after .result) (c .cut-after .ok) ∙ c .cut-after .ensures
-    ∙ cut-read (back w64 (x .repeating .cut) (omega (arith, c .before .struct-told2 .given))) (c .before .before .units-most .ensures ∙ ap (λ (k : Question). unitsMost k (arcHeld (s .args .arc))) q)
-    (c .before .before .before .before .before .before .before .leads-out .ensures ∙ ap₂ (λ (m k : Bool). m && not k) (c .before .before .before .before .before .before .before .before .before .is-marked .ensures) (c .before .before .before .before .before .before .before .before .is-marked2 .ensures)))
+    ∙ cut-read (back w64 (x .repeating .cut) (omega (arith, c .before .struct-told2 .given))) (c .before .before .units-most .ensures ∙ ap (λ (k : Question). unitsMost k (arcHeld (s .args .arc))) q) (s .pre .1 .1 .1))
 
 pub with-repeat-spec : {M : Type 1} → statement M
-with-repeat-spec = tie.close (tie.spec cast-question-of question-of-requires is-marked-requires is-marked-requires-2 leads-out-requires with-arc-requires unit-cost-requires cost-after-requires units-most-requires cut-after-requires returns)
+with-repeat-spec = tie.close (tie.spec cast-question-of question-of-requires with-arc-requires unit-cost-requires cost-after-requires units-most-requires cut-after-requires returns)
