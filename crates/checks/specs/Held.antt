@@ -1,13 +1,8 @@
--- What the code holds of a setting, of a row of rules, and of the sums that finishing looks at, as the definitions of the network have them.
+-- What the code holds of a setting, of a question and of a row of rules, as the definitions of the network have them.
 -- Assumes nothing.
-use mathlib.Core.List.{List}
-use lib.IntN.{ℤ}
-use Rattle.prelude.specs.Lists.{at}
 use Rattle.network.specs.Question.{Setting, shortestPath, maximumFlow, assignment, unasked}
 use Rattle.network.specs.Question.{Question as Asked}
-use Rattle.network.specs.Certificate.{Sums, Rules, pathRules, flowRules, assignmentRules, noPathRules, noAssignmentRules, noRules}
-use Rattle.network.specs.Certificate.{Ends as EndsOfArc}
-use Rattle.checks.specs.declared.annotation.Ends.{Ends}
+use Rattle.network.specs.Certificate.{Rules, pathRules, flowRules, assignmentRules, noPathRules, noAssignmentRules, noRules}
 use Rattle.checks.specs.declared.Opening.{Opening}
 use Rattle.checks.specs.declared.HeldSetting.{HeldSetting}
 use Rattle.checks.specs.declared.rows.Question.{Question}
@@ -36,11 +31,3 @@ rulesHeld AssignmentValue = assignmentRules
 rulesHeld PathNone = noPathRules
 rulesHeld AssignmentNone = noAssignmentRules
 rulesHeld Nothing = noRules
-
--- What the ends of an arc have.
-abbrev pub endsHeld : Ends → EndsOfArc
-endsHeld e = record { tail-number = e .«tail_number»; head-number = e .«head_number»; tail-marked = e .«tail_marked»; head-marked = e .«head_marked» }
-
--- The sums that the code holds: one balance for each vertex, the total cost, the capacity of the cut.
-abbrev pub sumsHeld : List ℤ → ℤ → ℤ → Sums
-sumsHeld balances cost cut = record { balances = at balances; cost = cost; cut = cut }

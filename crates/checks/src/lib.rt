@@ -1,6 +1,4 @@
-// The numbered checks of a session, each as a total function whose contract is the test of the network's definitions.
-pub mod annotation;
-pub mod finishing;
+// The rows of rules, and the numbered checks of opening and reading, each as a total function whose contract is the test of the network's definitions.
 pub mod reading;
 pub mod rows;
 

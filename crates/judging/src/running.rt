@@ -12,7 +12,7 @@ use format::network_file;
 use state::Answer;
 use state::State;
 use state::Turn;
-use state::arrays::move_amount;
+use vertex_arrays::move_amount;
 
 // Reads the arcs of a network file.
 pub(crate) fn read_all(x: State, file: &[u8]) -> Turn

@@ -1,5 +1,8 @@
 // The secret point of a session and the fingerprint taken at it. Nothing else knows how many points there are.
 ghost use mathlib.Core.Path.{_≡_};
+ghost use mathlib.Core.List.{[], _∷_};
+ghost use lib.Dec.{leb};
+ghost use Rattle.prelude.specs.Checks.{_unless_, firstBroken};
 ghost use Rattle.network.specs.Network.{arcHeld, key};
 ghost use Rattle.points.specs.Points.{pointOk, emptyPrint, extendPrint, samePrint};
 use network::Record;
@@ -12,6 +15,12 @@ pub struct Point {
 // The fingerprint of a list of arcs at a point: the residue of the product.
 pub struct Print {
     pub residue: u32,
+}
+
+// A list of arcs as the panel keeps it: how many they are, and their fingerprint at the point.
+pub struct Stream {
+    pub count: u32,
+    pub print: Print,
 }
 
 // 4: is it a point?
@@ -46,8 +55,25 @@ pub fn with_arc(point: Point, print: Print, arc: Record) -> Print
 }
 
 // 14: do the two fingerprints agree?
-pub fn is_same(first: Print, second: Print) -> bool
+fn is_same(first: Print, second: Print) -> bool
     ensures { λ r. ⌜ r ≡ samePrint first second ⌝ }
 {
     first.residue == second.residue
+}
+
+// The two lists of arcs at finishing: 0, or the number of the first check that refuses them, 13 or 14.
+pub fn lists_check(read: Stream, repeated: Stream) -> u8
+    ensures { λ r. ⌜ r ≡ firstBroken (13 unless leb (read .count) (repeated .count) ∷ 14 unless samePrint (read .print) (repeated .print) ∷ []) ⌝ }
+{
+    let m = read.count;
+    let count = repeated.count;
+    let first = read.print;
+    let second = repeated.print;
+    if count < m {
+        return 13;
+    }
+    if !is_same(first, second) {
+        return 14;
+    }
+    0
 }

@@ -1,4 +1,5 @@
 pub mod Choice
+pub mod Tested
 pub mod Settle
 pub mod Booleans
 pub mod Integers

@@ -19,7 +19,7 @@ use Rattle.points.specs.Points.{printOf}
 use Rattle.points.specs.declared.Point.{Point}
 use Rattle.state.specs.Answers.{Said, accepted, gives, refused}
 use Rattle.state.specs.State.{marksAfter, stateOf, held}
-use Rattle.state.specs.declared.Stream.{Stream}
+use Rattle.points.specs.declared.Stream.{Stream}
 use Rattle.session.specs.Session.{joined, holding, void}
 use Rattle.session.specs.declared.Session.{Session}
 use Rattle.runs.specs.Run.{Step, read, end, claim, number, repeat, finish, withArc}

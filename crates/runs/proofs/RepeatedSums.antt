@@ -25,7 +25,7 @@ use Rattle.network.specs.Certificate.{Claim, ofValue, ofNone, rulesFor}
 use Rattle.network.proofs.Append.{sumOf-snoc, arcs-snoc, across-snoc, balance-snoc, sumOf-most, across-most}
 use Rattle.network.proofs.Sound.{balance-parts}
 use Rattle.network.proofs.Sums.{Compared, compared, sumOf-none}
-use Rattle.state.specs.Arrays.{takenAt, moved}
+use Rattle.vertex_arrays.specs.Arrays.{takenAt, moved}
 use Rattle.runs.proofs.VertexArrays.{length-listTo, at-listTo, listTo-is, changed}
 
 -- a load between vertices that there are, and with numbers no larger than the greatest weight

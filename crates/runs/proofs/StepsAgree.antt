@@ -19,12 +19,12 @@ use Rattle.network.specs.Question.{Setting, asks, unitCost, unitsMost, Opened}
 use Rattle.network.specs.Certificate.{marked, Sums, rulesOf}
 use Rattle.network.specs.Tests.{readingChecks, claimOf, claimingChecks, Numbers, numberingChecks, repeatingChecks, balancesOk, sumsOk, finishingChecks, answerOf}
 use Rattle.network.proofs.Append.{arcs-snoc}
-use Rattle.points.specs.Points.{printOf, samePrint}
+use Rattle.points.specs.Points.{printOf, samePrint, extendStream}
 use Rattle.points.specs.declared.Point.{Point}
 use Rattle.points.proofs.Prints.{print-none, print-more}
 use Rattle.state.specs.Answers.{Said, accepted, gives, refused, answered}
-use Rattle.state.specs.Arrays.{moved}
-use Rattle.state.specs.State.{extendStream, stateOf, held, numbersHeld, withRead, withClaim, withNumber, withRepeat}
+use Rattle.vertex_arrays.specs.Arrays.{moved}
+use Rattle.state.specs.State.{stateOf, held, numbersHeld, withRead, withClaim, withNumber, withRepeat}
 use Rattle.state.specs.declared.Answer.{Answer}
 use Rattle.state.specs.declared.Answer.the-variants.{Accepted, Refused}
 use Rattle.session.specs.Session.{potentialsIn, sumsIn, joined, holding, void, withState, hand, accept, refuse}

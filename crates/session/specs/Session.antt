@@ -10,13 +10,13 @@ use Rattle.prelude.specs.Lists.{at}
 use Rattle.network.specs.Limits.{mostVertices}
 use Rattle.network.specs.Certificate.{Sums}
 use Rattle.points.specs.declared.Point.{Point}
-use Rattle.checks.specs.Held.{sumsHeld}
+use Rattle.rules.specs.Held.{sumsHeld}
 use Rattle.checks.specs.declared.HeldSetting.{HeldSetting}
 use Rattle.state.specs.State.{isClaimed, begun, idle}
 use Rattle.state.specs.declared.Answer.{Answer}
 use Rattle.state.specs.declared.Answer.the-variants.{Accepted, Refused}
 use Rattle.state.specs.declared.State.{State}
-use Rattle.state.specs.declared.Stream.{Stream}
+use Rattle.points.specs.declared.Stream.{Stream}
 use Rattle.session.specs.declared.Reply.{Reply}
 use Rattle.session.specs.declared.Session.{Session}
 

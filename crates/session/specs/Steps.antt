@@ -9,7 +9,7 @@ use Rattle.network.specs.Question.{Setting}
 use Rattle.network.specs.Tests.{answerOf}
 use Rattle.points.specs.declared.Point.{Point}
 use Rattle.state.specs.Answers.{answered}
-use Rattle.state.specs.Arrays.{moved}
+use Rattle.vertex_arrays.specs.Arrays.{moved}
 use Rattle.state.specs.State.{settingHeld, claimHeld, openChecks, opened, readChecks, withRead, endChecks, withEnd, claimChecks, withClaim, numberChecks, withNumber, repeatChecks, withRepeat, finishChecks}
 use Rattle.state.specs.declared.Answer.the-variants.{Refused}
 use Rattle.session.specs.Session.{potentialsIn, sumsIn, joined, zeros, void, withState, hand, accept, refuse}

@@ -7,7 +7,7 @@ ghost use lib.ListN.{set};
 ghost use Rattle.prelude.specs.Choice.{pick};
 ghost use Rattle.network.specs.Network.{arcOf, loadOf};
 ghost use Rattle.checks.specs.Held.{handed};
-ghost use Rattle.state.specs.Arrays.{moved};
+ghost use Rattle.vertex_arrays.specs.Arrays.{moved};
 ghost use Rattle.state.specs.State.{isClaimed};
 ghost use Rattle.state.specs.declared.Answer.the-variants.{Accepted, Refused};
 ghost use Rattle.session.specs.Session.{zeros, void, refuse};
@@ -17,8 +17,8 @@ use network::Record;
 use points::Point;
 use state::Answer;
 use state::State;
-use state::arrays::move_amount;
 use state::groups::idle;
+use vertex_arrays::move_amount;
 
 // The state stands last: so a step that touches nothing else is compiled without a copy of the arrays.
 pub struct Session {

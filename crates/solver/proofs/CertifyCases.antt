@@ -7,7 +7,7 @@ use Prim.Native.Nat.{ℕ}
 use native.Mathlib.Omega.{arith}
 use lib.IntN.{ℤ}
 use lib.ListN.{length, take}
-use Rattle.checks.proofs.Laws.{passed, refused as failed}
+use Rattle.prelude.proofs.Tested.{passed, refused as failed}
 use Rattle.network.specs.Limits.{mostVertices}
 use Rattle.network.specs.Network.{Arc, wordArcs}
 use Rattle.network.specs.Question.{Setting}

@@ -15,22 +15,23 @@ use Rattle.prelude.specs.Choice.{pick, indicator}
 use Rattle.prelude.specs.Lists.{at}
 use Rattle.prelude.specs.Sums.{allTo}
 use Rattle.words.specs.Bounded.{small, boundedSum}
+use Rattle.prelude.proofs.Choice.{on}
 use Rattle.prelude.proofs.Integers.{signed, parts-add}
 use Rattle.prelude.proofs.Settle.{settled, hold-left, Numbered, none-broken, part-refused, part-passed}
 use Rattle.network.specs.Network.{Arc, Load, arcHeld, loadHeld}
 use Rattle.network.specs.Question.{Question, shortestPath, maximumFlow, assignment, unasked, Setting, asks, EndsFor, Opened, unitCost}
-use Rattle.network.specs.Certificate.{Claim, ofValue, ofNone, Ends, endsOf, Rules, rulesFor, rulesOf}
-use Rattle.network.specs.Tests.{openingChecks, arcChecks, balancesOk, sumsOk}
+use Rattle.network.specs.Certificate.{Claim, ofValue, ofNone, Ends, endsOf, Sums, Rules, rulesFor, rulesOf}
+use Rattle.network.specs.Tests.{openingChecks, arcChecks}
 use Rattle.network.specs.declared.Record.{Record}
 use Rattle.network.proofs.Allowed.{asked-least, opening-rule, weight-rule}
-use Rattle.points.specs.Points.{pointOk}
+use Rattle.points.specs.Points.{pointOk, samePrint, extendStream}
 use Rattle.points.specs.declared.Point.{Point}
-use Rattle.checks.specs.Held.{sumsHeld}
-use Rattle.state.specs.State.{isClaimed, settingHeld, claimHeld, marksHeld, numbersHeld, extendStream, marksAfter, numberMore, repeatMore, stateOf, openChecks, withRead, repeatChecks, withRepeat}
+use Rattle.points.specs.declared.Stream.{Stream}
+use Rattle.rules.specs.Held.{sumsHeld}
+use Rattle.state.specs.State.{isClaimed, settingHeld, claimHeld, marksHeld, marksAfter, numberMore, repeatMore, stateOf, openChecks, withRead, repeatChecks, withRepeat, finishChecks}
 use Rattle.state.specs.Turns.{turned}
 use Rattle.state.specs.declared.Numbering.{Numbering}
 use Rattle.state.specs.declared.State.{State}
-use Rattle.state.specs.declared.Stream.{Stream}
 use Rattle.state.specs.declared.Turn.{Turn}
 
 -- ---- groups
@@ -170,12 +171,37 @@ module _ (x : State) (y : ℕ → ℤ) (arc : Record) (v : ℕ) (first : ℕ) (f
       broken-later (arcPart x (arcHeld arc)) loads (refl, (refl, (refl, (refl, (refl, tt))))) first found z second
       (g ∙ λ i. firstBroken (loadPart (e i) (f i) (loadHeld arc v)))
 
--- the balances and the sums, by the row and the sums that were found
-pub totals-read : (x : State) (ys bs : List ℤ) {rules : Rules} {k c : ℤ}
-    → rules ≡ rulesOf (settingHeld x) (claimHeld x) → k ≡ x .repeating .cost → c ≡ x .repeating .cut
-    → firstBroken (15 unless allTo (x .reading .setting .n) (λ v. rules .onBalance (settingHeld x) v (at bs v)) ∷ 16 unless rules .onSums (settingHeld x) (at ys) (marksHeld x) (sumsHeld bs k c) ∷ [])
-    ≡ firstBroken (15 unless balancesOk (settingHeld x) (claimHeld x) (sumsHeld bs (x .repeating .cost) (x .repeating .cut)) ∷ 16 unless sumsOk (settingHeld x) (numbersHeld x (at ys)) (sumsHeld bs (x .repeating .cost) (x .repeating .cut)) ∷ [])
-totals-read x ys bs e f g = λ i. firstBroken (15 unless allTo (x .reading .setting .n) (λ v. e i .onBalance (settingHeld x) v (at bs v)) ∷ 16 unless e i .onSums (settingHeld x) (at ys) (marksHeld x) (sumsHeld bs (f i) (g i)) ∷ [])
+-- finishing: the checks on the two lists, and after them those on the balances and the sums
+abbrev listPart : State → List Check
+listPart x = 13 unless leb (x .reading .list .count) (x .repeating .list .count) ∷ 14 unless samePrint (x .reading .list .print) (x .repeating .list .print) ∷ []
+
+abbrev totalPart : State → Rules → List ℤ → Sums → List Check
+totalPart x rules ys u =
+    15 unless allTo (x .reading .setting .n) (λ v. rules .onBalance (settingHeld x) v (u .balances v))
+    ∷ 16 unless rules .onSums (settingHeld x) (at ys) (marksHeld x) u
+    ∷ []
+
+-- `first` was found of the checks on the lists
+module _ (x : State) (ys bs : List ℤ) (claimed : isClaimed x ≡ true) (full : eqb (x .numbering .given) (x .reading .setting .n) ≡ true) (first : ℕ) (found : first ≡ firstBroken (listPart x)) where
+  abbrev sums : Sums
+  sums = sumsHeld bs (x .repeating .cost) (x .repeating .cut)
+
+  abbrev totals : List Check
+  totals = totalPart x (rulesOf (settingHeld x) (claimHeld x)) ys sums
+
+  ready : (k : ℕ) → k ≡ firstBroken (listPart x ++ totals) → k ≡ firstBroken (finishChecks x (at ys) sums)
+  ready k e =
+      on ℕ k (firstBroken (5 unless eqb (x .numbering .given) (x .reading .setting .n) ∷ (listPart x ++ totals))) 5 (isClaimed x) claimed
+      (on ℕ k (firstBroken (listPart x ++ totals)) 5 (eqb (x .numbering .given) (x .reading .setting .n)) full e)
+
+  pub lists-broken : (first ≡ 0 → ⊥) → first ≡ firstBroken (finishChecks x (at ys) sums)
+  lists-broken h = ready first (broken-first (listPart x) totals (refl, (refl, tt)) first found h)
+
+  -- `second` was found of those on the balances and the sums, by the row and the sums that were found
+  pub totals-broken : first ≡ 0 → {rules : Rules} {k c : ℤ} → rules ≡ rulesOf (settingHeld x) (claimHeld x) → k ≡ x .repeating .cost → c ≡ x .repeating .cut
+      → (second : ℕ) → second ≡ firstBroken (totalPart x rules ys (sumsHeld bs k c)) → second ≡ firstBroken (finishChecks x (at ys) sums)
+  totals-broken z e f g second h =
+      ready second (broken-later (listPart x) totals (refl, (refl, tt)) first found z second (h ∙ λ i. firstBroken (totalPart x (e i) ys (sumsHeld bs (f i) (g i)))))
 
 -- ---- one arc more repeated
 

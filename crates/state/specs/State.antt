@@ -15,15 +15,15 @@ use Rattle.network.specs.Network.{Arc, Load, crosses}
 use Rattle.network.specs.Question.{Setting, asks, unitCost, unitsMost}
 use Rattle.network.specs.Certificate.{Claim, Sums}
 use Rattle.network.specs.Tests.{openingChecks, readingChecks, claimOf, claimingChecks, Numbers, numberingChecks, repeatingChecks, finishingChecks}
-use Rattle.points.specs.Points.{pointOk, emptyPrint, extendPrint, samePrint}
+use Rattle.points.specs.Points.{pointOk, samePrint, emptyStream, extendStream}
 use Rattle.points.specs.declared.Point.{Point}
+use Rattle.points.specs.declared.Stream.{Stream}
 use Rattle.checks.specs.Held.{asked}
 use Rattle.checks.specs.declared.HeldSetting.{HeldSetting}
 use Rattle.state.specs.declared.Numbering.{Numbering}
 use Rattle.state.specs.declared.Reading.{Reading}
 use Rattle.state.specs.declared.Repeating.{Repeating}
 use Rattle.state.specs.declared.State.{State}
-use Rattle.state.specs.declared.Stream.{Stream}
 
 -- ---- what a state says
 
@@ -49,14 +49,6 @@ marksHeld x = isMarked (x .numbering .marks)
 
 abbrev pub numbersHeld : State → (ℕ → ℤ) → Numbers
 numbersHeld x y = record { claim = claimHeld x; given = x .numbering .given; number = y; mark = marksHeld x }
-
--- ---- lists of arcs, as the panel keeps them: how many they are, and their fingerprint
-
-abbrev pub emptyStream : Stream
-emptyStream = record { count = 0; print = emptyPrint }
-
-abbrev pub extendStream : Point → Stream → Arc → Stream
-extendStream r m e = record { count = m .count + 1; print = extendPrint r (m .print) e }
 
 -- ---- what a step makes of each group
 

@@ -6,15 +6,16 @@ ghost use lib.IntN.{pos};
 ghost use Rattle.prelude.specs.Choice.{indicator};
 ghost use Rattle.words.specs.Bounded.{boundedSum};
 ghost use Rattle.network.specs.Network.{arcHeld};
-ghost use Rattle.state.specs.State.{emptyStream, extendStream, claimed, numberMore, unrepeated, begun, idle};
+ghost use Rattle.points.specs.Points.{emptyStream, extendStream};
+ghost use Rattle.state.specs.State.{claimed, numberMore, unrepeated, begun, idle};
 use super::Numbering;
 use super::Reading;
 use super::Repeating;
 use super::State;
-use super::Stream;
 use checks::HeldSetting;
 use network::Record;
 use points::Point;
+use points::Stream;
 use words::marks::with_mark;
 use words::signed::increase;
 

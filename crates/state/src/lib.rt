@@ -10,15 +10,13 @@ ghost use Rattle.prelude.specs.Choice.{pick};
 ghost use Rattle.prelude.specs.Lists.{at};
 ghost use Rattle.network.specs.Network.{arcHeld, loadHeld, crosses};
 ghost use Rattle.network.specs.Tests.{arcChecks, answerOf};
-ghost use Rattle.checks.specs.Held.{handed, rulesHeld, sumsHeld};
+ghost use Rattle.checks.specs.Held.{handed, rulesHeld};
+ghost use Rattle.rules.specs.Held.{sumsHeld};
 ghost use Rattle.state.specs.Answers.{answered};
 ghost use Rattle.state.specs.State.{isClaimed, settingHeld, claimHeld, marksHeld, idle, withRepeat, finishChecks};
 ghost use Rattle.state.specs.Turns.{openTurn, readTurn, endTurn, claimTurn, numberTurn, repeatTurn};
-use arrays::ends_of;
-use arrays::store_at;
 use checks::HeldSetting;
 use checks::Opening;
-use checks::annotation::claim_ok;
 use checks::reading::arc_check;
 use checks::rows::Row;
 use checks::rows::question_of;
@@ -35,16 +33,18 @@ use groups::with_arc;
 use groups::with_number;
 use network::Record;
 use points::Point;
-use points::Print;
-use refusals::lists_check;
-use refusals::load_check;
+use points::Stream;
+use points::lists_check;
 use refusals::number_check;
 use refusals::open_check;
 use refusals::read_check;
-use refusals::totals_check;
+use rules::annotation::claim_ok;
+use rules::annotation::load_check;
+use rules::finishing::totals_check;
+use vertex_arrays::ends_of;
+use vertex_arrays::store_at;
 use words::signed::to_unsigned;
 
-pub mod arrays;
 pub mod groups;
 mod refusals;
 
@@ -54,12 +54,6 @@ pub enum Answer {
     Value(u64),
     None,
     Refused(u8),
-}
-
-// A list of arcs as the panel keeps it: how many they are, and their fingerprint at the point.
-pub struct Stream {
-    count: u32,
-    print: Print,
 }
 
 // What opening and reading fix.

@@ -1,6 +1,6 @@
 -- `session::clear_balances` meets its contract.
 -- Assumes nothing.
-use Rattle.checks.proofs.Laws.{tested}
+use Rattle.prelude.proofs.Tested.{tested}
 use Rattle.session.proofs.clear_balances.Statement.{statement}
 use Rattle.session.proofs.clear_balances.Tie as tie
 

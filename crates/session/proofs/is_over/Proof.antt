@@ -1,7 +1,7 @@
 -- `session::is_over` meets its contract.
 -- Assumes nothing.
 use borrow.Author.Needs.{needs}
-use Rattle.checks.proofs.Laws.{tested}
+use Rattle.prelude.proofs.Tested.{tested}
 use Rattle.session.proofs.is_over.Statement.{statement}
 use Rattle.session.proofs.is_over.Tie as tie
 

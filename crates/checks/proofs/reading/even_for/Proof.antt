@@ -1,7 +1,7 @@
 -- `checks::reading::even_for` meets its contract.
 -- Assumes nothing.
 use borrow.Author.Needs.{needs}
-use Rattle.checks.proofs.Laws.{tested}
+use Rattle.prelude.proofs.Tested.{tested}
 use Rattle.checks.proofs.reading.even_for.Statement.{statement}
 use Rattle.checks.proofs.reading.even_for.Tie as tie
 

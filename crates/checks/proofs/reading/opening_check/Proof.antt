@@ -1,7 +1,7 @@
 -- `checks::reading::opening_check` meets its contract.
 -- Assumes nothing.
 use borrow.Author.Needs.{needs}
-use Rattle.checks.proofs.Laws.{tested}
+use Rattle.prelude.proofs.Tested.{tested}
 use Rattle.checks.proofs.reading.opening_check.Statement.{statement}
 use Rattle.checks.proofs.reading.opening_check.Tie as tie
 

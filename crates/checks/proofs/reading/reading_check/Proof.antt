@@ -1,7 +1,7 @@
 -- `checks::reading::reading_check` meets its contract.
 -- Assumes nothing.
 use borrow.Author.Needs.{needs}
-use Rattle.checks.proofs.Laws.{tested}
+use Rattle.prelude.proofs.Tested.{tested}
 use Rattle.checks.proofs.reading.reading_check.Statement.{statement}
 use Rattle.checks.proofs.reading.reading_check.Tie as tie
 

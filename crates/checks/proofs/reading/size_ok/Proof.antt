@@ -1,7 +1,7 @@
 -- `checks::reading::size_ok` meets its contract.
 -- Assumes nothing.
 use borrow.Author.Needs.{needs}
-use Rattle.checks.proofs.Laws.{tested}
+use Rattle.prelude.proofs.Tested.{tested}
 use Rattle.checks.proofs.reading.size_ok.Statement.{statement}
 use Rattle.checks.proofs.reading.size_ok.Tie as tie
 

@@ -1,6 +1,6 @@
 -- `checks::reading::two_vertices` meets its contract.
 -- Assumes nothing.
-use Rattle.checks.proofs.Laws.{tested}
+use Rattle.prelude.proofs.Tested.{tested}
 use Rattle.checks.proofs.reading.two_vertices.Statement.{statement}
 use Rattle.checks.proofs.reading.two_vertices.Tie as tie
 

@@ -8,7 +8,7 @@ use borrow.Author.Needs.{needs}
 use Rattle.prelude.specs.Lists.{at}
 use Rattle.network.specs.Network.{Load}
 use Rattle.session.specs.Session.{joined}
-use Rattle.state.specs.Arrays.{moved}
+use Rattle.vertex_arrays.specs.Arrays.{moved}
 use Rattle.state.specs.Turns.{repeatTurn}
 use Rattle.session.proofs.TurnsToSteps.{repeat-refused, repeat-accepted}
 use Rattle.runs.specs.Run.{repeat}

@@ -1,7 +1,7 @@
 -- `state::State::claim` meets its contract.
 -- Assumes nothing.
 use borrow.Author.Needs.{needs}
-use Rattle.checks.proofs.Laws.{tested}
+use Rattle.prelude.proofs.Tested.{tested}
 use Rattle.state.specs.Turns.{claimTurn}
 use Rattle.state.proofs.State.claim.Statement.{statement}
 use Rattle.state.proofs.State.claim.Tie as tie

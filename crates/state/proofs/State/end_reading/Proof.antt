@@ -1,6 +1,6 @@
 -- `state::State::end_reading` meets its contract.
 -- Assumes nothing.
-use Rattle.checks.proofs.Laws.{tested}
+use Rattle.prelude.proofs.Tested.{tested}
 use Rattle.state.specs.Turns.{endTurn}
 use Rattle.state.proofs.State.end_reading.Statement.{statement}
 use Rattle.state.proofs.State.end_reading.Tie as tie

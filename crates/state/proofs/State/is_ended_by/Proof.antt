@@ -1,6 +1,6 @@
 -- `state::State::is_ended_by` meets its contract.
 -- Assumes nothing.
-use Rattle.checks.proofs.Laws.{tested}
+use Rattle.prelude.proofs.Tested.{tested}
 use Rattle.state.proofs.State.is_ended_by.Statement.{statement}
 use Rattle.state.proofs.State.is_ended_by.Tie as tie
 

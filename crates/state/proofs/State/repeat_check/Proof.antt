@@ -5,7 +5,7 @@ use borrow.Author.Needs.{needs}
 use borrow.Author.Tests.{eq-eqb, lt-ltb}
 use lib.Dec.{eqb, ltb}
 use Rattle.prelude.proofs.Choice.{on}
-use Rattle.checks.proofs.Laws.{tested}
+use Rattle.prelude.proofs.Tested.{tested}
 use Rattle.state.specs.State.{isClaimed}
 use Rattle.state.proofs.State.repeat_check.Statement.{statement}
 use Rattle.state.proofs.State.repeat_check.Tie as tie

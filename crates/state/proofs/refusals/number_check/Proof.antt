@@ -1,7 +1,7 @@
 -- `state::refusals::number_check` meets its contract.
 -- Assumes nothing.
 use mir.Facts.{toZ-ofZ}
-use Rattle.checks.proofs.Laws.{tested}
+use Rattle.prelude.proofs.Tested.{tested}
 use borrow.Author.Needs.{needs}
 use Rattle.state.proofs.refusals.number_check.Statement.{statement}
 use Rattle.state.proofs.refusals.number_check.Tie as tie

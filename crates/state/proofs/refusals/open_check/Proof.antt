@@ -6,7 +6,7 @@ use Rattle.prelude.specs.Checks.{_unless_}
 use Rattle.network.specs.Tests.{openingChecks}
 use Rattle.points.specs.Points.{pointOk}
 use Rattle.checks.specs.Held.{handed}
-use Rattle.checks.proofs.Laws.{tested}
+use Rattle.prelude.proofs.Tested.{tested}
 use Rattle.state.proofs.Laws.{broken-first, broken-later}
 use borrow.Author.Needs.{needs}
 use Rattle.state.proofs.refusals.open_check.Statement.{statement}

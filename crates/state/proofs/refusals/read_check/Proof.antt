@@ -1,7 +1,7 @@
 -- `state::refusals::read_check` meets its contract.
 -- Assumes nothing.
 use borrow.Author.Needs.{needs}
-use Rattle.checks.proofs.Laws.{tested}
+use Rattle.prelude.proofs.Tested.{tested}
 use Rattle.state.proofs.refusals.read_check.Statement.{statement}
 use Rattle.state.proofs.refusals.read_check.Tie as tie
 
