@@ -304,10 +304,14 @@ impl State {
                 why: refused,
             };
         }
-        let row = row_of(reading.setting.question, numbering.claim);
         let marks = numbering.marks;
         let ends = ends_of(potentials, marks, arc);
-        let why = load_check(row, ends, arc, x);
+        let why = load_check(
+            row_of(reading.setting.question, numbering.claim),
+            ends,
+            arc,
+            x,
+        );
         if why != 0 {
             return Turn {
                 state: self,

@@ -24,11 +24,11 @@ returns c =
     turn-refused (s .self) (withRepeat (s .self) (loadHeld (s .arc) (s .x))) (repeatChecks (s .self) (at (s .potentials .now)) (loadHeld (s .arc) (s .x))) (refl, (refl, (refl, (refl, (refl, (refl, (refl, tt)))))))
     (w .result) (arc-broken (s .self) (at (s .potentials .now)) (s .arc) (s .x) (w .result) (w .ensures) (c .if1 .taken)) (c .if1 .taken)
 
-row-of-requires : tie.Need-row-of-requires
-row-of-requires c κs = search needs
-
 ends-of-requires : tie.Need-ends-of-requires
 ends-of-requires c κs = search needs
+
+row-of-requires : tie.Need-row-of-requires
+row-of-requires c κs = search needs
 
 load-check-requires : tie.Need-load-check-requires
 load-check-requires c κs = search needs
@@ -39,7 +39,7 @@ returns-2 c =
     let s = c .before .before .before .before .before .before .before .before .before .args in
     let w = c .before .before .before .before .before .before .repeat-check in
     let l = c .before .load-check in
-    let found = load-broken (s .self) (at (s .potentials .now)) (s .arc) (s .x) (w .result) (w .ensures) (c .before .before .before .before .before .if1 .left) (c .before .before .before .before .row-of .ensures) (c .before .before .ends-of .ensures) (l .result) (l .ensures) in
+    let found = load-broken (s .self) (at (s .potentials .now)) (s .arc) (s .x) (w .result) (w .ensures) (c .before .before .before .before .before .if1 .left) (c .before .before .row-of .ensures) (c .before .before .before .ends-of .ensures) (l .result) (l .ensures) in
     turn-refused (s .self) (withRepeat (s .self) (loadHeld (s .arc) (s .x))) (repeatChecks (s .self) (at (s .potentials .now)) (loadHeld (s .arc) (s .x))) (refl, (refl, (refl, (refl, (refl, (refl, (refl, tt))))))) (l .result) found (c .if2 .taken)
 
 leads-out-requires : tie.Need-leads-out-requires
@@ -50,10 +50,10 @@ with-repeat-requires c κs =
     let s = c .before .before .before .before .before .before .before .before .before .before .args in
     let w = c .before .before .before .before .before .before .before .repeat-check in
     let l = c .before .before .load-check in
-    let found = load-broken (s .self) (at (s .potentials .now)) (s .arc) (s .x) (w .result) (w .ensures) (c .before .before .before .before .before .before .if1 .left) (c .before .before .before .before .before .row-of .ensures) (c .before .before .before .ends-of .ensures) (l .result) (l .ensures) in
+    let found = load-broken (s .self) (at (s .potentials .now)) (s .arc) (s .x) (w .result) (w .ensures) (c .before .before .before .before .before .before .if1 .left) (c .before .before .before .row-of .ensures) (c .before .before .before .before .ends-of .ensures) (l .result) (l .ensures) in
     let h = turn-holds (s .self) (withRepeat (s .self) (loadHeld (s .arc) (s .x))) (repeatChecks (s .self) (at (s .potentials .now)) (loadHeld (s .arc) (s .x))) (refl, (refl, (refl, (refl, (refl, (refl, (refl, tt))))))) (l .result) found (c .before .if2 .left) in
     let k = load-limits (s .self) (at (s .potentials .now)) (s .arc) (s .x) h in
-    let e = c .before .before .before .ends-of .ensures in
+    let e = c .before .before .before .before .ends-of .ensures in
     (k .room, (k .weight, (k .amount, c .leads-out .ensures ∙ ap₂ (λ (a b : Bool). a && not b) (ap (λ (u : Ends). u .tail-marked) e) (ap (λ (u : Ends). u .head-marked) e))))
 
 returns-3 : tie.Need-returns-3
@@ -62,8 +62,8 @@ returns-3 c =
     let s = c .before .before .before .before .before .before .before .before .before .before .before .args in
     let w = c .before .before .before .before .before .before .before .before .repeat-check in
     let l = c .before .before .before .load-check in
-    let found = load-broken (s .self) (at (s .potentials .now)) (s .arc) (s .x) (w .result) (w .ensures) (c .before .before .before .before .before .before .before .if1 .left) (c .before .before .before .before .before .before .row-of .ensures) (c .before .before .before .before .ends-of .ensures) (l .result) (l .ensures) in
+    let found = load-broken (s .self) (at (s .potentials .now)) (s .arc) (s .x) (w .result) (w .ensures) (c .before .before .before .before .before .before .before .if1 .left) (c .before .before .before .before .row-of .ensures) (c .before .before .before .before .before .ends-of .ensures) (l .result) (l .ensures) in
     turn-accepted (s .self) (withRepeat (s .self) (loadHeld (s .arc) (s .x))) (repeatChecks (s .self) (at (s .potentials .now)) (loadHeld (s .arc) (s .x))) (refl, (refl, (refl, (refl, (refl, (refl, (refl, tt))))))) (l .result) found (c .before .before .if2 .left) _ (c .with-repeat .ensures)
 
 pub repeat-channel-spec : {M : Type 1} → statement M
-repeat-channel-spec = tie.close (tie.spec repeat-check-requires returns row-of-requires ends-of-requires load-check-requires returns-2 leads-out-requires with-repeat-requires returns-3)
+repeat-channel-spec = tie.close (tie.spec repeat-check-requires returns ends-of-requires row-of-requires load-check-requires returns-2 leads-out-requires with-repeat-requires returns-3)
