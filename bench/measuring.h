@@ -56,18 +56,20 @@ static double now() {
     return (double)t.tv_sec * 1e3 + (double)t.tv_nsec * 1e-6;
 }
 
-/* The median time of each call: four turns of 0.05 s each, at least one call in a turn. The calls take turns, so that a busy machine
+/* The median time of each call. The calls take turns of so many milliseconds each, at least one call in a turn, so that a busy machine
    slows all of them alike. */
-static std::vector<double> medians(const std::vector<std::function<void()>> &calls) {
+static std::vector<double> medians(const std::vector<std::function<void()>> &calls, int turns = 4, double share = 50) {
     std::vector<std::vector<double>> times(calls.size());
-    for (int turn = 0; turn < 4; turn++)
-        for (size_t i = 0; i < calls.size(); i++)
-            for (double total = 0; total < 50;) {
+    for (int turn = 0; turn < turns; turn++)
+        for (size_t i = 0; i < calls.size(); i++) {
+            double total = 0;
+            do {
                 double before = now();
                 calls[i]();
                 times[i].push_back(now() - before);
                 total += times[i].back();
-            }
+            } while (total < share);
+        }
     std::vector<double> result;
     for (std::vector<double> &list : times) {
         std::sort(list.begin(), list.end());

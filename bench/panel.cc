@@ -64,12 +64,12 @@ static bool measure(const Instance &x, Plan p) {
     long long solved = 0, rebuilt = 0;
     std::vector<double> ms = medians({
         [&] { length = annotate(p); },
-        [&] { first = ours(p, POINT); },
-        [&] { second = in_c(p, POINT); },
         [&] { solved = lemon_answer(x, graph); },
         [&] { rebuilt = lemon_answer(x, Graph(x)); },
     });
-    double helper = ms[0], judge = ms[1], c = ms[2], lemon = ms[3], built = ms[4], both = helper + judge;
+    /* call by call: a slow moment of the machine then falls on both */
+    std::vector<double> judged = medians({[&] { first = ours(p, POINT); }, [&] { second = in_c(p, POINT); }}, 2000, 0);
+    double helper = ms[0], lemon = ms[1], built = ms[2], judge = judged[0], c = judged[1], both = helper + judge;
     std::printf("| %s | %.3f | %.3f | %.2f | %.3f | %.3f | %.3f | %.3f | %.2f | %.3f | %.2f |\n", x.name.c_str(), judge, c, judge / c,
                 judge * 1e3 / (double)x.arcs.size(), helper, both, lemon, both / lemon, built, both / built);
     std::fflush(stdout);
