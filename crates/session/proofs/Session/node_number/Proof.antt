@@ -13,27 +13,6 @@ use Rattle.state.specs.Turns.{numberTurn}
 use Rattle.session.proofs.Session.node_number.Statement.{statement}
 use Rattle.session.proofs.Session.node_number.Tie as tie
 
-node-number-requires : tie.Need-node-number-requires
-node-number-requires c κs = search needs
-
-is-over-requires : tie.Need-is-over-requires
-is-over-requires c κs = search needs
-
-store-accepted-requires : tie.Need-store-accepted-requires
-store-accepted-requires c κs = search needs
-
-clear-numbers-requires : tie.Need-clear-numbers-requires
-clear-numbers-requires c κs = search needs
-
-clear-balances-requires : tie.Need-clear-balances-requires
-clear-balances-requires c κs = search needs
-
-left-requires : tie.Need-left-requires
-left-requires c κs = search needs
-
-answer-to-requires : tie.Need-answer-to-requires
-answer-to-requires c κs = search needs
-
 returns : tie.Need-returns
 returns c =
     let s = c .before .before .before .before .before .before .before .before .before .before .before .before .args in
@@ -48,11 +27,11 @@ pub node-number-spec : {M : Type 1} → statement M
 node-number-spec =
     tie.close
     (tie.spec
-    node-number-requires
-    is-over-requires
-    store-accepted-requires
-    clear-numbers-requires
-    clear-balances-requires
-    left-requires
-    answer-to-requires
+    (λ c κs. search needs)
+    (λ c κs. search needs)
+    (λ c κs. search needs)
+    (λ c κs. search needs)
+    (λ c κs. search needs)
+    (λ c κs. search needs)
+    (λ c κs. search needs)
     returns)

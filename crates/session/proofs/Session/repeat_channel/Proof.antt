@@ -6,27 +6,6 @@ use borrow.Author.Needs.{needs}
 use Rattle.session.proofs.Session.repeat_channel.Statement.{statement}
 use Rattle.session.proofs.Session.repeat_channel.Tie as tie
 
-repeat-channel-requires : tie.Need-repeat-channel-requires
-repeat-channel-requires c κs = search needs
-
-is-over-requires : tie.Need-is-over-requires
-is-over-requires c κs = search needs
-
-move-accepted-requires : tie.Need-move-accepted-requires
-move-accepted-requires c κs = search needs
-
-clear-numbers-requires : tie.Need-clear-numbers-requires
-clear-numbers-requires c κs = search needs
-
-clear-balances-requires : tie.Need-clear-balances-requires
-clear-balances-requires c κs = search needs
-
-left-requires : tie.Need-left-requires
-left-requires c κs = search needs
-
-answer-to-requires : tie.Need-answer-to-requires
-answer-to-requires c κs = search needs
-
 returns : tie.Need-returns
 returns c =
     let s = c .before .before .before .before .before .before .before .before .before .before .before .before .before .before .args in
@@ -38,11 +17,11 @@ pub repeat-channel-spec : {M : Type 1} → statement M
 repeat-channel-spec =
     tie.close
     (tie.spec
-    repeat-channel-requires
-    is-over-requires
-    move-accepted-requires
-    clear-numbers-requires
-    clear-balances-requires
-    left-requires
-    answer-to-requires
+    (λ c κs. search needs)
+    (λ c κs. search needs)
+    (λ c κs. search needs)
+    (λ c κs. search needs)
+    (λ c κs. search needs)
+    (λ c κs. search needs)
+    (λ c κs. search needs)
     returns)
