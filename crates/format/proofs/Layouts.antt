@@ -1,46 +1,23 @@
--- The checks of a layout: `search tested` finds the first that is broken from the tests that a need is handed, and what they say of a file.
+-- What the checks of a layout say of a file.
 -- Assumes nothing.
-use mathlib.Core.Path.{_≡_, refl, sym, _∙_}
-use mathlib.Core.Bool.{Bool, true, false, _&&_}
+use mathlib.Core.Path.{_≡_, refl, sym}
+use mathlib.Core.Bool.{_&&_}
 use mathlib.Core.List.{List}
 use Prim.Native.Nat.{ℕ, _≤_}
 use native.Mathlib.Omega.{arith}
 use lib.Dec.{T, eqb, leb, eqb→eq, le→leb}
 use lib.ListN.{length}
-use borrow.Author.Tests.{le-leb, lt-leb, eq-eqb, ne-eqb}
+use borrow.Author.Tests.{eq-eqb, ne-eqb}
 use Rattle.prelude.specs.Checks.{Hold, firstBroken}
 use Rattle.prelude.specs.Choice.{pick}
 use Rattle.prelude.specs.Lists.{Every}
 use Rattle.prelude.proofs.Booleans.{and-left, and-right, both, true→T}
-use Rattle.prelude.proofs.Choice.{same, on, off}
-use Rattle.format.specs.Bytes.{byteAt, read16}
-use Rattle.format.specs.Files.{markAndVersion, hasMark, layout}
+use Rattle.prelude.proofs.Choice.{off}
+use Rattle.fields.specs.Bytes.{byteAt, read16}
+use Rattle.fields.specs.Layout.{markAndVersion, hasMark, layout}
+use Rattle.fields.proofs.Tests.{and-second}
 use Rattle.format.specs.Promises.{Byte}
 use Rattle.format.proofs.Windows.{window, byte-in}
-
--- ---- two tests
-
-pub and-on : (s t : Bool) → s ≡ true → t ≡ true → (s && t) ≡ true
-and-on s t p q = rw (p, q)
-
-pub and-first : (s t : Bool) → s ≡ false → (s && t) ≡ false
-and-first s t p = rw p
-
-pub and-second : (s t : Bool) → t ≡ false → (s && t) ≡ false
-and-second true t p = p
-and-second false t p = refl
-
--- ---- a test of a call's result
-
-pub is : (r k m : ℕ) → r ≡ k → r ≡ m → eqb k m ≡ true
-is r k m e p = eq-eqb k m (sym e ∙ p)
-
-pub differs : (r k m : ℕ) → r ≡ k → (r ≡ m → ⊥) → eqb k m ≡ false
-differs r k m e p = ne-eqb k m (λ q. p (e ∙ q))
-
-pub ruleset tested = (same, on, off, and-on, and-first, and-second, le-leb, lt-leb, eq-eqb, ne-eqb, is, differs)
-
--- ---- what the checks say
 
 module _ (header third size : ℕ) (file : List ℕ) where
   pub holds : header ≤ length file → T (hasMark third file) → read16 file 3 ≡ 1 → length file ≡ size → Hold (layout header third size file)

@@ -1,6 +1,5 @@
 pub mod Halves
 pub mod Reading
-pub mod Writing
 pub mod Windows
 pub mod Layouts
 pub mod Records

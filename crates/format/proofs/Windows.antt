@@ -9,12 +9,13 @@ use native.Mathlib.Omega.{arith}
 use lib.ListN.{length, take, drop}
 use lib.Seq.{drop-cons, take-length}
 use Rattle.prelude.specs.Lists.{Every}
-use Rattle.format.specs.Bytes.{byteAt, joined16, joined32, byte16, read16, signedOf, byte32, readSigned}
+use Rattle.fields.specs.Bytes.{byteAt, joined16, joined32, byte16, read16, signedOf, byte32, readSigned}
+use Rattle.fields.proofs.Reading.{pattern-signed}
+use Rattle.fields.proofs.Writing.{two-more, four-more}
 use Rattle.format.specs.Files.{arcBytes, loadBytes, arcAt, loadAt}
 use Rattle.format.specs.Promises.{Byte}
 use Rattle.format.proofs.Halves.{high-half, low-half}
-use Rattle.format.proofs.Reading.{read16-fits, pattern-signed}
-use Rattle.format.proofs.Writing.{two-more, four-more}
+use Rattle.format.proofs.Reading.{read16-fits}
 
 unfoldable pub window : List ℕ → ℕ → ℕ → List ℕ
 window file i zero = []

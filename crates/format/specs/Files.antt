@@ -1,16 +1,15 @@
 -- The two files: the bytes that are written, the checks of a layout, and what a file says. All of it renders document 01, Files and the helper.
 -- Assumes nothing.
-use mathlib.Core.Bool.{Bool, _&&_}
 use mathlib.Core.List.{List, [], _∷_, _++_, flatMap}
 use Prim.Native.Nat.{ℕ, _+_, _*_, _%_}
-use lib.Dec.{leb, eqb}
 use lib.IntN.{ℤ}
 use lib.ListN.{length}
-use Rattle.prelude.specs.Checks.{Check, _unless_}
+use Rattle.prelude.specs.Checks.{Check}
 use Rattle.prelude.specs.Lists.{listTo}
 use Rattle.network.specs.Network.{Arc, Load, arcOf}
 use Rattle.network.specs.Question.{Setting}
-use Rattle.format.specs.Bytes.{byteAt, byte16, read16, byte32, readSigned}
+use Rattle.fields.specs.Bytes.{byteAt, byte16, read16, byte32, readSigned}
+use Rattle.fields.specs.Layout.{markAndVersion, layout}
 
 -- ---- what is written
 
@@ -20,10 +19,6 @@ networkMark = 78
 
 abbrev pub annotationMark : ℕ
 annotationMark = 65
-
--- Either file begins with its mark and the version 1 in 16 bits.
-abbrev pub markAndVersion : ℕ → List ℕ
-markAndVersion third = 68 ∷ 82 ∷ third ∷ byte16 1
 
 -- A network's header goes on with a byte for the question, one for n, one for s and one for t, and the count of records in 16 bits: 11 bytes.
 abbrev pub networkHeader : Setting → ℕ → List ℕ
@@ -113,18 +108,6 @@ abbrev pub loadsIn : ℕ → List ℕ → List Load
 loadsIn n file = listTo (annotationCount file) (loadIn n file)
 
 -- ---- the checks of a layout
-
--- The mark is right: the first three bytes are D, R and the third letter.
-abbrev pub hasMark : ℕ → List ℕ → Bool
-hasMark third file = eqb (byteAt file 0) 68 && eqb (byteAt file 1) 82 && eqb (byteAt file 2) third
-
--- Check 17 asks that the file has all of its header and the right mark, check 18 the version 1, check 19 the size that n and the count give.
-abbrev pub layout : ℕ → ℕ → ℕ → List ℕ → List Check
-layout header third size file =
-    17 unless (leb header (length file) && hasMark third file)
-    ∷ 18 unless eqb (read16 file 3) 1
-    ∷ 19 unless eqb (length file) size
-    ∷ []
 
 -- The size of check 19: 11 bytes and 4 for each arc; or 8 bytes, 4 for each node number and 6 for each load.
 abbrev pub networkSize : ℕ → ℕ

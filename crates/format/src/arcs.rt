@@ -5,13 +5,13 @@ ghost use lib.ListN.{length};
 ghost use lib.Seq.{sets};
 ghost use Rattle.network.specs.Network.{arcOf, arcHeld};
 ghost use Rattle.format.specs.Files.{arcBytes, lowArc, arcAt};
-use super::bytes::byte;
-use super::bytes::inner16;
-use super::bytes::low8;
-use super::bytes::low16;
-use super::bytes::number16;
-use super::bytes::put_byte;
-use super::bytes::put16;
+use super::inner::inner16;
+use fields::bytes::byte;
+use fields::bytes::low8;
+use fields::bytes::low16;
+use fields::bytes::number16;
+use fields::bytes::put_byte;
+use fields::bytes::put16;
 use network::Record;
 
 // The fields of a file as a record.

@@ -1,6 +1,5 @@
-// The two files of a network and its annotation, read and written in bytes, most significant byte first.
+// The two files of a network and its annotation, read and written in bytes.
 pub mod annotation_file;
 mod arcs;
-pub mod bytes;
-pub mod layout;
+mod inner;
 pub mod network_file;

@@ -9,15 +9,15 @@ use super::arcs::inner_record;
 use super::arcs::put_record;
 use super::arcs::record_at;
 use super::arcs::record_of;
-use super::bytes::bits32;
-use super::bytes::byte;
-use super::bytes::bytes_after;
-use super::bytes::inner_bits32;
-use super::bytes::number16;
-use super::bytes::put_byte;
-use super::bytes::put16;
-use super::layout::layout_check;
-use super::layout::write_mark;
+use super::inner::inner_bits32;
+use fields::bytes::bits32;
+use fields::bytes::byte;
+use fields::bytes::bytes_after;
+use fields::bytes::number16;
+use fields::bytes::put_byte;
+use fields::bytes::put16;
+use fields::layout::layout_check;
+use fields::layout::write_mark;
 use network::Record;
 
 pub fn question(file: &[u8]) -> u8
