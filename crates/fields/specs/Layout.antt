@@ -1,5 +1,4 @@
--- What begins either file, and the checks of a layout. The mark is D, R and a third letter, and 68 is D, 82 is R. All of it renders document 01,
--- Files and the helper.
+-- What begins either file, and the checks of a layout: document 01, Files and the helper. In a mark 68 is D and 82 is R.
 -- Assumes nothing.
 use mathlib.Core.Bool.{Bool, _&&_}
 use mathlib.Core.List.{List, [], _∷_}

@@ -1,6 +1,6 @@
 -- The two files: the bytes that are written, the checks of a layout, and what a file says. All of it renders document 01, Files and the helper.
 -- Assumes nothing.
-use mathlib.Core.List.{List, [], _∷_, _++_, flatMap}
+use mathlib.Core.List.{List, _∷_, _++_, flatMap}
 use Prim.Native.Nat.{ℕ, _+_, _*_, _%_}
 use lib.IntN.{ℤ}
 use lib.ListN.{length}
