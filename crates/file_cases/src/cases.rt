@@ -8,7 +8,7 @@ use super::outcomes::helped;
 use super::outcomes::judged;
 use super::outcomes::rest_kept;
 use super::sweeps::sweep;
-use fields::bytes::byte;
+use file_fields::bytes::byte;
 use testing::answers::NONE;
 use testing::numbers::minus;
 use testing::numbers::plus;

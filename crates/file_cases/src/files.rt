@@ -1,7 +1,7 @@
 // The two files in one array: the network from its front on, the annotation from START on. A kind names a file as the script does:
 // `n` the network, `a` the annotation, `h` the network for the helper.
-use fields::bytes::byte;
-use fields::bytes::put_byte;
+use file_fields::bytes::byte;
+use file_fields::bytes::put_byte;
 use testing::numbers::minus;
 use testing::numbers::plus;
 use testing::script::decimal;

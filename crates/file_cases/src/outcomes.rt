@@ -1,7 +1,7 @@
 // Calls of judging and of the helper on the two files, and what comes of each as one number.
 use super::files::Files;
 use super::files::START;
-use fields::bytes::put_byte;
+use file_fields::bytes::put_byte;
 use helper::Written;
 use points::Point;
 use testing::answers::ACCEPTED;

@@ -11,8 +11,8 @@ use lib.Seq.{getD-append-add}
 use Rattle.prelude.specs.Lists.{Every}
 use Rattle.prelude.proofs.Lists.{every-append}
 use Rattle.network.specs.Network.{Arc, Load, arcOf, loadOf}
-use Rattle.fields.specs.Bytes.{byteAt, joined16, joined32, byte16, read16, patternOf, signedOf, byte32, readSigned}
-use Rattle.fields.proofs.Reading.{signed-pattern}
+use Rattle.file_fields.specs.Bytes.{byteAt, joined16, joined32, byte16, read16, patternOf, signedOf, byte32, readSigned}
+use Rattle.file_fields.proofs.Reading.{signed-pattern}
 use Rattle.format.specs.Files.{arcBytes, loadBytes, lowArc, arcAt, loadAt}
 use Rattle.format.specs.Promises.{Byte, ArcFits, LoadFits, Signed32}
 use Rattle.format.proofs.Halves.{whole}

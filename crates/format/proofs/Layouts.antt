@@ -13,9 +13,9 @@ use Rattle.prelude.specs.Choice.{pick}
 use Rattle.prelude.specs.Lists.{Every}
 use Rattle.prelude.proofs.Booleans.{and-left, and-right, both, true→T}
 use Rattle.prelude.proofs.Choice.{off}
-use Rattle.fields.specs.Bytes.{byteAt, read16}
-use Rattle.fields.specs.Layout.{markAndVersion, hasMark, layout}
-use Rattle.fields.proofs.Tests.{and-second}
+use Rattle.file_fields.specs.Bytes.{byteAt, read16}
+use Rattle.file_fields.specs.Layout.{markAndVersion, hasMark, layout}
+use Rattle.file_fields.proofs.Tests.{and-second}
 use Rattle.format.specs.Promises.{Byte}
 use Rattle.format.proofs.Windows.{window, byte-in}
 

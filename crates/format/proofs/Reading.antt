@@ -6,8 +6,8 @@ use Prim.Native.Nat.{ℕ, _+_, _/_, _%_, _≤_, _<_}
 use native.Mathlib.Omega.{arith}
 use lib.ListN.{length}
 use Rattle.network.specs.Network.{Arc, Load, arcOf, wordArc, loadOf}
-use Rattle.fields.specs.Bytes.{byteAt, joined16, joined32, read16, read32}
-use Rattle.fields.proofs.Reading.{byte-past, read16-past}
+use Rattle.file_fields.specs.Bytes.{byteAt, joined16, joined32, read16, read32}
+use Rattle.file_fields.proofs.Reading.{byte-past, read16-past}
 use Rattle.format.specs.Files.{arcAt, loadAt}
 use Rattle.format.specs.Promises.{Byte, ArcFits, LoadFits}
 

@@ -9,9 +9,9 @@ use native.Mathlib.Omega.{arith}
 use lib.ListN.{length, take, drop}
 use lib.Seq.{drop-cons, take-length}
 use Rattle.prelude.specs.Lists.{Every}
-use Rattle.fields.specs.Bytes.{byteAt, joined16, joined32, byte16, read16, signedOf, byte32, readSigned}
-use Rattle.fields.proofs.Reading.{pattern-signed}
-use Rattle.fields.proofs.Writing.{two-more, four-more}
+use Rattle.file_fields.specs.Bytes.{byteAt, joined16, joined32, byte16, read16, signedOf, byte32, readSigned}
+use Rattle.file_fields.proofs.Reading.{pattern-signed}
+use Rattle.file_fields.proofs.Writing.{two-more, four-more}
 use Rattle.format.specs.Files.{arcBytes, loadBytes, arcAt, loadAt}
 use Rattle.format.specs.Promises.{Byte}
 use Rattle.format.proofs.Halves.{high-half, low-half}

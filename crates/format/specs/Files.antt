@@ -8,8 +8,8 @@ use Rattle.prelude.specs.Checks.{Check}
 use Rattle.prelude.specs.Lists.{listTo}
 use Rattle.network.specs.Network.{Arc, Load, arcOf}
 use Rattle.network.specs.Question.{Setting}
-use Rattle.fields.specs.Bytes.{byteAt, byte16, read16, byte32, readSigned}
-use Rattle.fields.specs.Layout.{markAndVersion, layout}
+use Rattle.file_fields.specs.Bytes.{byteAt, byte16, read16, byte32, readSigned}
+use Rattle.file_fields.specs.Layout.{markAndVersion, layout}
 
 -- ---- what is written
 

@@ -6,12 +6,12 @@ ghost use lib.Seq.{sets};
 ghost use Rattle.network.specs.Network.{arcOf, arcHeld};
 ghost use Rattle.format.specs.Files.{arcBytes, lowArc, arcAt};
 use super::inner::inner16;
-use fields::bytes::byte;
-use fields::bytes::low8;
-use fields::bytes::low16;
-use fields::bytes::number16;
-use fields::bytes::put_byte;
-use fields::bytes::put16;
+use file_fields::bytes::byte;
+use file_fields::bytes::low8;
+use file_fields::bytes::low16;
+use file_fields::bytes::number16;
+use file_fields::bytes::put_byte;
+use file_fields::bytes::put16;
 use network::Record;
 
 // The fields of a file as a record.

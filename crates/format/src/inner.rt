@@ -2,10 +2,10 @@
 ghost use mathlib.Core.Path.{_≡_};
 ghost use Prim.Native.Nat.{_+_, _≤_};
 ghost use lib.ListN.{length};
-ghost use Rattle.fields.specs.Bytes.{read16, read32, readSigned};
-use fields::bytes::joined16;
-use fields::bytes::joined32;
-use fields::bytes::signed;
+ghost use Rattle.file_fields.specs.Bytes.{read16, read32, readSigned};
+use file_fields::bytes::joined16;
+use file_fields::bytes::joined32;
+use file_fields::bytes::signed;
 
 // The number of 16 bits at i.
 pub(crate) fn inner16(file: &[u8], i: usize) -> u16

@@ -10,14 +10,14 @@ use super::arcs::put_record;
 use super::arcs::record_at;
 use super::arcs::record_of;
 use super::inner::inner_bits32;
-use fields::bytes::bits32;
-use fields::bytes::byte;
-use fields::bytes::bytes_after;
-use fields::bytes::number16;
-use fields::bytes::put_byte;
-use fields::bytes::put16;
-use fields::layout::layout_check;
-use fields::layout::write_mark;
+use file_fields::bytes::bits32;
+use file_fields::bytes::byte;
+use file_fields::bytes::bytes_after;
+use file_fields::bytes::number16;
+use file_fields::bytes::put_byte;
+use file_fields::bytes::put16;
+use file_fields::layout::layout_check;
+use file_fields::layout::write_mark;
 use network::Record;
 
 pub fn question(file: &[u8]) -> u8

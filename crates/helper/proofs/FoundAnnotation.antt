@@ -20,7 +20,7 @@ use Rattle.network.specs.Question.{Setting, Allowed}
 use Rattle.network.specs.Certificate.{claimFor}
 use Rattle.network.specs.Tests.{openingChecks, arcChecks, claimNumber}
 use Rattle.network.proofs.Allowed.{arc-test}
-use Rattle.fields.specs.Bytes.{byte32, readSigned}
+use Rattle.file_fields.specs.Bytes.{byte32, readSigned}
 use Rattle.format.specs.Files.{settingIn, nIn, countIn, arcIn, arcsIn, annotationHeader, annotationFile, loadBytes, loadAt}
 use Rattle.format.specs.Promises.{Signed32, LoadFits}
 use Rattle.format.proofs.Records.{flat-length}

@@ -14,8 +14,8 @@ use Rattle.prelude.specs.Lists.{at, listTo}
 use Rattle.prelude.proofs.Lists.{listTo-length, listTo-take}
 use Rattle.network.specs.Network.{Arc, Load, wordArc, wordArcs, wordLoad, loadsOf}
 use Rattle.solver.proofs.ColumnsAndLoads.{loads-arcs}
-use Rattle.fields.specs.Bytes.{byte32, readSigned}
-use Rattle.fields.proofs.Writing.{sets-past, then-sets}
+use Rattle.file_fields.specs.Bytes.{byte32, readSigned}
+use Rattle.file_fields.proofs.Writing.{sets-past, then-sets}
 use Rattle.format.specs.Files.{loadBytes, loadAt}
 use Rattle.format.specs.Promises.{Signed32, LoadFits}
 use Rattle.format.proofs.Records.{Coding, flat-append, flat-length}

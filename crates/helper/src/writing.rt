@@ -6,7 +6,7 @@ ghost use lib.ListN.{length};
 ghost use lib.Seq.{sets};
 ghost use Rattle.prelude.specs.Lists.{listTo};
 ghost use Rattle.network.specs.Network.{wordArcs, loadsOf};
-ghost use Rattle.fields.specs.Bytes.{byte32};
+ghost use Rattle.file_fields.specs.Bytes.{byte32};
 ghost use Rattle.format.specs.Files.{nIn, countIn, arcIn, arcsIn, annotationHeader, loadBytes};
 ghost use Rattle.acceptance.specs.Acceptance.{AcceptedFile};
 ghost use Rattle.helper.specs.Helper.{sizeFor, AnnotationIn};

@@ -7,7 +7,7 @@ use lib.ListN.{length}
 use Rattle.network.specs.Question.{value, none}
 use Rattle.points.specs.declared.Point.{Point}
 use Rattle.state.specs.Answers.{Said, accepted, gives, refused}
-use Rattle.fields.specs.Bytes.{read32}
+use Rattle.file_fields.specs.Bytes.{read32}
 use Rattle.judging.specs.Judging.{judged}
 use Rattle.program_io.specs.Line.{Numbered, RefusedLine}
 

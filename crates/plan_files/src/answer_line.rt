@@ -4,7 +4,7 @@ ghost use lib.ListN.{take};
 ghost use Rattle.io.specs.Counts.{Counts};
 ghost use Rattle.state.specs.Answers.{said, accepted};
 ghost use Rattle.plan_files.specs.AnswerLine.{pointIn, JudgedAt, Answered, LineOfAnswer, PrintsAnswer};
-use fields::bytes::bits32;
+use file_fields::bytes::bits32;
 use points::Point;
 use program_io::front::read_front;
 use program_io::front::room;

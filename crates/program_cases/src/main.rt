@@ -1,6 +1,6 @@
 // The lines of the judging and the annotating program, for files that are there, short, long, missing or no files.
 // The cases are lines of standard input, which says at its top how it is written.
-use fields::bytes::byte;
+use file_fields::bytes::byte;
 use plan_files::annotation_line;
 use plan_files::answer_line;
 use testing::numbers::plus;

@@ -1,8 +1,8 @@
 // Places in an annotation file, and what stands there moved: of a record 32 bits are the ends and the weight, 16 the amount.
-use fields::bytes::number16;
-use fields::bytes::number32;
-use fields::bytes::put16;
-use fields::bytes::put32;
+use file_fields::bytes::number16;
+use file_fields::bytes::number32;
+use file_fields::bytes::put16;
+use file_fields::bytes::put32;
 use testing::numbers::plus;
 
 // Where the node number of vertex v stands.

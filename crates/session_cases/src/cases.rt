@@ -6,7 +6,7 @@ use super::runs::told;
 use super::steps::Arguments;
 use super::steps::step;
 use super::steps::void;
-use fields::bytes::byte;
+use file_fields::bytes::byte;
 use session::Session;
 use testing::answers::code;
 use testing::numbers::plus;

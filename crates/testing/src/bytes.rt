@@ -1,6 +1,6 @@
 // Bytes copied from one slice to another.
-use fields::bytes::byte;
-use fields::bytes::put_byte;
+use file_fields::bytes::byte;
+use file_fields::bytes::put_byte;
 
 // Copies the first bytes.
 pub fn copy(from: &[u8], to: &mut [u8], size: usize) {

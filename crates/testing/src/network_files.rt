@@ -2,7 +2,7 @@
 use super::bytes::copy;
 use super::numbers::low_byte;
 use super::numbers::low_half;
-use fields::bytes::put16;
+use file_fields::bytes::put16;
 
 // The header for a question, n, s, t, and the count of the records.
 pub fn write_header(question: usize, n: usize, s: usize, t: usize, m: usize, file: &mut [u8]) {

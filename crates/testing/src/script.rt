@@ -3,8 +3,8 @@
 use super::numbers::low_word;
 use super::numbers::plus;
 use super::numbers::smaller;
-use fields::bytes::byte;
-use fields::bytes::put_byte;
+use file_fields::bytes::byte;
+use file_fields::bytes::put_byte;
 
 // Does a line start at a place?
 pub fn starts_line(script: &[u8], at: usize) -> bool {

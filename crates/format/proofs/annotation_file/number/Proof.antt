@@ -4,7 +4,7 @@ use mathlib.Core.Path.{sym}
 use Prim.Native.Nat.{_+_, _*_}
 use native.Mathlib.Omega.{arith}
 use borrow.Author.Needs.{needs}
-use Rattle.fields.proofs.Reading.{signed-past}
+use Rattle.file_fields.proofs.Reading.{signed-past}
 use Rattle.format.proofs.annotation_file.number.Statement.{statement}
 use Rattle.format.proofs.annotation_file.number.Tie as tie
 

@@ -4,7 +4,7 @@ use Prim.Native.Nat.{_*_}
 use native.Mathlib.Omega.{arith}
 use borrow.Author.Needs.{needs}
 use Rattle.network.specs.Network.{wordLoad}
-use Rattle.fields.proofs.Writing.{sets-past, four-more}
+use Rattle.file_fields.proofs.Writing.{sets-past, four-more}
 use Rattle.format.specs.Files.{loadBytes}
 use Rattle.format.proofs.Reading.{first-byte}
 use Rattle.format.proofs.annotation_file.write_load.Statement.{statement}

@@ -7,8 +7,8 @@ use lib.IntN.{ℤ}
 use lib.Seq.{sets}
 use mir.Facts.{toZ-ofZ}
 use borrow.Author.Needs.{needs}
-use Rattle.fields.specs.Bytes.{byte32}
-use Rattle.fields.proofs.Writing.{sets-past}
+use Rattle.file_fields.specs.Bytes.{byte32}
+use Rattle.file_fields.proofs.Writing.{sets-past}
 use Rattle.format.proofs.annotation_file.write_number.Statement.{statement}
 use Rattle.format.proofs.annotation_file.write_number.Tie as tie
 

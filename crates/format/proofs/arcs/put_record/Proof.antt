@@ -4,7 +4,7 @@ use native.Mathlib.Numerals.{add-one}
 use native.Mathlib.Omega.{arith}
 use borrow.Author.Needs.{needs}
 use Rattle.network.specs.Network.{arcHeld}
-use Rattle.fields.proofs.Writing.{sets-past, two-more}
+use Rattle.file_fields.proofs.Writing.{sets-past, two-more}
 use Rattle.format.specs.Files.{arcBytes, lowArc}
 use Rattle.format.proofs.arcs.put_record.Statement.{statement}
 use Rattle.format.proofs.arcs.put_record.Tie as tie

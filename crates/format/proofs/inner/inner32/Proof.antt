@@ -4,7 +4,7 @@ use mathlib.Core.Path.{_∙_, ap}
 use mir.Syntax.{w32}
 use borrow.Author.Needs.{needs}
 use Rattle.words.proofs.Signs.{back}
-use Rattle.fields.specs.Bytes.{signedOf}
+use Rattle.file_fields.specs.Bytes.{signedOf}
 use Rattle.format.proofs.inner.inner32.Statement.{statement}
 use Rattle.format.proofs.inner.inner32.Tie as tie
 

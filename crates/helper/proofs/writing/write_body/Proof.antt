@@ -5,7 +5,7 @@ use Prim.Native.Nat.{_*_}
 use lib.ListN.{length}
 use borrow.Author.Needs.{needs}
 use Rattle.network.specs.Network.{wordArcs, loadsOf}
-use Rattle.fields.specs.Bytes.{byte32}
+use Rattle.file_fields.specs.Bytes.{byte32}
 use Rattle.format.specs.Files.{loadBytes}
 use Rattle.helper.proofs.WrittenParts.{front-and-rest, numbers-length}
 use Rattle.helper.proofs.writing.write_body.Statement.{statement}

@@ -4,7 +4,7 @@ use mathlib.Core.Path.{refl}
 use mathlib.Core.List.{_++_, flatMap}
 use borrow.Author.Needs.{needs}
 use Rattle.network.specs.Network.{wordArcs, loadsOf}
-use Rattle.fields.specs.Bytes.{byte32}
+use Rattle.file_fields.specs.Bytes.{byte32}
 use Rattle.format.specs.Files.{annotationHeader, loadBytes}
 use Rattle.helper.proofs.WrittenParts.{front-and-rest}
 use Rattle.helper.proofs.writing.write_file.Statement.{statement}

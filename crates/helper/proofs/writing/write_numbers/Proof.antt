@@ -9,7 +9,7 @@ use mir.Syntax.{w32}
 use borrow.Author.Needs.{needs}
 use Rattle.prelude.specs.Lists.{at}
 use Rattle.words.proofs.Signs.{back}
-use Rattle.fields.specs.Bytes.{byte32, readSigned}
+use Rattle.file_fields.specs.Bytes.{byte32, readSigned}
 use Rattle.format.specs.Promises.{Signed32}
 use Rattle.format.proofs.Codings.{numbers-coded}
 use Rattle.helper.proofs.WrittenParts.{Numbering, numbers-listed, write-none, write-turn, write-length, write-end}
