@@ -15,7 +15,7 @@ use Rattle.prelude.proofs.Booleans.{and-left, and-right, both, true→T}
 use Rattle.prelude.proofs.Choice.{off}
 use Rattle.file_fields.specs.Bytes.{byteAt, read16}
 use Rattle.file_fields.specs.Layout.{markAndVersion, hasMark, layout}
-use Rattle.file_fields.proofs.Tests.{and-second}
+use Rattle.file_fields.proofs.Tests.{second-off}
 use Rattle.format.specs.Promises.{Byte}
 use Rattle.format.proofs.Windows.{window, byte-in}
 
@@ -48,5 +48,5 @@ module _ (header third size : ℕ) (file : List ℕ) where
   other-mark h =
       let t = leb header (length file) && hasMark third file in
       sym (off ℕ 17 (pick (eqb (read16 file 3) 1) (pick (eqb (length file) size) 0 19) 18) 17 t
-      (and-second (leb header (length file)) (hasMark third file)
-      (and-second (eqb (byteAt file 0) 68 && eqb (byteAt file 1) 82) (eqb (byteAt file 2) third) (ne-eqb (byteAt file 2) third h))) refl)
+      (second-off (leb header (length file)) (hasMark third file)
+      (second-off (eqb (byteAt file 0) 68 && eqb (byteAt file 1) 82) (eqb (byteAt file 2) third) (ne-eqb (byteAt file 2) third h))) refl)

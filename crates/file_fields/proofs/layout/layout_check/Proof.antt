@@ -3,7 +3,7 @@
 use mathlib.Core.Path.{_≡_, _∙_}
 use borrow.Author.Needs.{needs}
 use Rattle.file_fields.specs.Bytes.{read16}
-use Rattle.file_fields.proofs.Tests.{tested}
+use Rattle.file_fields.proofs.Tests.{laid-out}
 use Rattle.file_fields.proofs.layout.layout_check.Statement.{statement}
 use Rattle.file_fields.proofs.layout.layout_check.Tie as tie
 
@@ -11,17 +11,17 @@ pub layout-check-spec : {M : Type 1} → statement M
 layout-check-spec =
     tie.close
     (tie.spec
-    (λ c. search tested depth 12)
+    (λ c. search laid-out depth 12)
     (λ c κs. search needs)
-    (λ c. search tested depth 12)
+    (λ c. search laid-out depth 12)
     (λ c κs. search needs)
-    (λ c. search tested depth 12)
+    (λ c. search laid-out depth 12)
     (λ c κs. search needs)
-    (λ c. search tested depth 12)
+    (λ c. search laid-out depth 12)
     (λ c κs. search needs)
     (λ c.
     let file = c .before .before .before .before .before .before .before .before .before .before .args .file .now in
     let other : read16 file 3 ≡ 1 → ⊥ = λ q. c .if5 .taken (c .before .number16 .ensures ∙ q) in
-    search tested depth 12)
-    (λ c. search tested depth 12)
-    (λ c. search tested depth 12))
+    search laid-out depth 12)
+    (λ c. search laid-out depth 12)
+    (λ c. search laid-out depth 12))
