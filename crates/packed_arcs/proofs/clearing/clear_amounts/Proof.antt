@@ -1,4 +1,4 @@
--- `engine::clearing::clear_amounts` meets its contract. The loop's invariant: the amounts below e are 0.
+-- `packed_arcs::clearing::clear_amounts` meets its contract. The loop's invariant: the amounts below e are 0.
 -- Assumes nothing.
 use mathlib.Core.Path.{_≡_, refl}
 use Prim.Native.Nat.{ℕ, _-_}
@@ -6,9 +6,9 @@ use native.Mathlib.Omega.{arith}
 use lib.ListN.{length, replicate, length-replicate, getD-replicate}
 use borrow.Author.Needs.{needs}
 use Rattle.prelude.proofs.Filling.{Filling, fill-start, fill-turn}
-use Rattle.engine.proofs.ListLoops.{filled-as}
-use Rattle.engine.proofs.clearing.clear_amounts.Statement.{statement}
-use Rattle.engine.proofs.clearing.clear_amounts.Tie as tie
+use Rattle.packed_arcs.proofs.ListLoops.{filled-as}
+use Rattle.packed_arcs.proofs.clearing.clear_amounts.Statement.{statement}
+use Rattle.packed_arcs.proofs.clearing.clear_amounts.Tie as tie
 
 abbrev Inv-loop : tie.InvT-loop
 Inv-loop amounts₀ e₀ amounts e = Filling (λ i (x : ℕ). x ≡ 0) 0 amounts₀ amounts e
