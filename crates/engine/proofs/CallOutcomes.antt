@@ -5,13 +5,15 @@ use mathlib.Core.Bool.{Bool, true, false, not}
 use mathlib.Core.List.{List}
 use Prim.Native.Nat.{ℕ}
 use lib.ListN.{length, take, length-replicate}
-use Rattle.engine.specs.Residual.{zeroList}
-use Rattle.engine.specs.PackedArcs.{PackedPhaseState, PackedSolved}
-use Rattle.engine.specs.Calls.{solvable, sendable, SolveOutcome, SearchAndPush, SendOutcome}
+use Rattle.packed_arcs.specs.Entries.{zeroList}
+use Rattle.packed_arcs.specs.Limits.{solvable, sendable}
+use Rattle.engine.specs.PackedNetwork.{PackedPhaseState, PackedSolved}
+use Rattle.engine.specs.Calls.{SolveOutcome, SearchAndPush, SendOutcome}
 use Rattle.engine.specs.declared.Sent.{Sent}
 use Rattle.engine.specs.declared.Sent.the-variants.{Refused}
-use Rattle.engine.proofs.LentParts.{zero-list-part}
-use Rattle.engine.proofs.LimitTests.{passed, failed, Solvable, solvable-facts, Sendable, sendable-facts, start-state}
+use Rattle.packed_arcs.proofs.LentParts.{zero-list-part}
+use Rattle.packed_arcs.proofs.LimitTests.{passed, failed, Solvable, solvable-facts, Sendable, sendable-facts}
+use Rattle.engine.proofs.StartState.{start-state}
 
 -- lists that were cleared, as long as there are arcs and vertices
 cleared : {x₁ : List ℕ} {k m : ℕ} → x₁ ≡ zeroList k → k ≡ m → x₁ ≡ zeroList m

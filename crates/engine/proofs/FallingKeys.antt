@@ -9,7 +9,8 @@ use native.Mathlib.Omega.{arith}
 use native.Mathlib.Decide.{ℕ-discrete}
 use lib.ListN.{length, set, length-set}
 use lib.Seq.{getD-set-same, getD-set-other}
-use Rattle.engine.specs.Residual.{entry, unreached, ResidualNetwork, tail, head, raisedCost, headPotential, WithinLimits, keyBeyond, ParentArc, ParentTree, sum, LoweredKeys, LowerOutcome, Progress, RelaxedForward, RelaxedBackward, SearchReady, Relaxation}
+use Rattle.packed_arcs.specs.Entries.{entry}
+use Rattle.engine.specs.Residual.{unreached, ResidualNetwork, tail, head, raisedCost, headPotential, WithinLimits, keyBeyond, ParentArc, ParentTree, sum, LoweredKeys, LowerOutcome, Progress, RelaxedForward, RelaxedBackward, SearchReady, Relaxation}
 use Rattle.engine.specs.Residual.LowerOutcome.{lowered, kept}
 use Rattle.engine.specs.Residual.Progress.{fell, stayed}
 

@@ -5,7 +5,8 @@ use mathlib.Core.List.{List, [], _∷_}
 use Prim.Native.Nat.{ℕ, zero, suc, _+_, _/_, _%_, _<_, _≤_}
 use native.Mathlib.Omega.{arith}
 use lib.ListN.{length}
-use Rattle.engine.specs.Residual.{entry, unreached, residual}
+use Rattle.packed_arcs.specs.Entries.{entry}
+use Rattle.engine.specs.Residual.{unreached, residual}
 use Rattle.engine.specs.Phase.{SearchResult, PhaseState}
 use Rattle.engine.proofs.PotentialBounds.{few-hops, in-range, closed-forward, closed-backward}
 use Rattle.engine.proofs.PhaseLaws.{sized-key, small-key, roots-zero}

@@ -1,10 +1,8 @@
 pub mod FallingKeys
-pub mod ArcColumns
+pub mod ArcReads
 pub mod PotentialBounds
 pub mod PushedAmounts
 pub mod PhaseLaws
 pub mod LastSearch
-pub mod LentParts
-pub mod ListLoops
-pub mod LimitTests
+pub mod StartState
 pub mod CallOutcomes

@@ -10,7 +10,8 @@ use lib.Dec.{eqb}
 use borrow.Author.Tests.{lt-ltb, le-ltb}
 use borrow.Author.Count.{below-more}
 use lib.ListN.{length, set, length-set, List·getD-eq-default}
-use Rattle.engine.specs.Residual.{entry, unreached, ResidualNetwork, residual, WithinLimits, ParentArc, Converged, RaisedPotentials}
+use Rattle.packed_arcs.specs.Entries.{entry}
+use Rattle.engine.specs.Residual.{unreached, ResidualNetwork, residual, WithinLimits, ParentArc, Converged, RaisedPotentials}
 use Rattle.prelude.specs.Choice.{indicator}
 use Rattle.engine.specs.Push.{flowAt, ParentLink, PushReady, Augmentable, Moved, Delivered, residualCapacity}
 use Rattle.engine.specs.Phase.{firstKey, Started, SearchResult, NearestSoFar, Nearest, PhaseState, Advanced}

@@ -12,7 +12,8 @@ use lib.Dec.{leb}
 use borrow.Author.Tests.{le-leb, lt-leb}
 use Rattle.prelude.specs.Choice.{indicator}
 use Rattle.prelude.specs.Sums.{sumTo, count}
-use Rattle.engine.specs.Residual.{entry, unreached, ResidualNetwork, residual, tail, head, raisedCost, headPotential, WithinLimits, NonnegativeReducedCosts, keyBeyond, ParentArc, ParentTree, AllRelaxed, RaisedPotentials}
+use Rattle.packed_arcs.specs.Entries.{entry}
+use Rattle.engine.specs.Residual.{unreached, ResidualNetwork, residual, tail, head, raisedCost, headPotential, WithinLimits, NonnegativeReducedCosts, keyBeyond, ParentArc, ParentTree, AllRelaxed, RaisedPotentials}
 use Rattle.engine.specs.Push.{ParentArcWithin}
 
 -- ---- how many vertices have a key of at most k

@@ -9,7 +9,8 @@ use native.Mathlib.Omega.{arith}
 use lib.Dec.{eqb}
 use borrow.Author.Tests.{lt-ltb, le-ltb, eq-eqb, ne-eqb}
 use lib.ListN.{length, set, length-set}
-use Rattle.engine.specs.Residual.{entry, unreached}
+use Rattle.packed_arcs.specs.Entries.{entry}
+use Rattle.engine.specs.Residual.{unreached}
 use Rattle.prelude.specs.Choice.{indicator}
 use Rattle.engine.specs.Push.{flowAt, ParentLink, PushReady, ParentArcWithin, Augmentable, Moved, codeArc, codeStart, residualCapacity, shifted}
 use Rattle.engine.proofs.FallingKeys.{set-cases}

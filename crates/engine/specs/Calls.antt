@@ -1,33 +1,17 @@
--- What the engine is handed and hands back: what its two calls answer, and what comes of them.
+-- What comes of the engine's two calls.
 -- Assumes nothing.
 use mathlib.Core.Path.{_≡_}
-use mathlib.Core.Bool.{Bool, true, false, _&&_}
+use mathlib.Core.Bool.{Bool, true, false}
 use mathlib.Core.List.{List}
 use Prim.Native.Nat.{ℕ, _<_, _≤_}
-use lib.Dec.{eqb, ltb, leb}
 use lib.ListN.{length}
-use Rattle.prelude.specs.Lists.{all}
-use Rattle.engine.specs.Residual.{entry, unreached, zeroList}
+use Rattle.packed_arcs.specs.Entries.{entry, zeroList}
+use Rattle.packed_arcs.specs.Limits.{solvable, sendable}
+use Rattle.engine.specs.Residual.{unreached}
 use Rattle.engine.specs.Phase.{SearchResult}
-use Rattle.engine.specs.PackedArcs.{tailOf, headOf, costOf, residualOf, PackedMoved, PackedPhaseState, PackedSolved}
+use Rattle.engine.specs.PackedNetwork.{residualOf, PackedMoved, PackedPhaseState, PackedSolved}
 use Rattle.engine.specs.declared.Sent.{Sent}
 use Rattle.engine.specs.declared.Sent.the-variants.{Reached, Unreached, Refused}
-
--- The packed arc joins vertices below n, and costs at most 32767.
-abbrev pub arcFits : ℕ → ℕ → Bool
-arcFits n arc = ltb (tailOf arc) n && ltb (headOf arc) n && leb (costOf arc) 32767
-
--- At most 255 vertices and 4096 arcs, one amount for each arc, and arcs that fit.
-abbrev pub arcsFit : List ℕ → ℕ → ℕ → Bool
-arcsFit arcs amounts n = leb n 255 && leb (length arcs) 4096 && eqb amounts (length arcs) && all (arcFits n) arcs
-
--- What `solve` answers: arcs that fit, and for each of n vertices a potential, a need and a key.
-abbrev pub solvable : List ℕ → ℕ → ℕ → ℕ → ℕ → ℕ → Bool
-solvable arcs amounts potentials n needs keys = eqb potentials n && eqb needs n && eqb keys n && arcsFit arcs amounts n
-
--- What `send` answers: arcs that fit, a key for each of n vertices, and a vertex t to send to.
-abbrev pub sendable : List ℕ → ℕ → ℕ → ℕ → ℕ → Bool
-sendable arcs t amounts n keys = ltb t n && eqb keys n && arcsFit arcs amounts n
 
 -- A call of `solve`: refused, with nothing changed; or solved, from amounts and potentials of 0.
 pub data SolveOutcome (arcs x pi left need key x' pi' left' need' key' : List ℕ) : Bool → Type 0 where

@@ -1,5 +1,5 @@
 pub mod Residual
 pub mod Push
 pub mod Phase
-pub mod PackedArcs
+pub mod PackedNetwork
 pub mod Calls

@@ -7,7 +7,8 @@ use Prim.Native.Nat.{ℕ, _+_, _*_, _-_, _<_, _≤_}
 use lib.Dec.{eqb, ltb}
 use lib.ListN.{length, set}
 use Rattle.prelude.specs.Choice.{pick, indicator}
-use Rattle.engine.specs.Residual.{entry, unreached}
+use Rattle.packed_arcs.specs.Entries.{entry}
+use Rattle.engine.specs.Residual.{unreached}
 
 -- The sum of x over the arcs whose vertex in the column is w.
 unfoldable pub flowAt : List ℕ → List ℕ → ℕ → ℕ

@@ -4,15 +4,8 @@ use mathlib.Core.Path.{_≡_}
 use mathlib.Core.Bool.{Bool, true, false}
 use mathlib.Core.List.{List, [], _∷_}
 use Prim.Native.Nat.{ℕ, _+_, _*_, _-_, _/_, _<_, _≤_, min}
-use lib.ListN.{length, getD, set, replicate}
-
--- The entry of a list of numbers at the index i, 0 past the end.
-abbrev pub entry : List ℕ → ℕ → ℕ
-entry l i = getD l i 0
-
--- n zeros.
-abbrev pub zeroList : ℕ → List ℕ
-zeroList n = replicate n 0
+use lib.ListN.{length, set}
+use Rattle.packed_arcs.specs.Entries.{entry}
 
 -- The key of a vertex that is not reached.
 abbrev pub unreached : ℕ

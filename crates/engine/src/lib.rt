@@ -1,16 +1,13 @@
 // Successive shortest paths over the residual network of a list of packed arcs.
 // Both calls refuse what is not within the limits, and then change nothing.
 ghost use Rattle.engine.specs.Calls.{SolveOutcome, SendOutcome};
-use clearing::clear_amounts;
-use clearing::clear_potentials;
-use limits::is_sendable;
-use limits::is_solvable;
+use packed_arcs::clearing::clear_amounts;
+use packed_arcs::clearing::clear_potentials;
+use packed_arcs::limits::is_sendable;
+use packed_arcs::limits::is_solvable;
 use phases::run;
 use sending::search_and_push;
 
-mod arcs;
-pub mod clearing;
-mod limits;
 mod phases;
 mod push;
 mod search;

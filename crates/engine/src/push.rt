@@ -2,12 +2,14 @@
 ghost use mathlib.Core.Path.{_≡_};
 ghost use Prim.Native.Nat.{ℕ, _+_, _-_, _<_, _≤_, min};
 ghost use lib.ListN.{length, set};
-ghost use Rattle.engine.specs.PackedArcs.{tailsOf, headsOf, capacitiesOf, PackedPushReady, PackedMoved};
+ghost use Rattle.packed_arcs.specs.Entries.{entry};
+ghost use Rattle.packed_arcs.specs.PackedArcs.{tailsOf, headsOf, capacitiesOf};
+ghost use Rattle.engine.specs.PackedNetwork.{PackedPushReady, PackedMoved};
 ghost use Rattle.engine.specs.Push.{codeArc, codeStart, residualCapacity, shifted};
-ghost use Rattle.engine.specs.Residual.{entry, unreached};
-use super::arcs::capacity_of;
-use super::arcs::head_of;
-use super::arcs::tail_of;
+ghost use Rattle.engine.specs.Residual.{unreached};
+use packed_arcs::arcs::capacity_of;
+use packed_arcs::arcs::head_of;
+use packed_arcs::arcs::tail_of;
 
 fn place(code: u16) -> usize
     ensures { λ r. ⌜ r ≡ code ⌝ }

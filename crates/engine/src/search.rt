@@ -3,14 +3,14 @@
 ghost use mathlib.Core.Path.{_≡_};
 ghost use Prim.Native.Nat.{_<_, _≤_};
 ghost use lib.ListN.{length};
-ghost use Rattle.engine.specs.PackedArcs.{residualOf};
+ghost use Rattle.engine.specs.PackedNetwork.{residualOf};
 ghost use Rattle.engine.specs.Residual.{AllRelaxed, RelaxedArc, RelaxedBackward, RelaxedForward, NonnegativeReducedCosts, SearchReady, Converged, WithinLimits, Relaxation, LowerOutcome};
 ghost use Rattle.engine.specs.Phase.{firstKey, SearchResult, Started};
 use super::UNREACHED;
-use super::arcs::capacity_of;
-use super::arcs::cost_of;
-use super::arcs::head_of;
-use super::arcs::tail_of;
+use packed_arcs::arcs::capacity_of;
+use packed_arcs::arcs::cost_of;
+use packed_arcs::arcs::head_of;
+use packed_arcs::arcs::tail_of;
 
 // Lowers the key of v by a residual arc from u of length len, where that is lower: whether it did.
 fn lower(u: usize, v: usize, len: u32, code: u16, key: &mut [u32], par: &mut [u16]) -> bool

@@ -3,7 +3,7 @@ ghost use mathlib.Core.Path.{_≡_};
 ghost use Prim.Native.Nat.{_<_};
 ghost use lib.ListN.{length};
 ghost use Rattle.engine.specs.Calls.{SearchAndPush};
-ghost use Rattle.engine.specs.PackedArcs.{PackedPhaseState};
+ghost use Rattle.engine.specs.PackedNetwork.{PackedPhaseState};
 use super::Sent;
 use super::UNREACHED;
 use super::push::push;

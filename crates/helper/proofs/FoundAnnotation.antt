@@ -27,8 +27,8 @@ use Rattle.format.proofs.Records.{flat-length}
 use Rattle.format.proofs.Codings.{numbers-coded, loads-coded}
 use Rattle.acceptance.specs.Acceptance.{AcceptedFile}
 use Rattle.acceptance.proofs.AcceptedFiles.{opening-held, file-opened, file-allowed, file-few}
-use Rattle.engine.specs.Residual.{zeroList}
-use Rattle.engine.proofs.LentParts.{zero-list-length, lent-again}
+use Rattle.packed_arcs.specs.Entries.{zeroList}
+use Rattle.packed_arcs.proofs.LentParts.{zero-list-length, lent-again}
 use Rattle.solver.specs.Certify.{recordOk, admissible, Solution, CertifyOutcome, refused, solved}
 use Rattle.solver.proofs.ColumnsAndLoads.{loads-arcs}
 use Rattle.helper.specs.Helper.{sizeFor, AnnotationIn}

@@ -23,11 +23,12 @@ use Rattle.network.proofs.Rules.{ZeroOrOne, NoAmount, Closed, Feasible, Assignm
 use Rattle.network.proofs.Sums.{delta-same, Inside}
 use Rattle.network.proofs.Assignments.{Between, leaves-no-site}
 use Rattle.network.proofs.Sound.{balance-parts}
-use Rattle.engine.specs.Residual.{entry, unreached}
+use Rattle.packed_arcs.specs.Entries.{entry}
+use Rattle.engine.specs.Residual.{unreached}
 use Rattle.engine.specs.Phase.{Solved}
 use Rattle.solver.specs.Instance.{Fits, tails, heads, weights, constant, VertexList, pairRoom, atPumps, atSites, Falls, markOf}
+use Rattle.packed_arcs.proofs.LentParts.{zero-at}
 use Rattle.engine.proofs.LastSearch.{in-list, leads-on, leads-back, from-left}
-use Rattle.engine.proofs.LentParts.{zero-at}
 use Rattle.solver.proofs.ColumnsAndLoads.{constant-at, since-none, index, loads-arcs, columnArc, every-arc, every-load, sumOf-used, paid-cost, weighed, Seen, Unseen, sight, marks-fit, no-cross}
 
 -- ---- sums over vertices

@@ -11,8 +11,8 @@ use Rattle.prelude.proofs.Tested.{passed, refused as failed}
 use Rattle.network.specs.Limits.{mostVertices}
 use Rattle.network.specs.Network.{Arc, wordArcs}
 use Rattle.network.specs.Question.{Setting}
-use Rattle.engine.specs.Residual.{zeroList}
-use Rattle.engine.proofs.LentParts.{zero-list-length}
+use Rattle.packed_arcs.specs.Entries.{zeroList}
+use Rattle.packed_arcs.proofs.LentParts.{zero-list-length}
 use Rattle.solver.specs.Certify.{admissible, AcceptedNetwork, Solution, CertifyOutcome, refused, solved}
 use Rattle.solver.proofs.Solutions.{accepted}
 

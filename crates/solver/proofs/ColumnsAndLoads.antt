@@ -23,10 +23,11 @@ use Rattle.network.specs.Limits.{mostPotential}
 use Rattle.network.specs.Certificate.{marked}
 use Rattle.network.proofs.Rules.{InRange, Marks, WithinCapacity}
 use Rattle.network.proofs.Sums.{delta-same, delta-other, Compared, compared, sumTo-at, sumOf-add, Inside, across}
-use Rattle.engine.specs.Residual.{entry, unreached}
+use Rattle.packed_arcs.specs.Entries.{entry}
+use Rattle.engine.specs.Residual.{unreached}
 use Rattle.engine.specs.Push.{flowAt}
 use Rattle.solver.specs.Instance.{tails, heads, weights, constant, VertexList, single, Falls, reached, distanceOf, markOf}
-use Rattle.engine.proofs.LentParts.{zero-at}
+use Rattle.packed_arcs.proofs.LentParts.{zero-at}
 
 -- ---- the same sums
 

@@ -15,11 +15,13 @@ use Rattle.network.specs.Limits.{mostVertices, mostArcs, mostWeight, mostPotent
 use Rattle.network.specs.Network.{Arc, wordArc, wordArcs}
 use Rattle.network.specs.Question.{Question, shortestPath, maximumFlow, assignment, Setting, WeightWithin, unasked, asks, unitCost}
 use Rattle.network.proofs.Sums.{Inside}
-use Rattle.engine.specs.Residual.{entry, zeroList}
-use Rattle.engine.specs.PackedArcs.{tailOf, headOf, costOf, PackedSolved}
-use Rattle.engine.specs.Calls.{arcFits, arcsFit, solvable, SolveOutcome}
-use Rattle.engine.proofs.LentParts.{lent-again}
-use Rattle.engine.proofs.LimitTests.{both-on}
+use Rattle.packed_arcs.specs.Entries.{entry, zeroList}
+use Rattle.packed_arcs.specs.PackedArcs.{tailOf, headOf, costOf}
+use Rattle.packed_arcs.specs.Limits.{arcFits, arcsFit, solvable}
+use Rattle.engine.specs.PackedNetwork.{PackedSolved}
+use Rattle.engine.specs.Calls.{SolveOutcome}
+use Rattle.packed_arcs.proofs.LentParts.{lent-again}
+use Rattle.packed_arcs.proofs.LimitTests.{both-on}
 use Rattle.solver.specs.declared.vertices.NumberKind.the-variants.{Mark, Potential}
 use Rattle.solver.specs.Instance.{Fits, constant, VertexList, reached, numberOf}
 use Rattle.solver.specs.Certify.{AcceptedNetwork, packedFor, standing, EngineRunFor, EngineRun}

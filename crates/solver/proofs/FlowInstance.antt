@@ -16,7 +16,7 @@ use Rattle.network.specs.Limits.{mostWeight}
 use Rattle.network.specs.Certificate.{marked}
 use Rattle.network.proofs.Rules.{WithinCapacity, FlowCertificate}
 use Rattle.network.proofs.Sound.{balance-parts}
-use Rattle.engine.specs.Residual.{entry}
+use Rattle.packed_arcs.specs.Entries.{entry}
 use Rattle.engine.specs.Phase.{Solved}
 use Rattle.solver.specs.Instance.{Fits, tails, heads, weights, constant, VertexList, single, plenty, Falls, markOf}
 use Rattle.solver.specs.Certify.{endFor}

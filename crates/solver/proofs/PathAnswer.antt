@@ -13,16 +13,19 @@ use borrow.Author.Tests.{lt-ltb, eq-eqb}
 use Rattle.network.specs.Limits.{mostPotential}
 use Rattle.network.specs.Network.{Arc, wordArc, wordArcs}
 use Rattle.network.specs.Question.{Question, shortestPath, Setting, TwoVertices, EndsFor, asks}
-use Rattle.engine.specs.Residual.{entry, unreached, zeroList, ResidualNetwork, residual}
-use Rattle.engine.specs.PackedArcs.{tailsOf, headsOf, costsOf, capacitiesOf, residualOf, PackedPhaseState, PackedMoved}
+use Rattle.packed_arcs.specs.Entries.{entry, zeroList}
+use Rattle.packed_arcs.specs.PackedArcs.{tailsOf, headsOf, costsOf, capacitiesOf}
+use Rattle.packed_arcs.specs.Limits.{arcsFit, sendable}
+use Rattle.engine.specs.Residual.{unreached, ResidualNetwork, residual}
+use Rattle.engine.specs.PackedNetwork.{residualOf, PackedPhaseState, PackedMoved}
 use Rattle.engine.specs.Push.{Moved}
 use Rattle.engine.specs.Phase.{SearchResult, PhaseState}
-use Rattle.engine.specs.Calls.{arcsFit, sendable, SearchAndPush, SendOutcome}
+use Rattle.engine.specs.Calls.{SearchAndPush, SendOutcome}
 use Rattle.engine.specs.declared.Sent.{Sent}
 use Rattle.engine.specs.declared.Sent.the-variants.{Reached, Unreached, Refused}
+use Rattle.packed_arcs.proofs.LentParts.{zero-at}
+use Rattle.packed_arcs.proofs.LimitTests.{both-on}
 use Rattle.engine.proofs.LastSearch.{near-enough}
-use Rattle.engine.proofs.LentParts.{zero-at}
-use Rattle.engine.proofs.LimitTests.{both-on}
 use Rattle.solver.specs.declared.vertices.NumberKind.the-variants.{Mark, Distance}
 use Rattle.solver.specs.Instance.{tails, heads, constant, VertexList, numberOf}
 use Rattle.solver.specs.Certify.{AcceptedNetwork, packedFor, costs, capacities, standing, NodeNumbers, Solution}

@@ -21,14 +21,15 @@ use Rattle.network.proofs.Rules.{PathCertificate, NoPathCertificate, PathBalanc
 use Rattle.network.proofs.Sums.{Inside, Compared, compared, delta-same}
 use Rattle.network.proofs.Paths.{walk-above, no-walk}
 use Rattle.network.proofs.Sound.{balance-parts}
-use Rattle.engine.specs.Residual.{entry, unreached, residual, keyBeyond, ParentArc}
+use Rattle.packed_arcs.specs.Entries.{entry}
+use Rattle.engine.specs.Residual.{unreached, residual, keyBeyond, ParentArc}
 use Rattle.engine.specs.Push.{Moved}
 use Rattle.engine.specs.Phase.{SearchResult, PhaseState}
 use Rattle.solver.specs.Instance.{Fits, tails, heads, weights, constant, VertexList, single, distanceOf, potentialOf, markOf, toward}
 use Rattle.solver.specs.Certify.{endFor}
+use Rattle.packed_arcs.proofs.LentParts.{zero-at}
 use Rattle.engine.proofs.PhaseLaws.{opened}
 use Rattle.engine.proofs.LastSearch.{few-arcs, near-enough, leads-on, from-left}
-use Rattle.engine.proofs.LentParts.{zero-at}
 use Rattle.solver.proofs.ColumnsAndLoads.{constant-at, when-delta, index-every, since-none, index, loads-arcs, columnArc, every-arc, every-load, column-len, paid-cost, fallen, Carried, carried-by, as-much, Seen, seen, unseen, sight, marks-fit, no-cross}
 
 -- ---- walks

@@ -23,8 +23,9 @@ use Rattle.network.specs.Tests.{openingChecks, arcChecks, claimNumber}
 use Rattle.network.proofs.Allowed.{opening-rule, opening-numbered, arc-rule}
 use Rattle.network.proofs.Rules.{FlowCertificate, RulesHold, rules-certified}
 use Rattle.network.proofs.Sums.{Inside}
-use Rattle.engine.specs.Residual.{entry, unreached, residual}
-use Rattle.engine.specs.PackedArcs.{tailsOf, headsOf, costsOf, capacitiesOf}
+use Rattle.packed_arcs.specs.Entries.{entry}
+use Rattle.packed_arcs.specs.PackedArcs.{tailsOf, headsOf, costsOf, capacitiesOf}
+use Rattle.engine.specs.Residual.{unreached, residual}
 use Rattle.engine.specs.Push.{Moved}
 use Rattle.engine.specs.Phase.{SearchResult, PhaseState, Solved}
 use Rattle.solver.specs.Instance.{Fits, tails, heads, weights, constant, VertexList, single, plenty, pairRoom, markOf, toward, numberOf}

@@ -6,7 +6,7 @@ use Prim.Native.Nat.{ℕ, _+_, _<_, _≤_}
 use native.Mathlib.Omega.{arith}
 use native.Mathlib.Decide.{ℕ-discrete, decLt}
 use lib.ListN.{length, List·getD-eq-default}
-use Rattle.engine.specs.Residual.{entry}
+use Rattle.packed_arcs.specs.Entries.{entry}
 
 -- ---- nothing wanted below v
 

@@ -15,8 +15,8 @@ use Rattle.network.specs.Network.{Arc, wordArc, wordArcs, loadsOf}
 use Rattle.network.specs.Question.{Question, shortestPath, maximumFlow, assignment, unasked, Setting, asks, unitCost, Opened, Allowed, Answer, value, none, TrueAnswer}
 use Rattle.network.specs.Certificate.{Claim, ofValue, ofNone, claimFor, Certified}
 use Rattle.network.specs.Tests.{claimNumber, openingChecks, arcChecks}
-use Rattle.engine.specs.Residual.{entry}
-use Rattle.engine.specs.PackedArcs.{packedArc}
+use Rattle.packed_arcs.specs.Entries.{entry}
+use Rattle.packed_arcs.specs.PackedArcs.{packedArc}
 use Rattle.engine.specs.Phase.{Solved}
 use Rattle.solver.specs.declared.Finding.{Finding}
 use Rattle.solver.specs.declared.Finding.the-variants.{Value, None, Refused}

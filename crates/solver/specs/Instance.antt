@@ -12,7 +12,8 @@ use Rattle.prelude.specs.Lists.{Every}
 use Rattle.network.specs.Limits.{mostVertices, mostArcs, mostWeight, mostPotential}
 use Rattle.network.specs.Network.{Arc, delta}
 use Rattle.network.specs.Question.{Setting, pumps, WeightWithin}
-use Rattle.engine.specs.Residual.{entry, unreached}
+use Rattle.packed_arcs.specs.Entries.{entry}
+use Rattle.engine.specs.Residual.{unreached}
 use Rattle.solver.specs.declared.vertices.NumberKind.{NumberKind}
 use Rattle.solver.specs.declared.vertices.NumberKind.the-variants.{Mark, Distance, Potential}
 

@@ -13,9 +13,9 @@ use super::vertices::stand;
 use super::vertices::write;
 use checks::HeldSetting;
 use engine::Sent;
-use engine::clearing::clear_amounts;
 use network::MOST_ARCS;
 use network::MOST_VERTICES;
+use packed_arcs::clearing::clear_amounts;
 
 // Asks the engine the question of the setting: supplies, demands, packed records.
 fn run(

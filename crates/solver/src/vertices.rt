@@ -7,7 +7,7 @@ ghost use Rattle.prelude.specs.Choice.{pick};
 ghost use Rattle.network.specs.Limits.{mostVertices, mostPotential};
 ghost use Rattle.checks.specs.Held.{asked};
 ghost use Rattle.solver.specs.Certify.{endFor, standing, NodeNumbers, Wanting};
-ghost use Rattle.engine.specs.Residual.{entry};
+ghost use Rattle.packed_arcs.specs.Entries.{entry};
 ghost use Rattle.solver.specs.Instance.{VertexList, single as singleAt, atPumps, atSites, reached, numberOf};
 use checks::HeldSetting;
 use checks::reading::pumps;

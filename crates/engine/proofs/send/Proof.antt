@@ -4,8 +4,8 @@ use mathlib.Core.Path.{sym}
 use denote.Ref.{now}
 use lib.ListN.{length}
 use borrow.Author.Needs.{needs}
-use Rattle.engine.proofs.LentParts.{zero-list-length}
-use Rattle.engine.proofs.LimitTests.{Sendable}
+use Rattle.packed_arcs.proofs.LentParts.{zero-list-length}
+use Rattle.packed_arcs.proofs.LimitTests.{Sendable}
 use Rattle.engine.proofs.CallOutcomes.{send-refused, send-facts, send-starts, send-ends}
 use Rattle.engine.proofs.send.Statement.{statement}
 use Rattle.engine.proofs.send.Tie as tie

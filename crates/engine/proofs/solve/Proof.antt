@@ -4,8 +4,8 @@ use mathlib.Core.Path.{sym}
 use denote.Ref.{now}
 use lib.ListN.{length}
 use borrow.Author.Needs.{needs}
-use Rattle.engine.proofs.LentParts.{zero-list-length}
-use Rattle.engine.proofs.LimitTests.{Solvable}
+use Rattle.packed_arcs.proofs.LentParts.{zero-list-length}
+use Rattle.packed_arcs.proofs.LimitTests.{Solvable}
 use Rattle.engine.proofs.CallOutcomes.{solve-refused, solve-facts, solve-starts, solve-ends}
 use Rattle.engine.proofs.solve.Statement.{statement}
 use Rattle.engine.proofs.solve.Tie as tie

@@ -3,7 +3,7 @@
 use mathlib.Core.Path.{refl, sym, _∙_}
 use native.Mathlib.Omega.{arith}
 use borrow.Author.Needs.{needs}
-use Rattle.engine.specs.PackedArcs.{tailsOf, headsOf, costsOf, capacitiesOf}
+use Rattle.packed_arcs.specs.PackedArcs.{tailsOf, headsOf, costsOf, capacitiesOf}
 use Rattle.engine.specs.Residual.{sum}
 use Rattle.engine.proofs.PhaseLaws.{Running, running, linked, phase, target-ok, target-none}
 use Rattle.engine.proofs.phases.run.Statement.{statement}

@@ -5,9 +5,9 @@ use Prim.Native.Nat.{ℕ, _<_}
 use native.Mathlib.Omega.{arith}
 use borrow.Fn.Kinds.{In}
 use borrow.Fn.PlainCycle.{Measures, is, falls, and}
-use Rattle.engine.specs.Residual.{entry}
+use Rattle.packed_arcs.specs.Entries.{entry}
+use Rattle.packed_arcs.proofs.ArcColumns.{columns, capacity-fits}
 use Rattle.engine.proofs.PushedAmounts.{arc-ok, start-ok, shift-ok, moved-root, moved-step}
-use Rattle.engine.proofs.ArcColumns.{columns, capacity-fits}
 use Rattle.engine.proofs.push.push.Reads as push
 use Rattle.engine.proofs.push.push.Kinds as push-kinds
 use Rattle.engine.proofs.push.+push.Lts-push as push-lts

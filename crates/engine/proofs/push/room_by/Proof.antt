@@ -4,9 +4,9 @@ use mathlib.Core.Path.{ap}
 use native.Mathlib.Omega.{arith}
 use borrow.Author.Tests.{lt-ltb, le-ltb}
 use borrow.Author.Needs.{needs}
-use Rattle.engine.specs.PackedArcs.{capacitiesOf}
-use Rattle.engine.specs.Residual.{entry}
-use Rattle.engine.proofs.ArcColumns.{capacity-at}
+use Rattle.packed_arcs.specs.Entries.{entry}
+use Rattle.packed_arcs.specs.PackedArcs.{capacitiesOf}
+use Rattle.packed_arcs.proofs.ArcColumns.{capacity-at}
 use Rattle.engine.proofs.push.room_by.Statement.{statement}
 use Rattle.engine.proofs.push.room_by.Tie as tie
 

@@ -4,7 +4,7 @@ use mathlib.Core.Path.{ap}
 use native.Mathlib.Omega.{arith}
 use borrow.Author.Tests.{lt-ltb, le-ltb}
 use borrow.Author.Needs.{needs}
-use Rattle.engine.specs.Residual.{entry}
+use Rattle.packed_arcs.specs.Entries.{entry}
 use Rattle.engine.proofs.push.shift.Statement.{statement}
 use Rattle.engine.proofs.push.shift.Tie as tie
 

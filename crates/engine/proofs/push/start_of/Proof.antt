@@ -4,9 +4,9 @@ use mathlib.Core.Path.{sym, ap, _∙_}
 use native.Mathlib.Omega.{arith}
 use borrow.Author.Tests.{lt-ltb, le-ltb}
 use borrow.Author.Needs.{needs}
-use Rattle.engine.specs.PackedArcs.{tailsOf, headsOf}
-use Rattle.engine.specs.Residual.{entry}
-use Rattle.engine.proofs.ArcColumns.{tail-at, head-at}
+use Rattle.packed_arcs.specs.Entries.{entry}
+use Rattle.packed_arcs.specs.PackedArcs.{tailsOf, headsOf}
+use Rattle.packed_arcs.proofs.ArcColumns.{tail-at, head-at}
 use Rattle.engine.proofs.push.start_of.Statement.{statement}
 use Rattle.engine.proofs.push.start_of.Tie as tie
 

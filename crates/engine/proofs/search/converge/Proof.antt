@@ -5,10 +5,10 @@ use mathlib.Core.List.{List}
 use Prim.Native.Nat.{ℕ}
 use native.Mathlib.Omega.{arith}
 use borrow.Author.Tests.{not-true, not-false}
-use Rattle.engine.specs.PackedArcs.{residualOf}
+use Rattle.engine.specs.PackedNetwork.{residualOf}
 use Rattle.engine.specs.Residual.{RelaxedArc, LoweredKeys, sum}
+use Rattle.packed_arcs.proofs.ArcColumns.{columns}
 use Rattle.engine.proofs.FallingKeys.{lower-refl, lower-trans, pass-fell, pass-stayed, ready-lower}
-use Rattle.engine.proofs.ArcColumns.{columns}
 use Rattle.engine.proofs.search.converge.Statement.{statement}
 use Rattle.engine.proofs.search.converge.Tie as tie
 

@@ -7,7 +7,7 @@ use Prim.Native.Nat.{ℕ, _≤_, _-_}
 use native.Mathlib.Omega.{arith}
 use lib.ListN.{length}
 use borrow.Author.Count.{below-more}
-use Rattle.engine.specs.PackedArcs.{residualOf}
+use Rattle.engine.specs.PackedNetwork.{residualOf}
 use Rattle.engine.specs.Residual.{Relaxation, AllRelaxed, RelaxedArc}
 use Rattle.engine.proofs.FallingKeys.{step-fell, step-next, step-same, step-map, ready-lower}
 use Rattle.engine.proofs.search.pass.Statement.{statement}

@@ -4,7 +4,7 @@ use mathlib.Core.Path.{subst, refl}
 use mathlib.Core.List.{List}
 use Prim.Native.Nat.{ℕ}
 use borrow.Author.Needs.{needs}
-use Rattle.engine.specs.PackedArcs.{residualOf}
+use Rattle.engine.specs.PackedNetwork.{residualOf}
 use Rattle.engine.specs.Residual.{RelaxedBackward}
 use Rattle.engine.proofs.FallingKeys.{step-fell, step-next, ready-lower}
 use Rattle.engine.proofs.search.relax.Statement.{statement}

@@ -2,9 +2,10 @@
 -- Assumes nothing.
 use native.Mathlib.Omega.{arith}
 use borrow.Author.Needs.{needs}
-use Rattle.engine.specs.PackedArcs.{residualOf}
+use Rattle.engine.specs.PackedNetwork.{residualOf}
+use Rattle.packed_arcs.proofs.ArcColumns.{columns}
 use Rattle.engine.proofs.FallingKeys.{step-same}
-use Rattle.engine.proofs.ArcColumns.{ArcRead, columns, limits, not-positive, step-backward}
+use Rattle.engine.proofs.ArcReads.{ArcRead, limits, not-positive, step-backward}
 use Rattle.engine.proofs.search.relax_backward.Statement.{statement}
 use Rattle.engine.proofs.search.relax_backward.Tie as tie
 

@@ -2,9 +2,10 @@
 -- Assumes nothing.
 use native.Mathlib.Omega.{arith}
 use borrow.Author.Needs.{needs}
-use Rattle.engine.specs.PackedArcs.{residualOf}
+use Rattle.engine.specs.PackedNetwork.{residualOf}
+use Rattle.packed_arcs.proofs.ArcColumns.{columns, capacity-at}
 use Rattle.engine.proofs.FallingKeys.{step-same}
-use Rattle.engine.proofs.ArcColumns.{ArcRead, columns, capacity-at, limits, not-negative, step-forward}
+use Rattle.engine.proofs.ArcReads.{ArcRead, limits, not-negative, step-forward}
 use Rattle.engine.proofs.search.relax_forward.Statement.{statement}
 use Rattle.engine.proofs.search.relax_forward.Tie as tie
 

@@ -3,7 +3,7 @@
 use mathlib.Core.Path.{sym, subst, _∙_}
 use Prim.Native.Nat.{ℕ}
 use borrow.Author.Needs.{needs}
-use Rattle.engine.specs.PackedArcs.{residualOf}
+use Rattle.engine.specs.PackedNetwork.{residualOf}
 use Rattle.engine.specs.Residual.{WithinLimits}
 use Rattle.engine.proofs.PhaseLaws.{found}
 use Rattle.engine.proofs.search.search.Statement.{statement}

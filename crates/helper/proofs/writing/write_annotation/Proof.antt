@@ -3,8 +3,8 @@
 use mathlib.Core.Path.{sym, _∙_}
 use lib.Seq.{length-take-le}
 use borrow.Author.Needs.{needs}
-use Rattle.engine.specs.Residual.{zeroList}
-use Rattle.engine.proofs.LentParts.{zero-list-length, back-within, back-length}
+use Rattle.packed_arcs.specs.Entries.{zeroList}
+use Rattle.packed_arcs.proofs.LentParts.{zero-list-length, back-within, back-length}
 use Rattle.helper.proofs.FoundAnnotation.{few-arcs, few-vertices, gathered-again}
 use Rattle.helper.proofs.writing.write_annotation.Statement.{statement}
 use Rattle.helper.proofs.writing.write_annotation.Tie as tie

@@ -10,9 +10,9 @@ use denote.Ref.{now}
 use Rattle.network.specs.Limits.{mostArcs}
 use Rattle.network.specs.Question.{Setting, asks}
 use Rattle.checks.specs.Held.{asked}
-use Rattle.engine.specs.Residual.{entry, zeroList}
+use Rattle.packed_arcs.specs.Entries.{entry, zeroList}
 use Rattle.engine.specs.declared.Sent.{Sent}
-use Rattle.engine.proofs.LentParts.{zero-list-length, lent-again, back-within, back-length}
+use Rattle.packed_arcs.proofs.LentParts.{zero-list-length, lent-again, back-within, back-length}
 use Rattle.solver.specs.Instance.{VertexList}
 use Rattle.solver.specs.Certify.{standing}
 use Rattle.solver.proofs.EngineInputs.{few-records, packed-length, mark-low}

@@ -9,8 +9,8 @@ use borrow.Author.Needs.{needs}
 use Rattle.network.specs.Limits.{mostVertices, mostArcs}
 use Rattle.checks.specs.Held.{asked}
 use Rattle.solver.proofs.EngineInputs.{few-records, run-ok}
-use Rattle.engine.specs.Residual.{zeroList}
-use Rattle.engine.proofs.LentParts.{part-small, back-within, back-length}
+use Rattle.packed_arcs.specs.Entries.{zeroList}
+use Rattle.packed_arcs.proofs.LentParts.{part-small, back-within, back-length}
 use Rattle.solver.proofs.answers.run.Statement.{statement}
 use Rattle.solver.proofs.answers.run.Tie as tie
 

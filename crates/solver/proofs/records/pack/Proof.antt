@@ -10,7 +10,7 @@ use Rattle.network.specs.Question.{Question}
 use Rattle.checks.specs.Held.{questionHeld}
 use Rattle.solver.specs.Certify.{packedFor}
 use Rattle.prelude.proofs.Filling.{Filling, fill-start, fill-turn}
-use Rattle.engine.proofs.ListLoops.{filled-as}
+use Rattle.packed_arcs.proofs.ListLoops.{filled-as}
 use Rattle.solver.proofs.records.pack.Statement.{statement}
 use Rattle.solver.proofs.records.pack.Tie as tie
 

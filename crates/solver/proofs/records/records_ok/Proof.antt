@@ -7,7 +7,7 @@ use borrow.Author.Needs.{needs}
 use borrow.Author.Tests.{not-true, not-false}
 use Rattle.checks.specs.Held.{asked}
 use Rattle.solver.specs.Certify.{recordOk}
-use Rattle.engine.proofs.ListLoops.{Undecided, all-more, all-fails, all-end}
+use Rattle.packed_arcs.proofs.ListLoops.{Undecided, all-more, all-fails, all-end}
 use Rattle.solver.proofs.records.records_ok.Statement.{statement}
 use Rattle.solver.proofs.records.records_ok.Tie as tie
 

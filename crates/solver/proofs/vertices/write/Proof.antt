@@ -12,7 +12,7 @@ use borrow.Author.Needs.{needs, sfits-of}
 use Rattle.prelude.proofs.Filling.{Filling, fill-start, fill-turn, fill-end}
 use Rattle.network.specs.Limits.{mostPotential}
 use Rattle.solver.specs.Instance.{numberOf}
-use Rattle.engine.specs.Residual.{entry}
+use Rattle.packed_arcs.specs.Entries.{entry}
 use Rattle.solver.proofs.vertices.write.Statement.{statement}
 use Rattle.solver.proofs.vertices.write.Tie as tie
 

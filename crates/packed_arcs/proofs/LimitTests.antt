@@ -1,4 +1,4 @@
--- The tests of what the engine is handed: tests in a row, what it is to pass them, and the state from which a call then starts.
+-- The tests of what the engine is handed: tests in a row, and what it is to pass them.
 -- Assumes nothing.
 use mathlib.Core.Path.{_≡_, sym, ap, _∙_}
 use mathlib.Core.Bool.{Bool, true, false, not, _&&_}
@@ -7,15 +7,14 @@ use Prim.Native.Nat.{ℕ, zero, suc, _<_, _≤_}
 use native.Mathlib.Omega.{arith}
 use native.Mathlib.Decide.{decLt}
 use lib.Dec.{T, eqb, ltb, leb, eqb→eq, leb→le, ltb→lt}
-use lib.ListN.{length, length-map, length-replicate, List·getD-eq-default}
+use lib.ListN.{length, length-map, List·getD-eq-default}
 use borrow.Author.Tests.{not-true, not-false, lt-ltb, le-ltb, le-leb, lt-leb, eq-eqb, ne-eqb}
 use Rattle.prelude.specs.Lists.{all}
 use Rattle.prelude.proofs.Booleans.{and-left, and-right, true→T}
-use Rattle.engine.specs.Residual.{entry, zeroList}
-use Rattle.engine.specs.PackedArcs.{tailOf, headOf, costOf, capacityOf, tailsOf, headsOf, costsOf, PackedPhaseState}
-use Rattle.engine.specs.Calls.{arcFits, arcsFit, solvable, sendable}
-use Rattle.engine.proofs.ArcColumns.{columns, tail-at, head-at, cost-at}
-use Rattle.engine.proofs.LentParts.{zero-at}
+use Rattle.packed_arcs.specs.Entries.{entry}
+use Rattle.packed_arcs.specs.PackedArcs.{tailOf, headOf, costOf, tailsOf, headsOf, costsOf}
+use Rattle.packed_arcs.specs.Limits.{arcFits, arcsFit, solvable, sendable}
+use Rattle.packed_arcs.proofs.ArcColumns.{tail-at, head-at, cost-at}
 
 -- ---- tests in a row
 
@@ -108,22 +107,22 @@ sendable-facts arcs t amounts n keys ok =
       key-len = eqb→eq keys n (and-right (ltb t n) (eqb keys n) two);
     }
 
--- ---- the state with no amounts and no potentials
+-- ---- the columns of arcs that fit
 
 module _ {arcs : List ℕ} {amounts n : ℕ} (F : Fitting arcs amounts n) where
-  tail-below : (e : ℕ) → e < length arcs → entry (tailsOf arcs) e < n
+  pub tail-below : (e : ℕ) → e < length arcs → entry (tailsOf arcs) e < n
   tail-below e h =
       let k = entry arcs e in
       let t = and-left (ltb (tailOf k) n && ltb (headOf k) n) (leb (costOf k) 32767) (F .each e h) in
       omega (arith, tail-at arcs e, ltb→lt (tailOf k) n (and-left (ltb (tailOf k) n) (ltb (headOf k) n) t))
 
-  head-below : (e : ℕ) → e < length arcs → entry (headsOf arcs) e < n
+  pub head-below : (e : ℕ) → e < length arcs → entry (headsOf arcs) e < n
   head-below e h =
       let k = entry arcs e in
       let t = and-left (ltb (tailOf k) n && ltb (headOf k) n) (leb (costOf k) 32767) (F .each e h) in
       omega (arith, head-at arcs e, ltb→lt (headOf k) n (and-right (ltb (tailOf k) n) (ltb (headOf k) n) t))
 
-  cost-low : (e : ℕ) → entry (costsOf arcs) e ≤ 32767
+  pub cost-low : (e : ℕ) → entry (costsOf arcs) e ≤ 32767
   cost-low e = go (decLt e (length arcs))
     where
       go : Dec (e < length arcs) → entry (costsOf arcs) e ≤ 32767
@@ -131,29 +130,3 @@ module _ {arcs : List ℕ} {amounts n : ℕ} (F : Fitting arcs amounts n) where
           let k = entry arcs e in
           omega (arith, cost-at arcs e, leb→le (costOf k) 32767 (and-right (ltb (tailOf k) n && ltb (headOf k) n) (leb (costOf k) 32767) (F .each e h)))
       go (no h) = omega (arith, List·getD-eq-default (costsOf arcs) 0 {n = e} (omega (arith, length-map arcs costOf)))
-
-  pub start-state : (left need : List ℕ) → length left ≡ n → length need ≡ length left
-      → PackedPhaseState arcs (zeroList (length arcs)) (zeroList (length left)) left need
-  start-state left need ll nl = record {
-    sized = record {
-      few = omega (arith, columns arcs, F .few);
-      to-len = length-map arcs headOf ∙ sym (columns arcs);
-      cost-len = length-map arcs costOf ∙ sym (columns arcs);
-      cap-len = length-map arcs capacityOf ∙ sym (columns arcs);
-      x-len = length-replicate (length arcs) 0 ∙ sym (columns arcs);
-      pi-len = length-replicate (length left) 0;
-      tails = λ e h. omega (arith, tail-below e (omega (arith, columns arcs)));
-      heads = λ e h. omega (arith, head-below e (omega (arith, columns arcs)));
-      costs = cost-low;
-      pis = λ v. omega (arith, zero-at (length left) v);
-    };
-    nonnegative = record {
-      forward = λ e h r. omega (arith, zero-at (length left) (entry (headsOf arcs) e));
-      backward = λ e h r. absurd (omega (arith, zero-at (length arcs) e));
-    };
-    within = λ e h. omega (arith, zero-at (length arcs) e);
-    need-len = nl;
-    small = omega (arith, F .small);
-    zero = λ v h r. zero-at (length left) v;
-    top = λ t v ht hv r. omega (arith, zero-at (length left) v);
-  }

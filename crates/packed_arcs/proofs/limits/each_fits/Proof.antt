@@ -1,14 +1,14 @@
--- `engine::limits::each_fits` meets its contract. The loop's invariant: the arcs from e on decide.
+-- `packed_arcs::limits::each_fits` meets its contract. The loop's invariant: the arcs from e on decide.
 -- Assumes nothing.
 use mathlib.Core.Path.{refl, sym, _∙_}
 use Prim.Native.Nat.{_-_}
 use lib.ListN.{length}
 use borrow.Author.Needs.{needs}
 use borrow.Author.Tests.{not-true, not-false}
-use Rattle.engine.specs.Calls.{arcFits}
-use Rattle.engine.proofs.ListLoops.{Undecided, all-more, all-fails, all-end}
-use Rattle.engine.proofs.limits.each_fits.Statement.{statement}
-use Rattle.engine.proofs.limits.each_fits.Tie as tie
+use Rattle.packed_arcs.specs.Limits.{arcFits}
+use Rattle.packed_arcs.proofs.ListLoops.{Undecided, all-more, all-fails, all-end}
+use Rattle.packed_arcs.proofs.limits.each_fits.Statement.{statement}
+use Rattle.packed_arcs.proofs.limits.each_fits.Tie as tie
 
 abbrev Inv-loop : tie.InvT-loop
 Inv-loop n arcs e₀ e = Undecided (arcFits n) arcs e

@@ -1,36 +1,17 @@
--- The columns of packed arcs, and what relaxing one arc reads.
+-- What relaxing one packed arc reads.
 -- Assumes nothing.
 use mathlib.Core.Path.{_≡_, sym, _∙_}
 use mathlib.Core.Bool.{Bool}
 use mathlib.Core.List.{List}
 use Prim.Native.Nat.{ℕ, _+_, _-_, _<_, _≤_}
 use native.Mathlib.Omega.{arith}
-use lib.ListN.{length, length-map, List·getD-map}
-use Rattle.engine.specs.PackedArcs.{tailOf, headOf, costOf, capacityOf, tailsOf, headsOf, costsOf, capacitiesOf, residualOf}
-use Rattle.engine.specs.Residual.{entry, ResidualNetwork, tail, head, RelaxedForward, RelaxedBackward, LowerOutcome, SearchReady, Relaxation}
+use lib.ListN.{length}
+use Rattle.packed_arcs.specs.Entries.{entry}
+use Rattle.packed_arcs.specs.PackedArcs.{tailOf, headOf, costOf, capacityOf}
+use Rattle.packed_arcs.proofs.ArcColumns.{listed, tail-at, head-at, cost-at, capacity-at}
+use Rattle.engine.specs.PackedNetwork.{residualOf}
+use Rattle.engine.specs.Residual.{ResidualNetwork, tail, head, RelaxedForward, RelaxedBackward, LowerOutcome, SearchReady, Relaxation}
 use Rattle.engine.proofs.FallingKeys.{forward-step, backward-step}
-
-pub columns : (arcs : List ℕ) → length (tailsOf arcs) ≡ length arcs
-columns arcs = length-map arcs tailOf
-
--- an arc is one of the column's
-pub listed : (arcs : List ℕ) (e : ℕ) → e < length arcs → e < length (tailsOf arcs)
-listed arcs e h = omega (arith, columns arcs)
-
-pub tail-at : (arcs : List ℕ) (e : ℕ) → entry (tailsOf arcs) e ≡ tailOf (entry arcs e)
-tail-at arcs e = List·getD-map tailOf arcs e 0
-
-pub head-at : (arcs : List ℕ) (e : ℕ) → entry (headsOf arcs) e ≡ headOf (entry arcs e)
-head-at arcs e = List·getD-map headOf arcs e 0
-
-pub cost-at : (arcs : List ℕ) (e : ℕ) → entry (costsOf arcs) e ≡ costOf (entry arcs e)
-cost-at arcs e = List·getD-map costOf arcs e 0
-
-pub capacity-at : (arcs : List ℕ) (e : ℕ) → entry (capacitiesOf arcs) e ≡ capacityOf (entry arcs e)
-capacity-at arcs e = List·getD-map capacityOf arcs e 0
-
-pub capacity-fits : (arcs : List ℕ) (e : ℕ) → entry (capacitiesOf arcs) e < 65536
-capacity-fits arcs e = omega (arith, capacity-at arcs e)
 
 -- a, b and w were read from the arc e
 pub record ArcRead (arcs x pi key par : List ℕ) (e a b w : ℕ) : Type 0 where

@@ -1,10 +1,10 @@
--- `engine::limits::arc_fits` meets its contract.
+-- `packed_arcs::limits::arc_fits` meets its contract.
 -- Assumes nothing.
 use native.Mathlib.Omega.{arith}
 use borrow.Author.Needs.{needs}
-use Rattle.engine.proofs.LimitTests.{tail-beyond, head-beyond, cost-decides}
-use Rattle.engine.proofs.limits.arc_fits.Statement.{statement}
-use Rattle.engine.proofs.limits.arc_fits.Tie as tie
+use Rattle.packed_arcs.proofs.LimitTests.{tail-beyond, head-beyond, cost-decides}
+use Rattle.packed_arcs.proofs.limits.arc_fits.Statement.{statement}
+use Rattle.packed_arcs.proofs.limits.arc_fits.Tie as tie
 
 returns : tie.Need-returns
 returns c =

@@ -1,9 +1,9 @@
--- `engine::limits::arcs_fit` meets its contract.
+-- `packed_arcs::limits::arcs_fit` meets its contract.
 -- Assumes nothing.
 use borrow.Author.Needs.{needs}
-use Rattle.engine.proofs.LimitTests.{in-a-row}
-use Rattle.engine.proofs.limits.arcs_fit.Statement.{statement}
-use Rattle.engine.proofs.limits.arcs_fit.Tie as tie
+use Rattle.packed_arcs.proofs.LimitTests.{in-a-row}
+use Rattle.packed_arcs.proofs.limits.arcs_fit.Statement.{statement}
+use Rattle.packed_arcs.proofs.limits.arcs_fit.Tie as tie
 
 pub arcs-fit-spec : {M : Type 1} → statement M
 arcs-fit-spec =

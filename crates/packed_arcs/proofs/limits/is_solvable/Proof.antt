@@ -1,9 +1,9 @@
--- `engine::limits::is_solvable` meets its contract.
+-- `packed_arcs::limits::is_solvable` meets its contract.
 -- Assumes nothing.
 use borrow.Author.Needs.{needs}
-use Rattle.engine.proofs.LimitTests.{in-a-row}
-use Rattle.engine.proofs.limits.is_solvable.Statement.{statement}
-use Rattle.engine.proofs.limits.is_solvable.Tie as tie
+use Rattle.packed_arcs.proofs.LimitTests.{in-a-row}
+use Rattle.packed_arcs.proofs.limits.is_solvable.Statement.{statement}
+use Rattle.packed_arcs.proofs.limits.is_solvable.Tie as tie
 
 pub is-solvable-spec : {M : Type 1} → statement M
 is-solvable-spec =

@@ -1,7 +1,7 @@
 // Lists that start at 0: the amounts on the arcs and the potentials of the vertices.
 ghost use mathlib.Core.Path.{_≡_};
 ghost use lib.ListN.{length};
-ghost use Rattle.engine.specs.Residual.{zeroList};
+ghost use Rattle.packed_arcs.specs.Entries.{zeroList};
 
 // Sets every amount to 0.
 pub fn clear_amounts(amounts: &mut [u16])
@@ -15,7 +15,7 @@ pub fn clear_amounts(amounts: &mut [u16])
 }
 
 // Sets every potential to 0.
-pub(crate) fn clear_potentials(pi: &mut [u32])
+pub fn clear_potentials(pi: &mut [u32])
     ensures { λ _. ⌜ now (pi .exit) ≡ zeroList (length (now (pi .entry))) ⌝ }
 {
     let mut v = 0;

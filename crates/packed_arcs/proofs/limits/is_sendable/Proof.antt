@@ -1,9 +1,9 @@
--- `engine::limits::is_sendable` meets its contract.
+-- `packed_arcs::limits::is_sendable` meets its contract.
 -- Assumes nothing.
 use borrow.Author.Needs.{needs}
-use Rattle.engine.proofs.LimitTests.{in-a-row}
-use Rattle.engine.proofs.limits.is_sendable.Statement.{statement}
-use Rattle.engine.proofs.limits.is_sendable.Tie as tie
+use Rattle.packed_arcs.proofs.LimitTests.{in-a-row}
+use Rattle.packed_arcs.proofs.limits.is_sendable.Statement.{statement}
+use Rattle.packed_arcs.proofs.limits.is_sendable.Tie as tie
 
 pub is-sendable-spec : {M : Type 1} → statement M
 is-sendable-spec =

@@ -1,7 +1,7 @@
 // What the engine takes for granted, tested: at most 255 vertices and 4096 arcs, lists of the right lengths, and arcs that join vertices at a cost of at most 32767.
 ghost use mathlib.Core.Path.{_≡_};
 ghost use Rattle.prelude.specs.Lists.{all};
-ghost use Rattle.engine.specs.Calls.{arcFits, arcsFit, solvable, sendable};
+ghost use Rattle.packed_arcs.specs.Limits.{arcFits, arcsFit, solvable, sendable};
 use super::arcs::cost_of;
 use super::arcs::head_of;
 use super::arcs::tail_of;
@@ -49,7 +49,7 @@ fn arcs_fit(arcs: &[u64], amounts: usize, n: usize) -> bool
 }
 
 // Is this what `solve` answers?
-pub(crate) fn is_solvable(
+pub fn is_solvable(
     arcs: &[u64],
     amounts: usize,
     potentials: usize,
@@ -72,7 +72,7 @@ pub(crate) fn is_solvable(
 }
 
 // Is this what `send` answers?
-pub(crate) fn is_sendable(arcs: &[u64], t: usize, amounts: usize, n: usize, keys: usize) -> bool
+pub fn is_sendable(arcs: &[u64], t: usize, amounts: usize, n: usize, keys: usize) -> bool
     ensures { λ r. ⌜ r ≡ sendable (now (arcs .entry)) t amounts n keys ⌝ }
 {
     if n <= t {

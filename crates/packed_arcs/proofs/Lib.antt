@@ -1,0 +1,4 @@
+pub mod ArcColumns
+pub mod LentParts
+pub mod ListLoops
+pub mod LimitTests

@@ -1,0 +1,25 @@
+-- The limits of what the engine takes, as tests: the arcs, and what its two calls answer.
+-- Assumes nothing.
+use mathlib.Core.Bool.{Bool, _&&_}
+use mathlib.Core.List.{List}
+use Prim.Native.Nat.{ℕ}
+use lib.Dec.{eqb, ltb, leb}
+use lib.ListN.{length}
+use Rattle.prelude.specs.Lists.{all}
+use Rattle.packed_arcs.specs.PackedArcs.{tailOf, headOf, costOf}
+
+-- The packed arc joins vertices below n, and costs at most 32767.
+abbrev pub arcFits : ℕ → ℕ → Bool
+arcFits n arc = ltb (tailOf arc) n && ltb (headOf arc) n && leb (costOf arc) 32767
+
+-- At most 255 vertices and 4096 arcs, one amount for each arc, and arcs that fit.
+abbrev pub arcsFit : List ℕ → ℕ → ℕ → Bool
+arcsFit arcs amounts n = leb n 255 && leb (length arcs) 4096 && eqb amounts (length arcs) && all (arcFits n) arcs
+
+-- What `solve` answers: arcs that fit, and for each of n vertices a potential, a need and a key.
+abbrev pub solvable : List ℕ → ℕ → ℕ → ℕ → ℕ → ℕ → Bool
+solvable arcs amounts potentials n needs keys = eqb potentials n && eqb needs n && eqb keys n && arcsFit arcs amounts n
+
+-- What `send` answers: arcs that fit, a key for each of n vertices, and a vertex t to send to.
+abbrev pub sendable : List ℕ → ℕ → ℕ → ℕ → ℕ → Bool
+sendable arcs t amounts n keys = ltb t n && eqb keys n && arcsFit arcs amounts n
