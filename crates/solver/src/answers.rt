@@ -1,6 +1,7 @@
 // Certificates for the three questions: a path that the engine sends along for a path, its phases for a flow and for an assignment.
 ghost use mathlib.Core.Path.{_≡_};
 ghost use lib.ListN.{length};
+ghost use Rattle.prelude.specs.Choice.{pick};
 ghost use Rattle.network.specs.Network.{wordArcs};
 ghost use Rattle.network.specs.Question.{shortestPath, maximumFlow, assignment, asks};
 ghost use Rattle.checks.specs.Held.{asked};
@@ -40,9 +41,10 @@ fn run(
     engine::solve(&arcs[..m], x, pi, &mut left[..n], need, key);
 }
 
-// What is found, and numbers and amounts that certify it, for a flow.
-fn answer_flow(
+// What is found, and numbers and amounts that certify it, for a flow or else an assignment.
+fn answer_by_phases(
     st: HeldSetting,
+    flow: bool,
     records: &[u32],
     pi: &mut [u32],
     need: &mut [u32],
@@ -50,57 +52,16 @@ fn answer_flow(
     numbers: &mut [i32],
     amounts: &mut [u16],
 ) -> Finding
-    requires { ⌜ AcceptedNetwork (asked st) (wordArcs (now records)) × (asks (asked st) ≡ maximumFlow) ⌝ }
+    requires { ⌜ AcceptedNetwork (asked st) (wordArcs (now records)) × (asks (asked st) ≡ pick flow maximumFlow assignment) ⌝ }
     requires { ⌜ (length (now amounts) ≡ length (now records)) × (length (now numbers) ≡ st .n) ⌝ }
     requires { ⌜ (length (now pi) ≡ st .n) × (length (now need) ≡ st .n) × (length (now key) ≡ st .n) ⌝ }
     ensures { λ r. ⌜ Solution (asked st) (wordArcs (now (records .entry))) (now (numbers .exit)) (now (amounts .exit)) (findingNumber r) ⌝ }
 {
     run(st, records, amounts, pi, need, key);
-    write(NumberKind::Mark, key, numbers);
-    Finding::Value
-}
-
-pub(crate) fn certify_flow(
-    st: HeldSetting,
-    records: &[u32],
-    numbers: &mut [i32],
-    amounts: &mut [u16],
-) -> Finding
-    requires { ⌜ AcceptedNetwork (asked st) (wordArcs (now records)) × (asks (asked st) ≡ maximumFlow) ⌝ }
-    requires { ⌜ (length (now amounts) ≡ length (now records)) × (length (now numbers) ≡ st .n) ⌝ }
-    ensures { λ r. ⌜ Solution (asked st) (wordArcs (now (records .entry))) (now (numbers .exit)) (now (amounts .exit)) (findingNumber r) ⌝ }
-{
-    let n = numbers.len();
-    let mut pi = [0u32; MOST_VERTICES as usize];
-    let mut need = [0u32; MOST_VERTICES as usize];
-    let mut key = [0u32; MOST_VERTICES as usize];
-    answer_flow(
-        st,
-        records,
-        &mut pi[..n],
-        &mut need[..n],
-        &mut key[..n],
-        numbers,
-        amounts,
-    )
-}
-
-// What is found, and numbers and amounts that certify it, for an assignment.
-fn answer_assignment(
-    st: HeldSetting,
-    records: &[u32],
-    pi: &mut [u32],
-    need: &mut [u32],
-    key: &mut [u32],
-    numbers: &mut [i32],
-    amounts: &mut [u16],
-) -> Finding
-    requires { ⌜ AcceptedNetwork (asked st) (wordArcs (now records)) × (asks (asked st) ≡ assignment) ⌝ }
-    requires { ⌜ (length (now amounts) ≡ length (now records)) × (length (now numbers) ≡ st .n) ⌝ }
-    requires { ⌜ (length (now pi) ≡ st .n) × (length (now need) ≡ st .n) × (length (now key) ≡ st .n) ⌝ }
-    ensures { λ r. ⌜ Solution (asked st) (wordArcs (now (records .entry))) (now (numbers .exit)) (now (amounts .exit)) (findingNumber r) ⌝ }
-{
-    run(st, records, amounts, pi, need, key);
+    if flow {
+        write(NumberKind::Mark, key, numbers);
+        return Finding::Value;
+    }
     if met(need) {
         write(NumberKind::Potential, pi, numbers);
         return Finding::Value;
@@ -110,13 +71,14 @@ fn answer_assignment(
     Finding::None
 }
 
-pub(crate) fn certify_assignment(
+pub(crate) fn certify_by_phases(
     st: HeldSetting,
+    flow: bool,
     records: &[u32],
     numbers: &mut [i32],
     amounts: &mut [u16],
 ) -> Finding
-    requires { ⌜ AcceptedNetwork (asked st) (wordArcs (now records)) × (asks (asked st) ≡ assignment) ⌝ }
+    requires { ⌜ AcceptedNetwork (asked st) (wordArcs (now records)) × (asks (asked st) ≡ pick flow maximumFlow assignment) ⌝ }
     requires { ⌜ (length (now amounts) ≡ length (now records)) × (length (now numbers) ≡ st .n) ⌝ }
     ensures { λ r. ⌜ Solution (asked st) (wordArcs (now (records .entry))) (now (numbers .exit)) (now (amounts .exit)) (findingNumber r) ⌝ }
 {
@@ -124,8 +86,9 @@ pub(crate) fn certify_assignment(
     let mut pi = [0u32; MOST_VERTICES as usize];
     let mut need = [0u32; MOST_VERTICES as usize];
     let mut key = [0u32; MOST_VERTICES as usize];
-    answer_assignment(
+    answer_by_phases(
         st,
+        flow,
         records,
         &mut pi[..n],
         &mut need[..n],

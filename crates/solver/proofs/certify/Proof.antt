@@ -45,11 +45,11 @@ returns c = turned-away _ _ _ _ _ (c .if1 .taken) (c .before .is-admissible .ens
 certify-path-requires : tie.Need-certify-path-requires
 certify-path-requires c κs = let a = c .before .before .before .before .before in let g = accepted-in a (c .before .before .before .before .if1 .left) in ((g .0, asks-as a (c .before .before .enum-told .given .1)), (g .1, g .2))
 
-certify-flow-requires : tie.Need-certify-flow-requires
-certify-flow-requires c κs = let a = c .before .before .before .before .before in let g = accepted-in a (c .before .before .before .before .if1 .left) in ((g .0, asks-as a (c .before .before .enum-told2 .given .1)), (g .1, g .2))
+certify-by-phases-requires : tie.Need-certify-by-phases-requires
+certify-by-phases-requires c κs = let a = c .before .before .before .before .before in let g = accepted-in a (c .before .before .before .before .if1 .left) in ((g .0, asks-as a (c .before .before .enum-told2 .given .1)), (g .1, g .2))
 
-certify-assignment-requires : tie.Need-certify-assignment-requires
-certify-assignment-requires c κs = let a = c .before .before .before .before .before in let g = accepted-in a (c .before .before .before .before .if1 .left) in ((g .0, asks-as a (c .before .before .enum-told3 .given .1)), (g .1, g .2))
+certify-by-phases-requires-2 : tie.Need-certify-by-phases-requires-2
+certify-by-phases-requires-2 c κs = let a = c .before .before .before .before .before in let g = accepted-in a (c .before .before .before .before .if1 .left) in ((g .0, asks-as a (c .before .before .enum-told3 .given .1)), (g .1, g .2))
 
 returns-2 : tie.Need-returns-2
 returns-2 c =
@@ -58,13 +58,13 @@ returns-2 c =
 
 returns-3 : tie.Need-returns-3
 returns-3 c =
-    let r = c .before .before .before .certify-flow in
-    ended-in (c .before .before .before .before .before .before .before .before .before) (c .before .before .before .before .before .before .before .before .if1 .left) (r .kept .1 .1 .0) (r .kept .1 .1 .1 .0) (r .ensures)
+    let r = c .before .before .before .certify-by-phases in
+    ended-in (c .before .before .before .before .before .before .before .before .before) (c .before .before .before .before .before .before .before .before .if1 .left) (r .kept .1 .1 .1 .0) (r .kept .1 .1 .1 .1 .0) (r .ensures)
 
 returns-4 : tie.Need-returns-4
 returns-4 c =
-    let r = c .before .before .before .certify-assignment in
-    ended-in (c .before .before .before .before .before .before .before .before .before) (c .before .before .before .before .before .before .before .before .if1 .left) (r .kept .1 .1 .0) (r .kept .1 .1 .1 .0) (r .ensures)
+    let r = c .before .before .before .certify-by-phases2 in
+    ended-in (c .before .before .before .before .before .before .before .before .before) (c .before .before .before .before .before .before .before .before .if1 .left) (r .kept .1 .1 .1 .0) (r .kept .1 .1 .1 .1 .0) (r .ensures)
 
 returns-5 : tie.Need-returns-5
 returns-5 c = let a = c .before .before .before in absurd (subst Asked (asks-as a (c .enum-told4 .given .1)) (accepted-in a (c .before .before .if1 .left) .0 .opened .asked))
@@ -80,9 +80,9 @@ certify-spec =
     (λ c. search needs)
     certify-path-requires
     (λ c. search needs)
-    certify-flow-requires
+    certify-by-phases-requires
     (λ c. search needs)
-    certify-assignment-requires
+    certify-by-phases-requires-2
     (λ c. search needs)
     (λ c. search needs)
     (λ c. search needs)
