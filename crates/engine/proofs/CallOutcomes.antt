@@ -12,7 +12,8 @@ use Rattle.engine.specs.Calls.{SolveOutcome, SearchAndPush, SendOutcome}
 use Rattle.engine.specs.declared.Sent.{Sent}
 use Rattle.engine.specs.declared.Sent.the-variants.{Refused}
 use Rattle.packed_arcs.proofs.LentParts.{zero-list-part}
-use Rattle.packed_arcs.proofs.LimitTests.{passed, failed, Solvable, solvable-facts, Sendable, sendable-facts}
+use Rattle.prelude.proofs.Tested.{passed, refused as failed}
+use Rattle.packed_arcs.proofs.LimitTests.{Solvable, solvable-facts, Sendable, sendable-facts}
 use Rattle.engine.proofs.StartState.{start-state}
 
 -- lists that were cleared, as long as there are arcs and vertices

@@ -1,14 +1,14 @@
--- The tests of what the engine is handed: tests in a row, and what it is to pass them.
+-- The tests of what the engine is handed, and what it is to pass them.
 -- Assumes nothing.
-use mathlib.Core.Path.{_≡_, sym, ap, _∙_}
-use mathlib.Core.Bool.{Bool, true, false, not, _&&_}
+use mathlib.Core.Path.{_≡_, ap}
+use mathlib.Core.Bool.{true, false, _&&_}
 use mathlib.Core.List.{List, [], _∷_}
 use Prim.Native.Nat.{ℕ, zero, suc, _<_, _≤_}
 use native.Mathlib.Omega.{arith}
 use native.Mathlib.Decide.{decLt}
 use lib.Dec.{T, eqb, ltb, leb, eqb→eq, leb→le, ltb→lt}
 use lib.ListN.{length, length-map, List·getD-eq-default}
-use borrow.Author.Tests.{not-true, not-false, lt-ltb, le-ltb, le-leb, lt-leb, eq-eqb, ne-eqb}
+use borrow.Author.Tests.{lt-ltb, le-ltb}
 use Rattle.prelude.specs.Lists.{all}
 use Rattle.prelude.proofs.Booleans.{and-left, and-right, true→T}
 use Rattle.packed_arcs.specs.Entries.{entry}
@@ -16,28 +16,7 @@ use Rattle.packed_arcs.specs.PackedArcs.{tailOf, headOf, costOf, tailsOf
 use Rattle.packed_arcs.specs.Limits.{arcFits, arcsFit, solvable, sendable}
 use Rattle.packed_arcs.proofs.ArcColumns.{tail-at, head-at, cost-at}
 
--- ---- tests in a row
-
--- the result u of a call, which the code negates
-pub passed : (t u : Bool) → not u ≡ false → u ≡ t → t ≡ true
-passed t u h e = sym e ∙ not-false u h
-
-pub failed : (t u : Bool) → not u ≡ true → u ≡ t → t ≡ false
-failed t u h e = sym e ∙ not-true u h
-
-pub first-off : (s t : Bool) → s ≡ false → (s && t) ≡ false
-first-off s t e = rw e
-
-pub both-on : (s t b : Bool) → s ≡ true → t ≡ b → (s && t) ≡ b
-both-on s t b e h = rw e h
-
-pub is-off : (t : Bool) → t ≡ false → false ≡ t
-is-off t e = sym e
-
-pub and-on : (r s t : Bool) → s ≡ true → r ≡ t → r ≡ (s && t)
-and-on r s t e h = rw e h
-
-pub ruleset in-a-row = (le-leb, lt-leb, lt-ltb, le-ltb, eq-eqb, ne-eqb, first-off, both-on, is-off, and-on)
+-- ---- the tests
 
 -- one arc, whose tail a, head b and cost w were read
 module _ (n arc a b w : ℕ) where

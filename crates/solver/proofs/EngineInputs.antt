@@ -21,7 +21,7 @@ use Rattle.packed_arcs.specs.Limits.{arcFits, arcsFit, solvable}
 use Rattle.engine.specs.PackedNetwork.{PackedSolved}
 use Rattle.engine.specs.Calls.{SolveOutcome}
 use Rattle.packed_arcs.proofs.LentParts.{lent-again}
-use Rattle.packed_arcs.proofs.LimitTests.{both-on}
+use Rattle.prelude.proofs.Tested.{both-on}
 use Rattle.solver.specs.declared.vertices.NumberKind.the-variants.{Mark, Potential}
 use Rattle.solver.specs.Instance.{Fits, constant, VertexList, reached, numberOf}
 use Rattle.solver.specs.Certify.{AcceptedNetwork, packedFor, standing, EngineRunFor, EngineRun}

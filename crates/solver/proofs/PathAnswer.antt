@@ -24,7 +24,7 @@ use Rattle.engine.specs.Calls.{SearchAndPush, SendOutcome}
 use Rattle.engine.specs.declared.Sent.{Sent}
 use Rattle.engine.specs.declared.Sent.the-variants.{Reached, Unreached, Refused}
 use Rattle.packed_arcs.proofs.LentParts.{zero-at}
-use Rattle.packed_arcs.proofs.LimitTests.{both-on}
+use Rattle.prelude.proofs.Tested.{both-on}
 use Rattle.engine.proofs.LastSearch.{near-enough}
 use Rattle.solver.specs.declared.vertices.NumberKind.the-variants.{Mark, Distance}
 use Rattle.solver.specs.Instance.{tails, heads, constant, VertexList, numberOf}

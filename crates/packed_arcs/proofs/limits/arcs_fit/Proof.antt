@@ -1,7 +1,7 @@
 -- `packed_arcs::limits::arcs_fit` meets its contract.
 -- Assumes nothing.
 use borrow.Author.Needs.{needs}
-use Rattle.packed_arcs.proofs.LimitTests.{in-a-row}
+use Rattle.prelude.proofs.Tested.{tested}
 use Rattle.packed_arcs.proofs.limits.arcs_fit.Statement.{statement}
 use Rattle.packed_arcs.proofs.limits.arcs_fit.Tie as tie
 
@@ -9,8 +9,8 @@ pub arcs-fit-spec : {M : Type 1} → statement M
 arcs-fit-spec =
     tie.close
     (tie.spec
-    (λ c. search in-a-row depth 12)
-    (λ c. search in-a-row depth 12)
-    (λ c. search in-a-row depth 12)
+    (λ c. search tested depth 12)
+    (λ c. search tested depth 12)
+    (λ c. search tested depth 12)
     (λ c κs. search needs)
-    (λ c. search in-a-row depth 12))
+    (λ c. search tested depth 12))
