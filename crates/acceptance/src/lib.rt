@@ -28,7 +28,7 @@ pub fn setting(net: &[u8]) -> HeldSetting
 }
 
 // The same as it is handed to opening.
-fn opening_of(st: HeldSetting) -> Opening
+pub fn opening_of(st: HeldSetting) -> Opening
     ensures { λ r. ⌜ handed r ≡ asked st ⌝ }
 {
     Opening {

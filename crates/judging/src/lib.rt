@@ -1,10 +1,9 @@
 // Judging two files at a point.
 ghost use mathlib.Core.Path.{_≡_};
-ghost use Rattle.checks.specs.Held.{handed};
-ghost use Rattle.format.specs.Files.{settingIn};
 ghost use Rattle.state.specs.Answers.{said};
 ghost use Rattle.judging.specs.Judging.{judged};
-use checks::Opening;
+use acceptance::opening_of;
+use acceptance::setting;
 use format::annotation_file::annotation_check;
 use format::network_file;
 use points::Point;
@@ -15,22 +14,6 @@ use state::State;
 
 mod running;
 
-// What the header of a network file hands to opening.
-fn header_of(net: &[u8]) -> Opening
-    ensures { λ r. ⌜ handed r ≡ settingIn (now (net .entry)) ⌝ }
-{
-    let question = network_file::question(net) as u32;
-    let n = network_file::vertices(net) as u32;
-    let s = network_file::source(net) as u32;
-    let t = network_file::sink(net) as u32;
-    Opening {
-        question: question,
-        n: n,
-        s: s,
-        t: t,
-    }
-}
-
 // What the two files come out as at the point: a value, none, or the first refusal.
 pub fn judge(net: &[u8], ann: &[u8], point: Point) -> Answer
     ensures { λ r. ⌜ said r ≡ judged (now (net .entry)) (now (ann .entry)) point ⌝ }
@@ -39,7 +22,7 @@ pub fn judge(net: &[u8], ann: &[u8], point: Point) -> Answer
     if layout != 0 {
         return Answer::Refused(layout);
     }
-    let opened = State::open(header_of(net), point);
+    let opened = State::open(opening_of(setting(net)), point);
     let at_opening = opened.why;
     if at_opening != 0 {
         return Answer::Refused(at_opening);

@@ -1,5 +1,6 @@
 -- `judging::judge` meets its contract: at each place where it ends, what it gives is what the definition gives.
 -- Assumes nothing.
+use mathlib.Core.Path.{_∙_}
 use borrow.Author.Needs.{needs}
 use Rattle.judging.proofs.JudgeReturns.{at-layout, at-opening, at-reading, at-annotation, at-steps}
 use Rattle.judging.proofs.judge.Statement.{statement}
@@ -17,10 +18,10 @@ returns-2 : tie.Need-returns-2
 returns-2 c =
     let o = c .before in
     let h = o .before in
-    let l = h .before .before in
+    let l = h .before .before .before in
     let x = l .before .before .before .args in
     at-opening (x .net .now) (x .ann .now) (x .point) (l .network-check .result) (l .network-check .ensures)
-    (h .before .if1 .left) (h .header-of .result) (h .header-of .ensures) (o .«open» .result) (o .«open» .ensures)
+    (h .before .before .if1 .left) (h .opening-of .result) (h .opening-of .ensures ∙ h .before .setting .ensures) (o .«open» .result) (o .«open» .ensures)
     (c .if2 .taken)
 
 returns-3 : tie.Need-returns-3
@@ -28,10 +29,10 @@ returns-3 c =
     let r = c .before in
     let o = r .before .before in
     let h = o .before in
-    let l = h .before .before in
+    let l = h .before .before .before in
     let x = l .before .before .before .args in
     at-reading (x .net .now) (x .ann .now) (x .point) (l .network-check .result) (l .network-check .ensures)
-    (h .before .if1 .left) (h .header-of .result) (h .header-of .ensures) (o .«open» .result) (o .«open» .ensures)
+    (h .before .before .if1 .left) (h .opening-of .result) (h .opening-of .ensures ∙ h .before .setting .ensures) (o .«open» .result) (o .«open» .ensures)
     (r .before .if2 .left) (r .read-all .result .why) _ (r .read-all .ensures)
     (c .if3 .taken)
 
@@ -41,10 +42,10 @@ returns-4 c =
     let r = a .before .before .before in
     let o = r .before .before in
     let h = o .before in
-    let l = h .before .before in
+    let l = h .before .before .before in
     let x = l .before .before .before .args in
     at-annotation (x .net .now) (x .ann .now) (x .point) (l .network-check .result) (l .network-check .ensures)
-    (h .before .if1 .left) (h .header-of .result) (h .header-of .ensures) (o .«open» .result) (o .«open» .ensures)
+    (h .before .before .if1 .left) (h .opening-of .result) (h .opening-of .ensures ∙ h .before .setting .ensures) (o .«open» .result) (o .«open» .ensures)
     (r .before .if2 .left) (r .read-all .result .why) _ (r .read-all .ensures)
     (a .before .before .if3 .left) (a .annotation-check .result) (a .before .vertices .result) (a .before .vertices .ensures) (a .annotation-check .ensures)
     (c .if4 .taken)
@@ -55,10 +56,10 @@ returns-5 c =
     let r = a .before .before .before in
     let o = r .before .before in
     let h = o .before in
-    let l = h .before .before in
+    let l = h .before .before .before in
     let x = l .before .before .before .args in
     at-steps (x .net .now) (x .ann .now) (x .point) (l .network-check .result) (l .network-check .ensures)
-    (h .before .if1 .left) (h .header-of .result) (h .header-of .ensures) (o .«open» .result) (o .«open» .ensures)
+    (h .before .before .if1 .left) (h .opening-of .result) (h .opening-of .ensures ∙ h .before .setting .ensures) (o .«open» .result) (o .«open» .ensures)
     (r .before .if2 .left) (r .read-all .result .why) _ (r .read-all .ensures)
     (a .before .before .if3 .left) (a .annotation-check .result) (a .before .vertices .result) (a .before .vertices .ensures) (a .annotation-check .ensures)
     (c .before .if4 .left) _ (c .annotation-steps .ensures)
@@ -69,6 +70,7 @@ judge-spec =
     (tie.spec
     (λ c κs. search needs)
     returns
+    (λ c κs. search needs)
     (λ c κs. search needs)
     (λ c κs. search needs)
     returns-2
