@@ -13,6 +13,8 @@ ghost use Rattle.helper.specs.Helper.{sizeFor, AnnotationIn};
 use acceptance::setting;
 use format::annotation_file;
 use format::network_file;
+use network::MOST_ARCS;
+use network::MOST_VERTICES;
 
 // The records of the file, as many as there is room for, each as one number.
 fn gather(net: &[u8], records: &mut [u32])
@@ -110,9 +112,9 @@ pub(crate) fn write_annotation(net: &[u8], buffer: &mut [u8])
 {
     let n = network_file::vertices(net) as usize;
     let m = network_file::count(net) as usize;
-    let mut records = [0u32; 4096];
-    let mut numbers = [0i32; 255];
-    let mut amounts = [0u16; 4096];
+    let mut records = [0u32; MOST_ARCS as usize];
+    let mut numbers = [0i32; MOST_VERTICES as usize];
+    let mut amounts = [0u16; MOST_ARCS as usize];
     gather(net, &mut records[..m]);
     write_solution(
         net,

@@ -9,6 +9,9 @@ ghost use Rattle.runs.specs.Exchange.{outcome};
 ghost use Rattle.judging.specs.RunsTo.{RunsTo, stepsIn};
 use format::annotation_file;
 use format::network_file;
+use network::Balances;
+use network::MOST_VERTICES;
+use network::Potentials;
 use state::Answer;
 use state::State;
 use state::Turn;
@@ -35,7 +38,7 @@ pub(crate) fn read_all(x: State, file: &[u8]) -> Turn
 }
 
 // The n node numbers of an annotation file.
-fn number_all(x: State, potentials: &mut [i32; 255], file: &[u8], n: u8) -> Turn
+fn number_all(x: State, potentials: &mut Potentials, file: &[u8], n: u8) -> Turn
     ensures { λ r. ⌜ RunsTo (joined (now (potentials .entry)) zeros x) (map number (numbersIn n (now (file .entry)))) (r .why) (joined (now (potentials .exit)) zeros (r .state)) ⌝ }
 {
     let m = n as usize;
@@ -58,8 +61,8 @@ fn number_all(x: State, potentials: &mut [i32; 255], file: &[u8], n: u8) -> Turn
 // The repeated arcs of an annotation file with n node numbers.
 fn repeat_all(
     x: State,
-    potentials: &[i32; 255],
-    balances: &mut [i64; 255],
+    potentials: &Potentials,
+    balances: &mut Balances,
     file: &[u8],
     n: u8,
 ) -> Turn
@@ -86,8 +89,8 @@ fn repeat_all(
 pub(crate) fn annotation_steps(x: State, file: &[u8], n: u8) -> Answer
     ensures { λ r. ⌜ said r ≡ outcome (run (joined zeros zeros x) (stepsIn n (now (file .entry)))) ⌝ }
 {
-    let mut potentials = [0i32; 255];
-    let mut balances = [0i64; 255];
+    let mut potentials = [0i32; MOST_VERTICES as usize];
+    let mut balances = [0i64; MOST_VERTICES as usize];
     let ended = x.end_reading();
     let at_end = ended.why;
     if at_end != 0 {

@@ -1,4 +1,4 @@
-// What a channel record is in code, and the limits. All else here is definitions and proofs: what a network is, and why a certificate is right.
+// What a channel record is in code, the limits, and arrays with one entry for each vertex. All else here is definitions and proofs: what a network is, and why a certificate is right.
 ghost use mathlib.Core.Path.{_≡_};
 ghost use Rattle.network.specs.Network.{arcHeld, wordArc};
 
@@ -17,6 +17,12 @@ pub const MOST_ARCS: u32 = 4096;
 pub const MOST_WEIGHT: u32 = 32767;
 
 pub const MOST_POTENTIAL: i32 = 8322818;
+
+// A node number for each vertex.
+pub type Potentials = [i32; MOST_VERTICES as usize];
+
+// A balance for each vertex.
+pub type Balances = [i64; MOST_VERTICES as usize];
 
 // The record whose four bytes, read as one number, are the word.
 pub fn arc_in(word: u32) -> Record

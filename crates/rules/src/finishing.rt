@@ -14,6 +14,9 @@ ghost use Rattle.rules.specs.Held.{sumsHeld};
 use checks::HeldSetting;
 use checks::reading::pumps;
 use checks::rows::Row;
+use network::Balances;
+use network::MOST_VERTICES;
+use network::Potentials;
 use words::marks::count_marked;
 use words::signed::add;
 use words::signed::equal;
@@ -21,21 +24,21 @@ use words::signed::subtract;
 use words::signed::widened;
 
 // The entry of a vertex, 0 past the end.
-fn potential_at(potentials: [i32; 255], v: u8) -> i32
+fn potential_at(potentials: Potentials, v: u8) -> i32
     ensures { λ r. ⌜ r ≡ at potentials v ⌝ }
 {
     let i = v as usize;
-    if i < 255 {
+    if i < MOST_VERTICES as usize {
         return potentials[i];
     }
     0
 }
 
-fn balance_at(balances: [i64; 255], v: u8) -> i64
+fn balance_at(balances: Balances, v: u8) -> i64
     ensures { λ r. ⌜ r ≡ at balances v ⌝ }
 {
     let i = v as usize;
-    if i < 255 {
+    if i < MOST_VERTICES as usize {
         return balances[i];
     }
     0
@@ -97,7 +100,7 @@ fn balance_ok(row: Row, st: HeldSetting, v: u8, b: i64) -> bool
 }
 
 // 15: does each vertex have a balance that it may have?
-fn balances_ok(row: Row, st: HeldSetting, balances: [i64; 255]) -> bool
+fn balances_ok(row: Row, st: HeldSetting, balances: Balances) -> bool
     ensures { λ r. ⌜ r ≡ allTo (st .n) (λ v. rulesHeld row .onBalance (asked st) v (at balances v)) ⌝ }
 {
     let n = st.n;
@@ -114,7 +117,7 @@ fn balances_ok(row: Row, st: HeldSetting, balances: [i64; 255]) -> bool
 }
 
 // The sum of the node numbers of the vertices from low to high - 1.
-fn sum_between(potentials: [i32; 255], low: u8, high: u8) -> i64
+fn sum_between(potentials: Potentials, low: u8, high: u8) -> i64
     ensures { λ r. ⌜ r ≡ sumToℤ (high - low) (λ i. at potentials (low + i)) ⌝ }
 {
     let mut sum: i64 = 0;
@@ -129,7 +132,7 @@ fn sum_between(potentials: [i32; 255], low: u8, high: u8) -> i64
 }
 
 // The sum of the node numbers of sites, less that of pumps.
-fn potential_gap(st: HeldSetting, potentials: [i32; 255]) -> i64
+fn potential_gap(st: HeldSetting, potentials: Potentials) -> i64
     ensures { λ r. ⌜ r ≡ potentialGap (asked st) (at potentials) ⌝ }
 {
     let n = st.n;
@@ -151,7 +154,7 @@ fn more_pumps(st: HeldSetting, marks: [u64; 4]) -> bool
 }
 
 // Is the cost the node number of the sink?
-fn cost_is_potential(st: HeldSetting, potentials: [i32; 255], cost: i64) -> bool
+fn cost_is_potential(st: HeldSetting, potentials: Potentials, cost: i64) -> bool
     ensures { λ r. ⌜ r ≡ eqZ cost (at potentials (st .t)) ⌝ }
 {
     let y = potential_at(potentials, st.t);
@@ -159,7 +162,7 @@ fn cost_is_potential(st: HeldSetting, potentials: [i32; 255], cost: i64) -> bool
 }
 
 // Is the balance of the source the capacity of the cut?
-fn flow_is_cut(st: HeldSetting, balances: [i64; 255], cut: i64) -> bool
+fn flow_is_cut(st: HeldSetting, balances: Balances, cut: i64) -> bool
     ensures { λ r. ⌜ r ≡ eqZ (at balances (st .s)) cut ⌝ }
 {
     let b = balance_at(balances, st.s);
@@ -167,7 +170,7 @@ fn flow_is_cut(st: HeldSetting, balances: [i64; 255], cut: i64) -> bool
 }
 
 // Is the cost the sum over sites less that over pumps?
-fn cost_is_gap(st: HeldSetting, potentials: [i32; 255], cost: i64) -> bool
+fn cost_is_gap(st: HeldSetting, potentials: Potentials, cost: i64) -> bool
     ensures { λ r. ⌜ r ≡ eqZ cost (potentialGap (asked st) (at potentials)) ⌝ }
 {
     let gap = potential_gap(st, potentials);
@@ -178,9 +181,9 @@ fn cost_is_gap(st: HeldSetting, potentials: [i32; 255], cost: i64) -> bool
 fn sums_ok(
     row: Row,
     st: HeldSetting,
-    potentials: [i32; 255],
+    potentials: Potentials,
     marks: [u64; 4],
-    balances: [i64; 255],
+    balances: Balances,
     cost: i64,
     cut: i64,
 ) -> bool
@@ -200,9 +203,9 @@ fn sums_ok(
 pub fn totals_check(
     row: Row,
     st: HeldSetting,
-    potentials: [i32; 255],
+    potentials: Potentials,
     marks: [u64; 4],
-    balances: [i64; 255],
+    balances: Balances,
     cost: i64,
     cut: i64,
 ) -> u8

@@ -13,6 +13,9 @@ ghost use Rattle.state.specs.declared.Answer.the-variants.{Accepted, Refused};
 ghost use Rattle.session.specs.Session.{zeros, void, refuse};
 ghost use Rattle.session.specs.Steps.{opening, readStep, endStep, claimStep, numberStep, repeatStep, finishStep};
 use checks::Opening;
+use network::Balances;
+use network::MOST_VERTICES;
+use network::Potentials;
 use network::Record;
 use points::Point;
 use state::Answer;
@@ -22,8 +25,8 @@ use vertex_arrays::move_amount;
 
 // The state stands last: so a step that touches nothing else is compiled without a copy of the arrays.
 pub struct Session {
-    potentials: [i32; 255],
-    balances: [i64; 255],
+    potentials: Potentials,
+    balances: Balances,
     state: State,
 }
 
@@ -37,29 +40,29 @@ fn ended() -> Session
     ensures { λ r. ⌜ r ≡ void ⌝ }
 {
     Session {
-        potentials: [0i32; 255],
-        balances: [0i64; 255],
+        potentials: [0i32; MOST_VERTICES as usize],
+        balances: [0i64; MOST_VERTICES as usize],
         state: idle(),
     }
 }
 
 // 0 for each vertex where the session is over.
-fn clear_numbers(potentials: &mut [i32; 255], over: bool)
+fn clear_numbers(potentials: &mut Potentials, over: bool)
     ensures { λ _. ⌜ now (potentials .exit) ≡ pick over zeros (now (potentials .entry)) ⌝ }
 {
     if !over {
         return;
     }
-    *potentials = [0i32; 255];
+    *potentials = [0i32; MOST_VERTICES as usize];
 }
 
-fn clear_balances(balances: &mut [i64; 255], over: bool)
+fn clear_balances(balances: &mut Balances, over: bool)
     ensures { λ _. ⌜ now (balances .exit) ≡ pick over zeros (now (balances .entry)) ⌝ }
 {
     if !over {
         return;
     }
-    *balances = [0i64; 255];
+    *balances = [0i64; MOST_VERTICES as usize];
 }
 
 // Does a step that gave this number end the session? 0 is an acceptance.
@@ -83,7 +86,7 @@ fn answer_to(why: u8) -> Answer
 }
 
 // Stores the node number where it was accepted.
-fn store_accepted(state: State, potentials: &mut [i32; 255], why: u8, y: i32)
+fn store_accepted(state: State, potentials: &mut Potentials, why: u8, y: i32)
     ensures { λ _. ⌜ now (potentials .exit) ≡ pick (eqb why 0) (set (now (potentials .entry)) (state .numbering .given) y) (now (potentials .entry)) ⌝ }
 {
     if why != 0 {
@@ -93,7 +96,7 @@ fn store_accepted(state: State, potentials: &mut [i32; 255], why: u8, y: i32)
 }
 
 // Moves the amount where the arc was accepted.
-fn move_accepted(balances: &mut [i64; 255], why: u8, arc: Record, x: u32)
+fn move_accepted(balances: &mut Balances, why: u8, arc: Record, x: u32)
     ensures { λ _. ⌜ now (balances .exit) ≡ pick (eqb why 0) (moved (now (balances .entry)) (arc .tail) (arc .head) x) (now (balances .entry)) ⌝ }
 {
     if why != 0 {
@@ -128,8 +131,8 @@ impl Session {
         let why = turn.why;
         let state = turn.state;
         let session = Session {
-            potentials: [0i32; 255],
-            balances: [0i64; 255],
+            potentials: [0i32; MOST_VERTICES as usize],
+            balances: [0i64; MOST_VERTICES as usize],
             state: state,
         };
         if why != 0 {

@@ -31,6 +31,8 @@ use groups::idle;
 use groups::leads_out;
 use groups::with_arc;
 use groups::with_number;
+use network::Balances;
+use network::Potentials;
 use network::Record;
 use points::Point;
 use points::Stream;
@@ -93,7 +95,7 @@ pub struct Turn {
 }
 
 // The answer of an annotation that passes.
-fn answer_of(row: Row, balances: [i64; 255], cost: i64, cut: i64) -> Answer
+fn answer_of(row: Row, balances: Balances, cost: i64, cut: i64) -> Answer
     ensures { λ r. ⌜ r ≡ answered (rulesHeld row .answer (sumsHeld balances cost cut)) ⌝ }
 {
     match row {
@@ -223,7 +225,7 @@ impl State {
     }
 
     // Stores the node number y as that of the next vertex.
-    pub fn store_number(self, potentials: &mut [i32; 255], y: i32)
+    pub fn store_number(self, potentials: &mut Potentials, y: i32)
         ensures { λ _. ⌜ now (potentials .exit) ≡ set (now (potentials .entry)) (self .numbering .given) y ⌝ }
     {
         let numbering = self.numbering;
@@ -292,7 +294,7 @@ impl State {
     }
 
     // A repeated channel, whose amount is then to be moved between the balances.
-    pub fn repeat_channel(self, potentials: &[i32; 255], arc: Record, x: u32) -> Turn
+    pub fn repeat_channel(self, potentials: &Potentials, arc: Record, x: u32) -> Turn
         ensures { λ r. ⌜ r ≡ repeatTurn self (at (now (potentials .entry))) (loadHeld arc x) ⌝ }
     {
         let reading = self.reading;
@@ -326,7 +328,7 @@ impl State {
     }
 
     // 0, or the number of the first check that refuses finishing: 5, 13, 14, 15 or 16.
-    pub fn finish_check(self, potentials: [i32; 255], balances: [i64; 255]) -> u8
+    pub fn finish_check(self, potentials: Potentials, balances: Balances) -> u8
         ensures { λ r. ⌜ r ≡ firstBroken (finishChecks self (at potentials) (sumsHeld balances (self .repeating .cost) (self .repeating .cut))) ⌝ }
     {
         let reading = self.reading;
@@ -357,7 +359,7 @@ impl State {
     }
 
     // The answer where finishing is not refused.
-    pub fn answer(self, balances: [i64; 255]) -> Answer
+    pub fn answer(self, balances: Balances) -> Answer
         ensures { λ r. ⌜ r ≡ answered (answerOf (settingHeld self) (claimHeld self) (sumsHeld balances (self .repeating .cost) (self .repeating .cut))) ⌝ }
     {
         let reading = self.reading;

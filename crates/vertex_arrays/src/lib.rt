@@ -7,6 +7,8 @@ ghost use Rattle.network.specs.Network.{arcHeld};
 ghost use Rattle.network.specs.Certificate.{endsOf};
 ghost use Rattle.rules.specs.Held.{endsHeld};
 ghost use Rattle.vertex_arrays.specs.Arrays.{addedAt, takenAt, moved};
+use network::Balances;
+use network::Potentials;
 use network::Record;
 use rules::annotation::Ends;
 use words::marks::is_marked;
@@ -25,7 +27,7 @@ fn potential_of(potentials: &[i32], v: u32) -> i32
 }
 
 // What the ends of the arc have.
-pub fn ends_of(potentials: &[i32; 255], marks: [u64; 4], arc: Record) -> Ends
+pub fn ends_of(potentials: &Potentials, marks: [u64; 4], arc: Record) -> Ends
     ensures { λ r. ⌜ endsHeld r ≡ endsOf (at (now (potentials .entry))) (isMarked marks) (arcHeld arc) ⌝ }
 {
     let tail = arc.tail;
@@ -74,7 +76,7 @@ fn take_at(balances: &mut [i64], v: u32, x: u32)
 }
 
 // The balances with the amount x on the arc.
-pub fn move_amount(balances: &mut [i64; 255], arc: Record, x: u32)
+pub fn move_amount(balances: &mut Balances, arc: Record, x: u32)
     ensures { λ _. ⌜ now (balances .exit) ≡ moved (now (balances .entry)) (arc .tail) (arc .head) x ⌝ }
 {
     add_at(balances, arc.tail, x);

@@ -15,4 +15,5 @@ potential-at-spec =
     (λ c. search needs)
     (λ c. search needs)
     (λ c. search needs)
+    (λ c. search needs)
     (λ c. let l : length (c .before .args .t1) ≡ 255 = search needs in sym (List·getD-eq-default (c .before .args .t1) (pos 0) (omega arith))))
