@@ -1,4 +1,3 @@
-pub mod Openings
 pub mod StepLoops
 pub mod AnnotationReturns
 pub mod Promises

@@ -22,8 +22,8 @@ use Rattle.network.specs.Question.{Setting, Allowed}
 use Rattle.network.specs.Tests.{arcChecks, readingChecks, claimOf, claimOk, claimingChecks, Numbers, nodeOk, numberingChecks, amountOk, ruleOk, repeatingChecks}
 use Rattle.network.proofs.Allowed.{arc-rule}
 use Rattle.runs.specs.Run.{Step, read, end, claim, number, repeat, finish}
-use Rattle.runs.specs.Exchange.{numbersOf, Readable}
-use Rattle.runs.proofs.AcceptedLists.{AcceptedLists, closed, during, after, certifying, afterRefusal, next}
+use Rattle.runs.specs.Exchange.{Readable}
+use Rattle.runs.specs.AcceptedLists.{AcceptedLists, over, reading, hasRead, certifying, isClaimed, numbersOf, stepChecks, withStep, afterRefusal, next}
 
 -- a repeated arc with its amount that passes checks 7, 8, 11 and 12
 pub record LoadPassed (st : Setting) (a : Numbers) (b : Load) : Type 0 where
@@ -42,9 +42,9 @@ pub record AnnotationPassed (st : Setting) (l : List Arc) (k : ℕ) (ys : List �
   pub in-turn : (length ys ≡ st .n) ⊎ (f ≡ [])
 
 abbrev pub Invariant : Setting → AcceptedLists → Type 0
-Invariant st closed = Unit {0}
-Invariant st (during l) = Readable st l
-Invariant st (after l) = Readable st l
+Invariant st over = Unit {0}
+Invariant st (reading l) = Readable st l
+Invariant st (hasRead l) = Readable st l
 Invariant st (certifying l k ys f) = AnnotationPassed st l k ys f
 
 -- what holds of every refusal, and of the value where the checks hold
@@ -53,13 +53,14 @@ settle-keeps P g [] v r h = h tt
 settle-keeps P g ((k unless true) ∷ cs) v r h = settle-keeps P g cs v r (λ a. h (tt, a))
 settle-keeps P g ((k unless false) ∷ cs) v r h = r k
 
--- what holds of the lists and of closed ones
-pub refusal-keeps : (P : AcceptedLists → Type 0) (x : AcceptedLists) → P x → P closed → (k : ℕ) → P (afterRefusal x k)
-refusal-keeps P x h c k = go (eqb k 5)
+-- what holds of the lists and where all is over
+pub refusal-keeps : (P : AcceptedLists → Type 0) (x : AcceptedLists) → P x → P over → (k : ℕ) → P (afterRefusal x k)
+refusal-keeps P x h c k = go (isClaimed x) (eqb k 5)
   where
-    go : (b : Bool) → P (pick b x closed)
-    go true = h
-    go false = c
+    go : (a b : Bool) → P (pick a (pick b x over) x)
+    go true true = h
+    go true false = c
+    go false b = h
 
 module _ (st : Setting) where
   read-more : (l : List Arc) (e : Arc) → Readable st l → Hold (readingChecks st (length l) e) → Readable st (l ++ e ∷ [])
@@ -115,28 +116,39 @@ module _ (st : Setting) where
     }
 
   -- every step keeps it
-  pub invariant-next : (x : AcceptedLists) → Invariant st x → (a : Step) → Invariant st (next st x a)
-  invariant-next closed g a = tt
-  invariant-next (during l) g (read e) = settle-keeps (Readable st) (λ why. l) (readingChecks st (length l) e) (l ++ e ∷ []) (λ k. g) (read-more l e g)
-  invariant-next (during l) g end = g
-  invariant-next (during l) g (claim k) = g
-  invariant-next (during l) g (number z) = g
-  invariant-next (during l) g (repeat b) = g
-  invariant-next (during l) g finish = g
-  invariant-next (after l) g (read e) = g
-  invariant-next (after l) g end = g
-  invariant-next (after l) g (claim k) = settle-keeps (Invariant st) (λ why. after l) (claimingChecks st k) (certifying l k [] []) (λ why. g)
-      (λ h. record { list = g; claim-ok = h .0; numbered = omega arith; nodes = λ v b. absurd (omega arith); loads = tt; repeated = omega arith; in-turn = inr refl })
-  invariant-next (after l) g (number z) = g
-  invariant-next (after l) g (repeat b) = g
-  invariant-next (after l) g finish = g
-  invariant-next (certifying l k ys f) g (read e) = g
-  invariant-next (certifying l k ys f) g end = g
-  invariant-next (certifying l k ys f) g (claim j) = g
-  invariant-next (certifying l k ys f) g (number z) =
-      settle-keeps (Invariant st) (afterRefusal (certifying l k ys f)) (numberingChecks st (claimOf k) (length ys) z) (certifying l k (ys ++ z ∷ []) f)
-      (refusal-keeps (Invariant st) (certifying l k ys f) g tt) (number-more l k ys f g z)
-  invariant-next (certifying l k ys f) g (repeat b) =
-      settle-keeps (Invariant st) (afterRefusal (certifying l k ys f)) (repeatingChecks st (numbersOf (claimOf k) ys) (length l) (length f) b) (certifying l k ys (f ++ b ∷ []))
-      (refusal-keeps (Invariant st) (certifying l k ys f) g tt) (repeat-more l k ys f g b)
-  invariant-next (certifying l k ys f) g finish = settle-keeps (Invariant st) (λ why. certifying l k ys f) (5 unless eqb (length ys) (st .n) ∷ []) closed (λ why. g) (λ h. tt)
+  pub invariant-next : (agree : List Arc → List Arc → Bool) (x : AcceptedLists) → Invariant st x → (a : Step) → Invariant st (next agree st x a)
+  invariant-next agree x g a = settle-keeps (Invariant st) (afterRefusal x) (stepChecks agree st x a) (withStep x a) (refusal-keeps (Invariant st) x g tt) (more x g a)
+    where
+      more : (x : AcceptedLists) → Invariant st x → (a : Step) → Hold (stepChecks agree st x a) → Invariant st (withStep x a)
+      more over g (read e) h = absurd (h .0)
+      more over g end h = absurd (h .0)
+      more over g (claim k) h = absurd (h .0)
+      more over g (number z) h = absurd (h .0)
+      more over g (repeat b) h = absurd (h .0)
+      more (reading l) g (read e) h = read-more l e g (h .1)
+      more (reading l) g end h = g
+      more (reading l) g (claim k) h = absurd (h .0)
+      more (reading l) g (number z) h = absurd (h .0)
+      more (reading l) g (repeat b) h = absurd (h .0)
+      more (hasRead l) g (read e) h = absurd (h .0)
+      more (hasRead l) g end h = absurd (h .0)
+      more (hasRead l) g (claim k) h = record {
+        list = g;
+        claim-ok = h .1 .0;
+        numbered = omega arith;
+        nodes = λ v b. absurd (omega arith);
+        loads = tt;
+        repeated = omega arith;
+        in-turn = inr refl;
+      }
+      more (hasRead l) g (number z) h = absurd (h .0)
+      more (hasRead l) g (repeat b) h = absurd (h .0)
+      more (certifying l k ys f) g (read e) h = absurd (h .0)
+      more (certifying l k ys f) g end h = absurd (h .0)
+      more (certifying l k ys f) g (claim j) h = absurd (h .0)
+      more (certifying l k ys f) g (number z) h = number-more l k ys f g z (h .1)
+      more (certifying l k ys f) g (repeat b) h = repeat-more l k ys f g b (h .1)
+      more over g finish h = tt
+      more (reading l) g finish h = tt
+      more (hasRead l) g finish h = tt
+      more (certifying l k ys f) g finish h = tt

@@ -1,8 +1,9 @@
-pub mod AcceptedLists
 pub mod VertexArrays
 pub mod MarkWords
 pub mod RepeatedSums
 pub mod Invariant
+pub mod Refusals
+pub mod Openings
 pub mod StepsAgree
 pub mod RunsAgree
 pub mod TrueAnswers

@@ -1,7 +1,7 @@
 -- Demand 2: a session answers exactly where the annotation meets every rule of the certificate, and what it answers on the arcs that were read is true.
 -- Assumes nothing.
 use mathlib.Core.Path.{_≡_, refl, sym, _∙_, ap, subst}
-use mathlib.Core.Logic.{_↔_}
+use mathlib.Core.Logic.{_↔_, inl}
 use mathlib.Core.Bool.{_&&_}
 use mathlib.Core.List.{List, [], _∷_, _++_}
 use Prim.Native.Nat.{ℕ, zero, suc, _+_, _≤_, _<_}
@@ -13,16 +13,16 @@ use lib.IntN.{ℤ}
 use lib.ListN.{length, take, length-map}
 use lib.Seq.{take-all}
 use Rattle.prelude.specs.Checks.{Check, settle, Hold}
-use Rattle.prelude.specs.Lists.{Every, all, at}
+use Rattle.prelude.specs.Lists.{Every, Perm, all, at}
 use Rattle.prelude.proofs.Booleans.{and-left, and-right, both}
 use Rattle.prelude.proofs.Permutations.{perm-sym, perm-length, perm-every}
 use Rattle.prelude.proofs.Settle.{settled, hold-append, hold-left, hold-right, settled-back}
 use Rattle.prelude.proofs.Sums.{allTo-at, at-allTo}
 use Rattle.network.specs.Limits.{mostArcs}
 use Rattle.network.specs.Network.{Arc, Load, arcs}
-use Rattle.network.specs.Question.{Question, shortestPath, maximumFlow, assignment, unasked, Setting, asks, Allowed, Answer}
+use Rattle.network.specs.Question.{Question, shortestPath, maximumFlow, assignment, unasked, Setting, asks, Allowed, Answer, TrueAnswer}
 use Rattle.network.specs.Certificate.{Claim, ofValue, ofNone, claimFor, Sums, rulesFor, rulesOf}
-use Rattle.network.specs.Tests.{readingAll, claimNumber, claimOf, claimOk, Numbers, nodeOk, amountOk, ruleOk, answerOf, Passed}
+use Rattle.network.specs.Tests.{readingAll, claimNumber, claimOf, claimOk, Numbers, nodeOk, amountOk, ruleOk, repeatingChecks, answerOf, Passed}
 use Rattle.network.proofs.Allowed.{arc-rule, arc-test}
 use Rattle.network.proofs.Promises.{certificates-sound}
 use Rattle.network.proofs.Tests.{passed-certified, certified-passed, certified-answer}
@@ -30,11 +30,15 @@ use Rattle.points.specs.Points.{printOf}
 use Rattle.points.specs.declared.Point.{Point}
 use Rattle.points.proofs.Prints.{same-print, print-same}
 use Rattle.points.proofs.Promises.{same-everywhere}
-use Rattle.state.specs.Answers.{gives, refused}
-use Rattle.runs.specs.Run.{runFrom}
-use Rattle.runs.specs.Exchange.{exchange, last, numbersOf, sumsAt, numberingAll, repeatingAll, annotationRules, finalRules, verdict, Opens, Readable, Meets}
-use Rattle.runs.specs.Promises.{Answers, Outcomes, TrueWhereSame, CertificatesPass}
+use Rattle.state.specs.Answers.{Said, accepted, gives, refused}
+use Rattle.runs.specs.Run.{Step, read, end, claim, number, repeat, finish, runFrom, listRead}
+use Rattle.runs.specs.Exchange.{exchange, last, numberingAll, repeatingAll, annotationRules, finalRules, verdict, Opens, Readable, Meets, MeetsAll}
+use Rattle.runs.specs.AcceptedLists.{AcceptedLists, over, reading, hasRead, certifying, repeatedIn, numbersOf, sumsAt, agreeAt, stepChecks, acceptedSays, reply, acceptedBy, ReadIs}
+use Rattle.runs.specs.Promises.{AnswersExactly, TrueWhereSame, ExchangeGives, ExchangeFinishes, ExchangeTrue, CertificatesPass}
 use Rattle.runs.proofs.FirstAndLast.{no-answer}
+use Rattle.runs.proofs.Invariant.{LoadPassed, AnnotationPassed, settle-keeps, repeat-passed}
+use Rattle.runs.proofs.RunsAgree.{Known, running, answer-agrees, known-by, read-as-listed}
+use Rattle.runs.proofs.TrueAnswers.{meets}
 use Rattle.runs.proofs.Verdict.{first-broken, last-gives}
 
 -- ---- an answer is given where every rule holds
@@ -44,13 +48,6 @@ gives-held cs v a e = let u = settled-back refused cs (gives v) (gives a) (λ k.
 
 -- ---- the claim
 
-claim-named : (k : ℕ) → T (leb 1 k && leb k 2) → claimNumber (claimOf k) ≡ k
-claim-named k t = go (ℕ-discrete k 1)
-  where
-    go : Dec (k ≡ 1) → claimNumber (claimOf k) ≡ k
-    go (yes e) = rw e refl
-    go (no ne) = rw (ne-eqb k 1 ne) (omega (arith, leb→le 1 k (and-left (leb 1 k) (leb k 2) t), leb→le k 2 (and-right (leb 1 k) (leb k 2) t)))
-
 claim-of-number : (c : Claim) → claimOf (claimNumber c) ≡ c
 claim-of-number ofValue = refl
 claim-of-number ofNone = refl
@@ -58,15 +55,6 @@ claim-of-number ofNone = refl
 claim-fits : (st : Setting) (c : Claim) → T (rulesOf st c .admitted) → T (claimOk st (claimNumber c))
 claim-fits st ofValue h = h
 claim-fits st ofNone h = h
-
-claim-answered : (q : Question) (c : Claim) → T (rulesFor q c .admitted) → (u : Sums) → claimFor (rulesFor q c .answer u) ≡ c
-claim-answered shortestPath ofValue h u = refl
-claim-answered shortestPath ofNone h u = refl
-claim-answered maximumFlow ofValue h u = refl
-claim-answered maximumFlow ofNone h u = refl
-claim-answered assignment ofValue h u = refl
-claim-answered assignment ofNone h u = refl
-claim-answered unasked c h u = absurd h
 
 -- ---- each part of the rules, for every element
 
@@ -113,18 +101,14 @@ module _ (st : Setting) where
         } in
         (t, (lt→ltb i m (omega arith), (e .0, (e .1 .0, (x, (u, rest))))))
 
-    each-repeat : (f : List Load) (i : ℕ) → i ≤ m → Hold (repeatingAll st a m i f) → Repeats i f
+    each-repeat : (f : List Load) (i : ℕ) → i ≤ m → Hold (repeatingAll st a m i f) → Every (LoadPassed st a) f × (i + length f ≤ m)
     unfolding repeatingAll
-    each-repeat [] i b h = record { records = tt; amounts = tt; rules = tt; room = omega arith }
+    each-repeat [] i b h = (tt, omega arith)
     each-repeat (l ∷ f) i b h =
-        let checked = h .1 .1 in
-        let u = each-repeat f (suc i) (ltb→lt i m (h .1 .0)) (checked .1 .1 .1 .1) in
-        record {
-          records = (arc-rule st (l .arc) (checked .0, (checked .1 .0, tt)), u .records);
-          amounts = both (amountOk st (a .claim) l) _ (checked .1 .1 .0) (u .amounts);
-          rules = both (ruleOk st a l) _ (checked .1 .1 .1 .0) (u .rules);
-          room = omega (arith, u .room);
-        }
+        let here = hold-left (repeatingChecks st a m i l) (repeatingAll st a m (suc i) f) h in
+        let rest = each-repeat f (suc i) (ltb→lt i m (here .1 .0)) (hold-right (repeatingChecks st a m i l) (repeatingAll st a m (suc i) f) h) in
+        let room = rest .1 in
+        ((repeat-passed st a m i l here, rest .0), omega arith)
 
   module _ (r : Point) (net : List Arc) (k : ℕ) (ys : List ℤ) (f : List Load) where
     abbrev c : Claim
@@ -140,26 +124,24 @@ module _ (st : Setting) where
     result = answerOf st c (sumsAt st ys f)
 
     -- rules that hold are met
-    meets : Hold (annotationRules st (length net) k ys f) → Hold (finalRules st r net k ys f) → Meets st r net k ys f result
-    meets h w =
-        let e = eqb→eq (length ys) (st .n) (w .0) in
-        let nodes = each-number c ys 0 (hold-left numberRules repeatRules (h .1)) in
-        let u = each-repeat (numbersOf c ys) (length net) f 0 (omega arith) (hold-right numberRules repeatRules (h .1)) in
-        let admitted = and-right (leb 1 k && leb k 2) (rulesOf st c .admitted) (h .0) in
-        record {
-          claims = sym (ap claimNumber (claim-answered (asks st) c admitted (sumsAt st ys f)) ∙ claim-named k (and-left (leb 1 k && leb k 2) (rulesOf st c .admitted) (h .0)));
-          one-each = e;
-          records = u .records;
-          certificate = passed-certified st c (at ys) f record {
-            claim = admitted;
-            nodes = at-allTo (st .n) (λ v. nodeOk st c v (at ys v)) (λ v b. nodes v v (omega arith) (omega arith));
-            amounts = u .amounts;
-            on-arcs = u .rules;
-            balances = w .1 .1 .1 .0;
-            sums = w .1 .1 .1 .1 .0;
-          };
-          as-many = omega (arith, leb→le (length net) (length f) (w .1 .0), u .room);
-          fingerprints = same-print (printOf r net) (printOf r (arcs f)) (w .1 .1 .0);
+    met : Readable st net → Hold (annotationRules st (length net) k ys f) → Hold (finalRules st r net k ys f) → Meets st r net k ys f result
+    met readable h w = meets st net k ys f passed r w
+      where
+        full : length ys ≡ st .n
+        full = eqb→eq (length ys) (st .n) (w .0)
+
+        repeats : Every (LoadPassed st (numbersOf c ys)) f × (0 + length f ≤ length net)
+        repeats = each-repeat (numbersOf c ys) (length net) f 0 (omega arith) (hold-right numberRules repeatRules (h .1))
+
+        passed : AnnotationPassed st net k ys f
+        passed = record {
+          list = readable;
+          claim-ok = h .0;
+          numbered = omega (arith, full);
+          nodes = λ v b. each-number c ys 0 (hold-left numberRules repeatRules (h .1)) v v (omega arith) b;
+          loads = repeats .0;
+          repeated = omega (arith, repeats .1);
+          in-turn = inl full;
         }
 
     -- rules that are met hold
@@ -195,7 +177,7 @@ module _ (st : Setting) where
         to d =
             let u = gives-held (readingAll st 0 net ++ (annotation ++ final)) result a d in
             let w = hold-right (readingAll st 0 net) (annotation ++ final) (u .0) in
-            subst (Meets st r net k ys f) (u .1) (meets (hold-left annotation final w) (hold-right annotation final w))
+            subst (Meets st r net k ys f) (u .1) (met h (hold-left annotation final w) (hold-right annotation final w))
 
         from : Meets st r net k ys f a → verdict st r net k ys f ≡ gives a
         from m =
@@ -204,10 +186,71 @@ module _ (st : Setting) where
             (hold-append (readingAll st 0 net) (annotation ++ final) (read-holds net 0 (h .allowed) (omega (arith, h .few))) (hold-append annotation final (u .0) (u .1)))
             ∙ ap gives (u .2)
 
--- ---- demand 2
+-- ---- demand 2, for every list of steps
 
-pub outcomes : Outcomes
-outcomes st r net k ys f a o h = rw (first-broken st r net k ys f o) (verdict-meets st r net k ys f h a)
+-- an acceptance or a refusal is no answer
+never-gives : (cs : List Check) (v : Answer) → settle refused cs accepted ≡ gives v → ⊥
+never-gives cs v = settle-keeps (λ (a : Said). a ≡ gives v → ⊥) refused cs accepted (λ k. no-answer k v) (λ h e. let z : _≡_ {A = ℕ} 0 1 = cc in omega arith)
+
+-- every step but finishing
+abbrev NotFinishing : Step → Type 0
+NotFinishing (read e) = Unit {0}
+NotFinishing end = Unit {0}
+NotFinishing (claim k) = Unit {0}
+NotFinishing (number z) = Unit {0}
+NotFinishing (repeat b) = Unit {0}
+NotFinishing finish = ⊥
+
+module _ (st : Setting) (r : Point) where
+  abbrev Exactly : AcceptedLists → Step → Answer → Type 0
+  Exactly x a v = (reply (agreeAt r) st x a ≡ gives v) ↔ ((a ≡ finish) × MeetsAll st r x v)
+
+  -- a step other than finishing gives no answer
+  not-finishing : (x : AcceptedLists) (a : Step) (v : Answer) → NotFinishing a → acceptedSays st x a ≡ accepted → Exactly x a v
+  not-finishing x a v n e =
+      (λ d. absurd (never-gives (stepChecks (agreeAt r) st x a) v (sym (ap (settle refused (stepChecks (agreeAt r) st x a)) e) ∙ d)), λ w. absurd (subst NotFinishing (w .0) n))
+
+  reply-exactly : (x : AcceptedLists) → Known st x → (a : Step) (v : Answer) → Exactly x a v
+  reply-exactly x g (read e) v = not-finishing x (read e) v tt refl
+  reply-exactly x g end v = not-finishing x end v tt refl
+  reply-exactly x g (claim k) v = not-finishing x (claim k) v tt refl
+  reply-exactly x g (number z) v = not-finishing x (number z) v tt refl
+  reply-exactly x g (repeat b) v = not-finishing x (repeat b) v tt refl
+  reply-exactly over g finish v = (λ d. absurd (no-answer 5 v d), λ w. absurd (w .1))
+  reply-exactly (reading l) g finish v = (λ d. absurd (no-answer 5 v d), λ w. absurd (w .1))
+  reply-exactly (hasRead l) g finish v = (λ d. absurd (no-answer 5 v d), λ w. absurd (w .1))
+  reply-exactly (certifying l k ys f) (running o g) finish v = (to, from)
+    where
+      final : List Check
+      final = finalRules st r l k ys f
+
+      to : reply (agreeAt r) st (certifying l k ys f) finish ≡ gives v → (finish ≡ finish) × Meets st r l k ys f v
+      to d =
+          let u = gives-held final (answerOf st (claimOf k) (sumsAt st ys f)) v d in
+          (refl, subst (Meets st r l k ys f) (u .1) (meets st l k ys f g r (u .0)))
+
+      from : (finish ≡ finish) × Meets st r l k ys f v → reply (agreeAt r) st (certifying l k ys f) finish ≡ gives v
+      from w = let u = holds st r l k ys f v (w .1) in settled refused final (gives (answerOf st (claimOf k) (sumsAt st ys f))) (u .1) ∙ ap gives (u .2)
+
+  -- what meets every rule over the arcs that were read, in any order, is true
+  met-truly : (x : AcceptedLists) (net : List Arc) (v : Answer) → Known st x → ReadIs net x → Perm (arcs (repeatedIn x)) net → MeetsAll st r x v → TrueAnswer st net v
+  met-truly over net v g e d m = absurd m
+  met-truly (reading l) net v g e d m = absurd m
+  met-truly (hasRead l) net v g e d m = absurd m
+  met-truly (certifying l k ys f) net v (running o g) e d m =
+      certificates-sound st net (at ys) f v o (subst (Every (Allowed st)) e (g .list .allowed)) d (m .certificate)
+
+pub answers-exactly : AnswersExactly
+answers-exactly st r before a v = rw (answer-agrees st r before a) (reply-exactly st r (acceptedBy st r before) (known-by st r before) a v)
+
+pub true-where-same : TrueWhereSame
+true-where-same st r before a v d e =
+    met-truly st r (acceptedBy st r before) (listRead st before) v (known-by st r before) (read-as-listed st r before) d (answers-exactly st r before a v .0 e .1)
+
+-- ---- demand 2, for an exchange in order
+
+pub exchange-gives : ExchangeGives
+exchange-gives st r net k ys f a o h = rw (first-broken st r net k ys f o) (verdict-meets st r net k ys f h a)
 
 -- finishing answers exactly where the first n node numbers meet the rules
 last-meets :
@@ -216,19 +259,19 @@ last-meets :
     → (last (runFrom st r (exchange net k ys f)) ≡ gives a) ↔ Meets st r net k (take (st .n) ys) f a
 last-meets st r net k ys f a o h =
     let u = last-gives st r net k ys f a o (read-holds st net 0 (h .allowed) (omega (arith, h .few))) in
-    let w = outcomes st r net k (take (st .n) ys) f a o h in
+    let w = exchange-gives st r net k (take (st .n) ys) f a o h in
     (λ d. w .0 (u .0 d), λ m. u .1 (w .1 m))
 
-pub answers : Answers
-answers st r net k ys f a o h e = rw (take-all (st .n) ys (omega arith)) at (last-meets st r net k ys f a o h)
+pub exchange-finishes : ExchangeFinishes
+exchange-finishes st r net k ys f a o h e = rw (take-all (st .n) ys (omega arith)) at (last-meets st r net k ys f a o h)
 
-pub true-where-same : TrueWhereSame
-true-where-same st r net k ys f a o h d e =
+pub exchange-true : ExchangeTrue
+exchange-true st r net k ys f a o h d e =
     certificates-sound st net (at (take (st .n) ys)) f a (o .opened) (h .allowed) d (last-meets st r net k ys f a o h .0 e .certificate)
 
 pub certificates-pass : CertificatesPass
 certificates-pass st r net ys f a o h d e c =
-    outcomes st r net (claimNumber (claimFor a)) ys f a o h .1 record {
+    exchange-gives st r net (claimNumber (claimFor a)) ys f a o h .1 record {
       claims = refl;
       one-each = e;
       records = perm-every (Allowed st) (perm-sym d) (h .allowed);

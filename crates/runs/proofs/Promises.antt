@@ -1,27 +1,76 @@
 -- The promises of specs/Promises.antt, kept.
 -- Assumes nothing.
-use Rattle.runs.specs.Promises.{FirstBroken, Answers, Outcomes, TrueWhereSame, CertificatesPass, FewWrong, OnlyRefusals}
+use Rattle.runs.specs.Promises.{VoidIsOver, OverForEver, RefusalLeaves, FiveChangesNothing, FinishEnds, RefusedOpeningVoid, OnlyRefusals, OpeningAnswers, AnswersOfLists, HoldsAccepted, PointUnseen, ReadAsListed, AnswersExactly, TrueWhereSame, FirstBroken, ExchangeGives, ExchangeFinishes, ExchangeTrue, CertificatesPass, FewWrong}
 use Rattle.runs.proofs.Meets as meets
+use Rattle.runs.proofs.Refusals as refusals
+use Rattle.runs.proofs.RunsAgree as runs
 use Rattle.runs.proofs.Verdict as verdict
 use Rattle.runs.proofs.WrongAnswers as wrong
 
-pub first-broken : FirstBroken
-first-broken = verdict.first-broken
+-- ---- demand 1
 
-pub answers : Answers
-answers = meets.answers
+pub void-is-over : VoidIsOver
+void-is-over = refusals.void-is-over
 
-pub outcomes : Outcomes
-outcomes = meets.outcomes
+pub over-for-ever : OverForEver
+over-for-ever = refusals.over-for-ever
+
+pub refusal-leaves : RefusalLeaves
+refusal-leaves = refusals.refusal-leaves
+
+pub five-changes-nothing : FiveChangesNothing
+five-changes-nothing = refusals.five-changes-nothing
+
+pub finish-ends : FinishEnds
+finish-ends = refusals.finish-ends
+
+pub refused-opening-void : RefusedOpeningVoid
+refused-opening-void = refusals.refused-opening-void
+
+pub only-refusals : OnlyRefusals
+only-refusals = refusals.only-refusals
+
+-- ---- demand 2, for every list of steps
+
+pub opening-answers : OpeningAnswers
+opening-answers = runs.opening-answers
+
+pub answers-of-lists : AnswersOfLists
+answers-of-lists = runs.answers-of-lists
+
+pub holds-accepted : HoldsAccepted
+holds-accepted = runs.holds-accepted
+
+pub point-unseen : PointUnseen
+point-unseen = runs.point-unseen
+
+pub read-as-listed : ReadAsListed
+read-as-listed = runs.read-as-listed
+
+pub answers-exactly : AnswersExactly
+answers-exactly = meets.answers-exactly
 
 pub true-where-same : TrueWhereSame
 true-where-same = meets.true-where-same
 
+-- ---- demand 2, for an exchange in order
+
+pub first-broken : FirstBroken
+first-broken = verdict.first-broken
+
+pub exchange-gives : ExchangeGives
+exchange-gives = meets.exchange-gives
+
+pub exchange-finishes : ExchangeFinishes
+exchange-finishes = meets.exchange-finishes
+
+pub exchange-true : ExchangeTrue
+exchange-true = meets.exchange-true
+
 pub certificates-pass : CertificatesPass
 certificates-pass = meets.certificates-pass
 
+-- ---- demand 3
+
 pub few-wrong : FewWrong
 few-wrong = wrong.few-wrong
-
-pub only-refusals : OnlyRefusals
-only-refusals = wrong.only-refusals

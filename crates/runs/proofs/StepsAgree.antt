@@ -32,8 +32,8 @@ use Rattle.session.specs.Steps.{readStep, endStep, claimStep, numberStep, repea
 use Rattle.session.specs.declared.Reply.{Reply}
 use Rattle.session.specs.declared.Session.{Session}
 use Rattle.runs.specs.Run.{Step, read, end, claim, number, repeat, finish, step}
-use Rattle.runs.specs.Exchange.{numbersOf, sumsAt}
-use Rattle.runs.proofs.AcceptedLists.{AcceptedLists, closed, during, after, certifying, streamOf, sessionOf, afterRefusal, next, reply}
+use Rattle.runs.specs.AcceptedLists.{AcceptedLists, over, reading, hasRead, certifying, numbersOf, sumsAt, agreeAt, afterRefusal, next, reply}
+use Rattle.runs.specs.HeldAtPoint.{streamOf, sessionOf}
 use Rattle.runs.proofs.MarkWords.{marks-more, marks-same}
 use Rattle.runs.proofs.VertexArrays.{all-zero, at-list, list-more}
 use Rattle.runs.proofs.RepeatedSums.{LoadWithin, units-limited, balances-at, balances-more, cost-more, cut-more}
@@ -44,10 +44,6 @@ abbrev pub saying : Said → Answer
 saying accepted = Accepted
 saying (gives a) = answered a
 saying (refused k) = Refused k
-
--- do two lists of arcs agree at the point?
-abbrev pub agreeAt : Point → List Arc → List Arc → Bool
-agreeAt r l m = samePrint (printOf r l) (printOf r m)
 
 -- ---- one more
 
@@ -65,16 +61,6 @@ within-limits st o a b h =
       units-within = u .units-within;
     }
 
--- a void session refuses every step
-pub void-stays : (a : Step) → step void a ≡ hand void (Refused 5)
-unfolding readStep endStep claimStep numberStep repeatStep finishStep
-void-stays (read e) = refl
-void-stays end = refl
-void-stays (claim k) = refl
-void-stays (number z) = refl
-void-stays (repeat b) = refl
-void-stays finish = refl
-
 -- what is handed back is settled by the checks, and so is what is said
 decided : {A : Type 0} (see : A → Session) (g : ℕ → Reply) (left : ℕ → A) → ((k : ℕ) → g k ≡ hand (see (left k)) (Refused k))
     → (x : Session) (v : A) (a : Said) (cs : List Check) → (Hold cs → x ≡ see v)
@@ -83,27 +69,18 @@ decided see g left e x v a [] h = ap (λ (y : Session). hand y (saying a)) (h tt
 decided see g left e x v a ((k unless true) ∷ cs) h = decided see g left e x v a cs (λ b. h (tt, b))
 decided see g left e x v a ((k unless false) ∷ cs) h = e k
 
--- finishing ends the lists unless it gave 5
-ended : (x : AcceptedLists) (a b c d e : Bool) → settle (afterRefusal x) (5 unless a ∷ 13 unless b ∷ 14 unless c ∷ 15 unless d ∷ 16 unless e ∷ []) closed ≡ pick a closed x
-ended x false b c d e = refl
-ended x true false c d e = refl
-ended x true true false d e = refl
-ended x true true true false e = refl
-ended x true true true true false = refl
-ended x true true true true true = refl
-
 module _ (st : Setting) (r : Point) where
   abbrev session : AcceptedLists → Session
   session x = sessionOf st r x
 
   -- the step of the session is the step of the lists
   abbrev pub Agrees : AcceptedLists → Step → Type 0
-  Agrees x a = step (session x) a ≡ hand (session (next st x a)) (saying (reply (agreeAt r) st x a))
+  Agrees x a = step (session x) a ≡ hand (session (next (agreeAt r) st x a)) (saying (reply (agreeAt r) st x a))
 
-  claim-one : (l : List Arc) (k : ℕ) → withState (session (after l)) (withClaim (session (after l) .state) k) ≡ session (certifying l k [] [])
+  claim-one : (l : List Arc) (k : ℕ) → withState (session (hasRead l)) (withClaim (session (hasRead l) .state) k) ≡ session (certifying l k [] [])
   unfolding sumOf sumAcross
   claim-one l k = λ i. joined (all-zero mostVertices (at []) (λ v. refl) i) (all-zero mostVertices (λ v. balance v []) (λ v. refl) i)
-      (stateOf 3 (session (after l) .state .reading) (withClaim (session (after l) .state) k .numbering)
+      (stateOf 3 (session (hasRead l) .state .reading) (withClaim (session (hasRead l) .state) k .numbering)
       (record { list = record { count = 0; print = print-none r i }; cost = pos 0; cut = pos 0 }))
 
   module _ (l : List Arc) (k : ℕ) (ys : List ℤ) (f : List Load) where
@@ -116,7 +93,7 @@ module _ (st : Setting) (r : Point) where
     refusal : (j : ℕ) → refuse (session here) j ≡ hand (session (afterRefusal here j)) (Refused j)
     refusal j = go (eqb j 5)
       where
-        go : (b : Bool) → hand (pick b (session here) void) (Refused j) ≡ hand (session (pick b here closed)) (Refused j)
+        go : (b : Bool) → hand (pick b (session here) void) (Refused j) ≡ hand (session (pick b here over)) (Refused j)
         go true = refl
         go false = refl
 
@@ -203,29 +180,36 @@ module _ (st : Setting) (r : Point) where
       unfolding finishStep
       finish-step =
           (λ i. settle (refuse (session here)) (finishes (numbers-same i) (length-map f (λ b. b .arc) i) (sums-same i)) (hand void (answered (answerOf st (claimOf k) (sums-same i)))))
-          ∙ ruled void closed result (finishes numbersHere (length f) (sumsAt st ys f)) (λ h. refl)
-          ∙ ap (λ (x : AcceptedLists). hand (session x) (saying (settle refused (finishes numbersHere (length f) (sumsAt st ys f)) result)))
-          (ended here (eqb (length ys) (st .n)) (leb (length l) (length f)) (agreeAt r l (arcs f)) (balancesOk st (claimOf k) (sumsAt st ys f)) (sumsOk st numbersHere (sumsAt st ys f)))
+          ∙ ruled void over result (finishes numbersHere (length f) (sumsAt st ys f)) (λ h. refl)
+
+  pub over-agrees : (a : Step) → Agrees over a
+  unfolding readStep endStep claimStep numberStep repeatStep finishStep
+  over-agrees (read e) = refl
+  over-agrees end = refl
+  over-agrees (claim k) = refl
+  over-agrees (number z) = refl
+  over-agrees (repeat b) = refl
+  over-agrees finish = refl
 
   pub steps-agree : (x : AcceptedLists) → Opened st → Invariant st x → (a : Step) → Agrees x a
   unfolding readStep endStep claimStep numberStep repeatStep finishStep
-  steps-agree closed o g a = void-stays a
-  steps-agree (during l) o g (read e) =
-      decided (λ l. session (during l)) (refuse (session (during l))) (λ why. l) (λ why. refl) (withState (session (during l)) (withRead (session (during l) .state) e)) (l ++ e ∷ []) accepted (readingChecks st (length l) e)
+  steps-agree over o g a = over-agrees a
+  steps-agree (reading l) o g (read e) =
+      decided session (refuse (session (reading l))) (λ why. reading l) (λ why. refl) (withState (session (reading l)) (withRead (session (reading l) .state) e)) (reading (l ++ e ∷ [])) accepted (readingChecks st (length l) e)
       (λ h. ap (holding 1 (held st) r) (stream-more r l e))
-  steps-agree (during l) o g end = refl
-  steps-agree (during l) o g (claim k) = refl
-  steps-agree (during l) o g (number z) = refl
-  steps-agree (during l) o g (repeat b) = refl
-  steps-agree (during l) o g finish = refl
-  steps-agree (after l) o g (read e) = refl
-  steps-agree (after l) o g end = refl
-  steps-agree (after l) o g (claim k) =
-      decided session (refuse (session (after l))) (λ why. after l) (λ why. refl) (withState (session (after l)) (withClaim (session (after l) .state) k)) (certifying l k [] []) accepted (claimingChecks st k)
+  steps-agree (reading l) o g end = refl
+  steps-agree (reading l) o g (claim k) = refl
+  steps-agree (reading l) o g (number z) = refl
+  steps-agree (reading l) o g (repeat b) = refl
+  steps-agree (reading l) o g finish = refl
+  steps-agree (hasRead l) o g (read e) = refl
+  steps-agree (hasRead l) o g end = refl
+  steps-agree (hasRead l) o g (claim k) =
+      decided session (refuse (session (hasRead l))) (λ why. hasRead l) (λ why. refl) (withState (session (hasRead l)) (withClaim (session (hasRead l) .state) k)) (certifying l k [] []) accepted (claimingChecks st k)
       (λ h. claim-one l k)
-  steps-agree (after l) o g (number z) = refl
-  steps-agree (after l) o g (repeat b) = refl
-  steps-agree (after l) o g finish = refl
+  steps-agree (hasRead l) o g (number z) = refl
+  steps-agree (hasRead l) o g (repeat b) = refl
+  steps-agree (hasRead l) o g finish = refl
   steps-agree (certifying l k ys f) o g (read e) = refl
   steps-agree (certifying l k ys f) o g end = refl
   steps-agree (certifying l k ys f) o g (claim j) = refl

@@ -14,17 +14,16 @@ use lib.ListN.{length, take, length-append}
 use lib.Seq.{append-snoc}
 use Rattle.prelude.specs.Checks.{Check, settle, Hold}
 use Rattle.prelude.proofs.Booleans.{fails}
-use Rattle.prelude.proofs.Settle.{settle-append, settle-map}
+use Rattle.prelude.proofs.Settle.{settle-append}
 use Rattle.network.specs.Network.{Arc, Load, arcs}
 use Rattle.network.specs.Question.{Setting, Answer}
 use Rattle.network.specs.Tests.{readingChecks, readingAll, claimOf, claimingChecks, numberingChecks, repeatingChecks, finishingChecks, answerOf}
 use Rattle.points.specs.declared.Point.{Point}
 use Rattle.state.specs.Answers.{Said, accepted, gives, refused}
 use Rattle.runs.specs.Run.{Step, read, end, claim, number, repeat, finish, runFrom}
-use Rattle.runs.specs.Exchange.{exchange, outcome, last, numbersOf, sumsAt, numberingAll, repeatingAll, annotationRules, Opens}
+use Rattle.runs.specs.Exchange.{exchange, outcome, last, numberingAll, repeatingAll, annotationRules, Opens}
 use Rattle.runs.specs.Promises.{FirstBroken}
-use Rattle.runs.proofs.AcceptedLists.{AcceptedLists, closed, during, after, certifying, afterRefusal, next, reply, replies}
-use Rattle.runs.proofs.StepsAgree.{agreeAt}
+use Rattle.runs.specs.AcceptedLists.{AcceptedLists, over, reading, hasRead, certifying, numbersOf, sumsAt, agreeAt, afterRefusal, next, reply, replies}
 use Rattle.runs.proofs.RunsAgree.{runs-agree}
 use Rattle.runs.proofs.FirstAndLast.{outcome-alone, outcome-step, LastSays, alone, refusing, on, ends-gives, ends-step}
 
@@ -47,7 +46,7 @@ module _ (agree : List Arc → List Arc → Bool) (st : Setting) where
   -- Steps of one kind: what they bring is held in a list, where the rule on each holds.
   record OneKind {A : Type 0} (make : A → Step) (listed : List A → AcceptedLists) (rule : ℕ → A → List Check) (rules : ℕ → List A → List Check) : Type 0 where
     kept : List A → ℕ → AcceptedLists
-    moves : (l : List A) (a : A) → next st (listed l) (make a) ≡ settle (kept l) (rule (length l) a) (listed (l ++ a ∷ []))
+    moves : (l : List A) (a : A) → next agree st (listed l) (make a) ≡ settle (kept l) (rule (length l) a) (listed (l ++ a ∷ []))
     says : (l : List A) (a : A) → reply agree st (listed l) (make a) ≡ settle refused (rule (length l) a) accepted
     rules-none : (i : ℕ) → rules i [] ≡ []
     rules-more : (i : ℕ) (a : A) (l : List A) → rules i (a ∷ l) ≡ rule i a ++ rules (suc i) l
@@ -66,11 +65,11 @@ module _ (agree : List Arc → List Arc → Bool) (st : Setting) where
       ∙ ap₂ (λ i k. settle refused (rules i l) (outcome (heard (listed k) steps))) (snoc-length before a) (append-snoc before a l))
       ∙ sym (settle-append refused (rule (length before) a) (rules (suc (length before)) l) (outcome (heard (listed (before ++ a ∷ l)) steps))))
 
-  reading-kind : OneKind read during (readingChecks st) (readingAll st)
+  reading-kind : OneKind read reading (readingChecks st) (readingAll st)
   unfolding readingAll
   reading-kind = record {
-    kept = λ l why. during l;
-    moves = λ l e. settle-map during (λ why. l) (readingChecks st (length l) e) (l ++ e ∷ []);
+    kept = λ l why. reading l;
+    moves = λ l e. refl;
     says = λ l e. refl;
     rules-none = λ i. refl;
     rules-more = λ i e l. refl;
@@ -104,16 +103,16 @@ module _ (agree : List Arc → List Arc → Bool) (st : Setting) where
       abbrev result : Said
       result = gives (answerOf st (claimOf k) (sumsAt st ys f))
 
-      outcome-annotation : outcome (heard (after net) (claim k ∷ numberSteps ys f)) ≡ settle refused (annotationRules st (length net) k ys f) (settle refused final result)
+      outcome-annotation : outcome (heard (hasRead net) (claim k ∷ numberSteps ys f)) ≡ settle refused (annotationRules st (length net) k ys f) (settle refused final result)
       unfolding replies
       outcome-annotation =
-          outcome-step (λ x. heard x (numberSteps ys f)) (λ why. after net) (claimingChecks st k) (certifying net k [] [])
+          outcome-step (λ x. heard x (numberSteps ys f)) (λ why. hasRead net) (claimingChecks st k) (certifying net k [] [])
           ∙ ap (settle refused (claimingChecks st k))
           (outcome-each numbering-kind ys [] (repeatSteps f)
           ∙ ap (settle refused (numberingAll st (claimOf k) 0 ys)) (outcome-each (repeating-kind ys) f [] (finish ∷ []) ∙ ap (settle refused (repeatingAll st (numbersOf (claimOf k) ys) (length net) 0 f)) (outcome-alone _))
           ∙ sym (settle-append refused (numberingAll st (claimOf k) 0 ys) (repeatingAll st (numbersOf (claimOf k) ys) (length net) 0 f) (settle refused final result)))
 
-      outcome-exchange : outcome (heard (during []) (exchange net k ys f)) ≡ settle refused (readingAll st 0 net ++ (annotationRules st (length net) k ys f ++ final)) result
+      outcome-exchange : outcome (heard (reading []) (exchange net k ys f)) ≡ settle refused (readingAll st 0 net ++ (annotationRules st (length net) k ys f ++ final)) result
       unfolding replies
       outcome-exchange =
           outcome-each reading-kind net [] (end ∷ claim k ∷ numberSteps ys f)
@@ -124,20 +123,20 @@ module _ (agree : List Arc → List Arc → Bool) (st : Setting) where
 
   -- a session that none of these steps changes
   ends-each : {A : Type 0} (make : A → Step) (x : AcceptedLists) (steps : List Step) (why : ℕ)
-      → ((a : A) → next st x (make a) ≡ x) → LastSays (heard x steps) (refused why) → (l : List A) → LastSays (heard x (map make l ++ steps)) (refused why)
+      → ((a : A) → next agree st x (make a) ≡ x) → LastSays (heard x steps) (refused why) → (l : List A) → LastSays (heard x (map make l ++ steps)) (refused why)
   unfolding replies
   ends-each make x steps why stay h [] = h
   ends-each make x steps why stay h (a ∷ l) =
       on (subst (λ (y : AcceptedLists). LastSays (heard y (map make l ++ steps)) (refused why)) (sym (stay a)) (ends-each make x steps why stay h l))
 
   -- after a refused claim, and after a refusal that closes the session
-  ends-still : (x : AcceptedLists) (why : ℕ) → ((z : ℤ) → next st x (number z) ≡ x) → ((b : Load) → next st x (repeat b) ≡ x) → LastSays (heard x (finish ∷ [])) (refused why)
+  ends-still : (x : AcceptedLists) (why : ℕ) → ((z : ℤ) → next agree st x (number z) ≡ x) → ((b : Load) → next agree st x (repeat b) ≡ x) → LastSays (heard x (finish ∷ [])) (refused why)
       → (zs : List ℤ) (f : List Load) → LastSays (heard x (numberSteps zs f)) (refused why)
   ends-still x why n m h zs f = ends-each number x (repeatSteps f) why n (ends-each repeat x (finish ∷ []) why m h f) zs
 
-  ends-closed : (why : ℕ) (zs : List ℤ) (f : List Load) → LastSays (heard closed (numberSteps zs f)) (refused why)
+  ends-over : (why : ℕ) (zs : List ℤ) (f : List Load) → LastSays (heard over (numberSteps zs f)) (refused why)
   unfolding replies
-  ends-closed why = ends-still closed why (λ z. refl) (λ b. refl) refusing
+  ends-over why = ends-still over why (λ z. refl) (λ b. refl) refusing
 
   module _ (net : List Arc) (k : ℕ) where
     -- where node numbers are missing
@@ -152,7 +151,7 @@ module _ (agree : List Arc → List Arc → Bool) (st : Setting) where
     ends-repeats ys [] f = rw outcome-alone alone
     ends-repeats ys (b ∷ g) f =
         ends-step (λ x. heard x (repeatSteps g)) (λ x. heard x (repeatSteps g)) (afterRefusal (certifying net k ys f)) (repeatingChecks st (numbersOf (claimOf k) ys) (length net) (length f) b) (certifying net k ys (f ++ b ∷ []))
-        (ends-short ys f g, (λ h. ends-closed 6 [] g, (λ h. ends-closed 7 [] g, (λ h. ends-closed 8 [] g, (λ h. ends-closed 11 [] g, (λ h. ends-closed 12 [] g, tt))))))
+        (ends-short ys f g, (λ h. ends-over 6 [] g, (λ h. ends-over 7 [] g, (λ h. ends-over 8 [] g, (λ h. ends-over 11 [] g, (λ h. ends-over 12 [] g, tt))))))
         (ends-repeats ys g (f ++ b ∷ []))
 
     -- numbers are taken while there is room for them; what comes after that is refused and changes nothing
@@ -164,18 +163,18 @@ module _ (agree : List Arc → List Arc → Bool) (st : Setting) where
     ends-numbers f (z ∷ zs) ys zero e = rw (le-ltb (length ys) (st .n) (omega arith)) (on (ends-numbers f zs ys zero e))
     ends-numbers f (z ∷ zs) ys (suc room) e =
         ends-step (λ x. heard x (numberSteps zs f)) (λ x. heard x (numberSteps (take room zs) f)) (afterRefusal (certifying net k ys [])) (numberingChecks st (claimOf k) (length ys) z) (certifying net k (ys ++ z ∷ []) [])
-        (λ h. absurd (h (lt→ltb (length ys) (st .n) (omega arith))), (λ h. ends-closed 10 zs f, tt))
+        (λ h. absurd (h (lt→ltb (length ys) (st .n) (omega arith))), (λ h. ends-over 10 zs f, tt))
         (ends-numbers f zs (ys ++ z ∷ []) room (omega (arith, snoc-length ys z)))
 
   ends-exchange : (k : ℕ) (ys : List ℤ) (f : List Load) (net l : List Arc) → Hold (readingAll st (length l) net)
-      → LastSays (heard (during l) (exchange net k ys f)) (outcome (heard (during l) (exchange net k (take (st .n) ys) f)))
+      → LastSays (heard (reading l) (exchange net k ys f)) (outcome (heard (reading l) (exchange net k (take (st .n) ys) f)))
   unfolding readingAll replies
   ends-exchange k ys f [] l h =
-      on (ends-step (λ x. heard x (numberSteps ys f)) (λ x. heard x (numberSteps (take (st .n) ys) f)) (λ why. after l) (claimingChecks st k) (certifying l k [] [])
-      (λ h. ends-still (after l) 9 (λ z. refl) (λ b. refl) refusing ys f, tt)
+      on (ends-step (λ x. heard x (numberSteps ys f)) (λ x. heard x (numberSteps (take (st .n) ys) f)) (λ why. hasRead l) (claimingChecks st k) (certifying l k [] [])
+      (λ h. ends-still (hasRead l) 9 (λ z. refl) (λ b. refl) refusing ys f, tt)
       (ends-numbers l k f ys [] (st .n) (omega arith)))
   ends-exchange k ys f (e ∷ net) l h =
-      ends-step (λ m. heard (during m) (exchange net k ys f)) (λ m. heard (during m) (exchange net k (take (st .n) ys) f)) (λ why. l) (readingChecks st (length l) e) (l ++ e ∷ [])
+      ends-step (λ x. heard x (exchange net k ys f)) (λ x. heard x (exchange net k (take (st .n) ys) f)) (λ why. reading l) (readingChecks st (length l) e) (reading (l ++ e ∷ []))
       (λ n. absurd (n (h .0)), (λ n. absurd (n (h .1 .0)), (λ n. absurd (n (h .1 .1 .0)), tt)))
       (ends-exchange k ys f net (l ++ e ∷ []) (subst (λ (i : ℕ). Hold (readingAll st i net)) (sym (snoc-length l e)) (h .1 .1 .1)))
 

@@ -1,4 +1,4 @@
--- Demand 3 for lists of steps: a fixed list gives a wrong answer at m - 1 points at most, and after a refused opening there are only refusals.
+-- Demand 3 for lists of steps: a fixed list gives a wrong answer at m - 1 points at most.
 -- Assumes nothing.
 use mathlib.Core.Path.{_≡_, refl, sym, _∙_, ap, subst}
 use mathlib.Core.Logic.{_⊎_, inl, inr}
@@ -18,25 +18,17 @@ use Rattle.prelude.proofs.Settle.{settled, hold-left, none-broken, part-refused
 use Rattle.network.specs.Network.{Arc, Load, arcs}
 use Rattle.network.specs.Question.{Setting, Opened, Allowed, Answer, TrueAnswer}
 use Rattle.network.specs.Tests.{openingChecks, readingChecks, claimOf, claimingChecks, numberingChecks, repeatingChecks, finishingChecks, answerOf}
-use Rattle.network.proofs.Allowed.{opening-rule}
+use Rattle.network.proofs.Allowed.{opening-rule, opening-test}
 use Rattle.points.specs.Points.{IsPoint, pointOk, printOf, misleadingPoints}
 use Rattle.points.specs.declared.Point.{Point}
 use Rattle.points.proofs.Prints.{same-print}
 use Rattle.points.proofs.Promises.{few-mislead}
 use Rattle.state.specs.Answers.{Said, accepted, gives, refused}
-use Rattle.state.specs.State.{openChecks, opened}
-use Rattle.state.specs.declared.Answer.the-variants.{Accepted, Refused}
-use Rattle.session.specs.Session.{joined, zeros, void, hand, accept}
-use Rattle.session.specs.Steps.{opening}
-use Rattle.session.specs.declared.Reply.{Reply}
-use Rattle.session.specs.declared.Session.{Session}
 use Rattle.runs.specs.Run.{Step, read, end, claim, number, repeat, finish, run, withArc, listFrom, listRead, Wrong, WrongAt}
-use Rattle.runs.specs.Exchange.{numbersOf, sumsAt}
-use Rattle.runs.specs.Promises.{FewWrong, OnlyRefusals}
-use Rattle.runs.proofs.AcceptedLists.{AcceptedLists, closed, during, after, certifying, afterRefusal, next, replies}
-use Rattle.runs.proofs.Invariant.{AnnotationPassed, Invariant, settle-keeps, refusal-keeps, invariant-next}
-use Rattle.runs.proofs.StepsAgree.{agreeAt, void-stays}
-use Rattle.runs.proofs.RunsAgree.{runs-agree}
+use Rattle.runs.specs.Promises.{FewWrong}
+use Rattle.runs.specs.AcceptedLists.{AcceptedLists, over, reading, hasRead, certifying, numbersOf, sumsAt, agreeAt, stepChecks, next, reply, replies, openedLists}
+use Rattle.runs.proofs.Invariant.{AnnotationPassed, Invariant, settle-keeps, invariant-next}
+use Rattle.runs.proofs.RunsAgree.{by-opening, over-stays, runs-agree, answers-of-lists, finish-leaves, WillRead, will-read-next}
 use Rattle.runs.proofs.TrueAnswers.{again, same-size, true-answer}
 
 -- ---- whose fault a wrong answer is
@@ -68,15 +60,18 @@ never st net [] h w = w
 never st net (a ∷ l) h (inl w) = subst (Wrong st net) (h .0) w
 never st net (a ∷ l) h (inr w) = never st net l (h .1) w
 
-closed-refuses : (agree : List Arc → List Arc → Bool) (st : Setting) (steps : List Step) → Every (λ a. a ≡ refused 5) (replies agree st closed steps)
-unfolding replies
-closed-refuses agree st [] = tt
-closed-refuses agree st (a ∷ steps) = (refl, closed-refuses agree st steps)
+over-refused : (agree : List Arc → List Arc → Bool) (st : Setting) (a : Step) → reply agree st over a ≡ refused 5
+over-refused agree st (read e) = refl
+over-refused agree st end = refl
+over-refused agree st (claim k) = refl
+over-refused agree st (number z) = refl
+over-refused agree st (repeat b) = refl
+over-refused agree st finish = refl
 
-void-refuses : (steps : List Step) → Every (λ a. a ≡ refused 5) (run void steps)
-unfolding run
-void-refuses [] = tt
-void-refuses (a ∷ steps) = rw (void-stays a) (refl, void-refuses steps)
+over-refuses : (agree : List Arc → List Arc → Bool) (st : Setting) (steps : List Step) → Every (λ a. a ≡ refused 5) (replies agree st over steps)
+unfolding replies
+over-refuses agree st [] = tt
+over-refuses agree st (a ∷ steps) = (over-refused agree st a, subst (λ (x : AcceptedLists). Every (λ b. b ≡ refused 5) (replies agree st x steps)) (sym (over-stays agree st a)) (over-refuses agree st steps))
 
 -- a wrong answer of finishing: every check held
 pub wrong-held : (st : Setting) (net : List Arc) (a : Answer) (cs : List Check) → Wrong st net (settle refused cs (gives a)) → Hold cs × ¬ (TrueAnswer st net a)
@@ -90,13 +85,6 @@ module _ {P : Type 0} (agrees : P → List Arc → List Arc → Bool) (st : Sett
   abbrev WrongIn : AcceptedLists → List Step → P → Type 0
   WrongIn x steps r = Some (Wrong st net) (replies (agrees r) st x steps)
 
-  -- the list read will be `net`
-  abbrev WillRead : List Step → AcceptedLists → Type 0
-  WillRead steps closed = Unit {0}
-  WillRead steps (during l) = listFrom st l steps ≡ net
-  WillRead steps (after l) = l ≡ net
-  WillRead steps (certifying l k ys f) = l ≡ net
-
   quiet : (cs : List Check) → Wrong st net (settle refused cs accepted) → ⊥
   quiet cs = settle-keeps (λ a. Wrong st net a → ⊥) refused cs accepted (λ k w. w) (λ h w. w)
 
@@ -104,13 +92,13 @@ module _ {P : Type 0} (agrees : P → List Arc → List Arc → Bool) (st : Sett
   finish-blame : (x : AcceptedLists) (steps : List Step) (a : Answer) (b : Bool) (cs : P → List Check)
       → Blame agrees st (length net) (λ r. Hold (5 unless b ∷ cs r) × ¬ (TrueAnswer st net a))
       → Blame agrees st (length net) (WrongIn x steps)
-      → Blame agrees st (length net) (λ r. Wrong st net (settle refused (5 unless b ∷ cs r) (gives a)) ⊎ WrongIn (pick b closed x) steps r)
+      → Blame agrees st (length net) (λ r. Wrong st net (settle refused (5 unless b ∷ cs r) (gives a)) ⊎ WrongIn (pick b over x) steps r)
   finish-blame x steps a false cs this rest = later (λ r w. w) rest
   finish-blame x steps a true cs this rest = blame-part first this
     where
-      first : (r : P) → Wrong st net (settle refused (cs r) (gives a)) ⊎ WrongIn closed steps r → (Unit {0} × Hold (cs r)) × ¬ (TrueAnswer st net a)
+      first : (r : P) → Wrong st net (settle refused (cs r) (gives a)) ⊎ WrongIn over steps r → (Unit {0} × Hold (cs r)) × ¬ (TrueAnswer st net a)
       first r (inl w) = let h = wrong-held st net a (cs r) w in ((tt, h .0), h .1)
-      first r (inr w) = absurd (never st net (replies (agrees r) st closed steps) (closed-refuses (agrees r) st steps) w)
+      first r (inr w) = absurd (never st net (replies (agrees r) st over steps) (over-refuses (agrees r) st steps) w)
 
   -- the rules of finishing at the point r
   abbrev finishRules : List Arc → ℕ → List ℤ → List Load → P → List Check
@@ -134,48 +122,32 @@ module _ {P : Type 0} (agrees : P → List Arc → List Arc → Bool) (st : Sett
                 (true-answer st l k ys f g (agrees r l (arcs f)) (w .0) o m)),
           ))
 
-  blame : (steps : List Step) (x : AcceptedLists) → Invariant st x → WillRead steps x → Blame agrees st (length net) (WrongIn x steps)
-  unfolding replies listFrom
+  -- no comparison: no step but finishing makes one
+  abbrev uncompared : List Arc → List Arc → Bool
+  uncompared l m = true
+
+  blame : (steps : List Step) (x : AcceptedLists) → Invariant st x → WillRead st net steps x → Blame agrees st (length net) (WrongIn x steps)
+  unfolding replies
   blame [] x g fit = nobody (λ r w. w)
-  blame (a ∷ steps) closed g fit = later (λ r w. w) (blame steps closed g fit)
-  blame (read e ∷ steps) (during l) g fit = later (λ r. quiet (readingChecks st (length l) e)) (blame steps (during (withArc st l e)) (invariant-next st (during l) g (read e)) fit)
-  blame (end ∷ steps) (during l) g fit = later (λ r w. w) (blame steps (after l) g fit)
-  blame (claim k ∷ steps) (during l) g fit = later (λ r w. w) (blame steps (during l) g fit)
-  blame (number z ∷ steps) (during l) g fit = later (λ r w. w) (blame steps (during l) g fit)
-  blame (repeat b ∷ steps) (during l) g fit = later (λ r w. w) (blame steps (during l) g fit)
-  blame (finish ∷ steps) (during l) g fit = later (λ r w. w) (blame steps (during l) g fit)
-  blame (read e ∷ steps) (after l) g fit = later (λ r w. w) (blame steps (after l) g fit)
-  blame (end ∷ steps) (after l) g fit = later (λ r w. w) (blame steps (after l) g fit)
-  blame (claim k ∷ steps) (after l) g fit =
-      later (λ r. quiet (claimingChecks st k)) (blame steps (next st (after l) (claim k)) (invariant-next st (after l) g (claim k))
-      (settle-keeps (WillRead steps) (λ why. after l) (claimingChecks st k) (certifying l k [] []) (λ why. fit) (λ h. fit)))
-  blame (number z ∷ steps) (after l) g fit = later (λ r w. w) (blame steps (after l) g fit)
-  blame (repeat b ∷ steps) (after l) g fit = later (λ r w. w) (blame steps (after l) g fit)
-  blame (finish ∷ steps) (after l) g fit = later (λ r w. w) (blame steps (after l) g fit)
-  blame (read e ∷ steps) (certifying l k ys f) g fit = later (λ r w. w) (blame steps (certifying l k ys f) g fit)
-  blame (end ∷ steps) (certifying l k ys f) g fit = later (λ r w. w) (blame steps (certifying l k ys f) g fit)
-  blame (claim j ∷ steps) (certifying l k ys f) g fit = later (λ r w. w) (blame steps (certifying l k ys f) g fit)
-  blame (number z ∷ steps) (certifying l k ys f) g fit =
-      let rule = numberingChecks st (claimOf k) (length ys) z in
-      later (λ r. quiet rule) (blame steps (next st (certifying l k ys f) (number z)) (invariant-next st (certifying l k ys f) g (number z))
-      (settle-keeps (WillRead steps) (afterRefusal (certifying l k ys f)) rule (certifying l k (ys ++ z ∷ []) f) (refusal-keeps (WillRead steps) (certifying l k ys f) fit tt) (λ h. fit)))
-  blame (repeat b ∷ steps) (certifying l k ys f) g fit =
-      let rule = repeatingChecks st (numbersOf (claimOf k) ys) (length l) (length f) b in
-      later (λ r. quiet rule) (blame steps (next st (certifying l k ys f) (repeat b)) (invariant-next st (certifying l k ys f) g (repeat b))
-      (settle-keeps (WillRead steps) (afterRefusal (certifying l k ys f)) rule (certifying l k ys (f ++ b ∷ [])) (refusal-keeps (WillRead steps) (certifying l k ys f) fit tt) (λ h. fit)))
+  blame (read e ∷ steps) x g fit = later (λ r. quiet (stepChecks uncompared st x (read e))) (blame steps (next uncompared st x (read e)) (invariant-next st uncompared x g (read e)) (will-read-next st net uncompared steps x (read e) fit))
+  blame (end ∷ steps) x g fit = later (λ r. quiet (stepChecks uncompared st x end)) (blame steps (next uncompared st x end) (invariant-next st uncompared x g end) (will-read-next st net uncompared steps x end fit))
+  blame (claim k ∷ steps) x g fit = later (λ r. quiet (stepChecks uncompared st x (claim k))) (blame steps (next uncompared st x (claim k)) (invariant-next st uncompared x g (claim k)) (will-read-next st net uncompared steps x (claim k) fit))
+  blame (number z ∷ steps) x g fit = later (λ r. quiet (stepChecks uncompared st x (number z))) (blame steps (next uncompared st x (number z)) (invariant-next st uncompared x g (number z)) (will-read-next st net uncompared steps x (number z) fit))
+  blame (repeat b ∷ steps) x g fit = later (λ r. quiet (stepChecks uncompared st x (repeat b))) (blame steps (next uncompared st x (repeat b)) (invariant-next st uncompared x g (repeat b)) (will-read-next st net uncompared steps x (repeat b) fit))
+  blame (finish ∷ steps) over g fit = later (λ r w. w) (blame steps (next uncompared st over finish) (invariant-next st uncompared over g finish) (will-read-next st net uncompared steps over finish fit))
+  blame (finish ∷ steps) (reading l) g fit = later (λ r w. w) (blame steps (next uncompared st (reading l) finish) (invariant-next st uncompared (reading l) g finish) (will-read-next st net uncompared steps (reading l) finish fit))
+  blame (finish ∷ steps) (hasRead l) g fit = later (λ r w. w) (blame steps (next uncompared st (hasRead l) finish) (invariant-next st uncompared (hasRead l) g finish) (will-read-next st net uncompared steps (hasRead l) finish fit))
   blame (finish ∷ steps) (certifying l k ys f) g fit =
-      finish-blame (certifying l k ys f) steps (answerOf st (claimOf k) (sumsAt st ys f)) (eqb (length ys) (st .n)) (λ r. tail (finishRules l k ys f r))
-      (untrue l k ys f g fit) (blame steps (certifying l k ys f) g fit)
+      blame-part left
+      (finish-blame (certifying l k ys f) steps (answerOf st (claimOf k) (sumsAt st ys f)) (eqb (length ys) (st .n)) (λ r. tail (finishRules l k ys f r))
+      (untrue l k ys f g fit) (blame steps (certifying l k ys f) g fit))
+    where
+      left : (r : P) → WrongIn (certifying l k ys f) (finish ∷ steps) r
+          → Wrong st net (settle refused (finishRules l k ys f r) (gives (answerOf st (claimOf k) (sumsAt st ys f)))) ⊎ WrongIn (pick (eqb (length ys) (st .n)) over (certifying l k ys f)) steps r
+      left r (inl w) = inl w
+      left r (inr w) = inr (subst (λ (x : AcceptedLists). WrongIn x steps r) (finish-leaves (agrees r) st l k ys f) w)
 
--- ---- opening
-
--- a refused opening hands back a void session
-refused-void : (st : Setting) (r : Point) → (Hold (openChecks st r) → ⊥) → opening st r .session ≡ void
-unfolding opening
-refused-void st r h =
-    sym (ap (λ (x : Reply). x .session) (part-refused (λ why. hand void (Refused why)) (openChecks st r) []
-    (accept (joined zeros zeros (opened st r))) (refl, (refl, (refl, (refl, tt))))
-    (firstBroken (openChecks st r)) refl (λ z. h (none-broken (openChecks st r) (refl, (refl, (refl, (refl, tt)))) z))))
+-- ---- a list of steps
 
 -- whose fault the wrong answers of a list of steps are
 blamed : (st : Setting) (steps : List Step) → Blame agreeAt st (length (listRead st steps)) (WrongAt st steps)
@@ -188,10 +160,12 @@ blamed st steps = go (ℕ-discrete (firstBroken (openingChecks st)) 0)
     go (yes z) =
         let o = opening-rule st (none-broken (openingChecks st) (refl, (refl, (refl, tt))) z) in
         blame-part (λ r w. subst (Some (Wrong st net)) (runs-agree st r (record { opened = o; point = w .0 }) steps) (w .1))
-        (blame agreeAt st o net steps (during []) (record { allowed = tt; few = omega arith }) refl)
-    go (no z) = nobody (λ r w. never st net (run void steps) (void-refuses steps)
-        (subst (λ (x : Session). Some (Wrong st net) (run x steps))
-        (refused-void st r (λ h. z (settled (λ k. k) (openingChecks st) 0 (hold-left (openingChecks st) (4 unless pointOk r ∷ []) h)))) (w .1)))
+        (blame agreeAt st o net steps (reading []) (record { allowed = tt; few = omega arith }) refl)
+    go (no z) = nobody (λ r w. never st net (replies (agreeAt r) st over steps) (over-refuses (agreeAt r) st steps)
+        (subst (λ (x : AcceptedLists). Some (Wrong st net) (replies (agreeAt r) st x steps)) (refuses r) (subst (Some (Wrong st net)) (answers-of-lists st r steps) (w .1))))
+      where
+        refuses : (r : Point) → openedLists st r ≡ over
+        refuses r = by-opening (λ x. x ≡ over) st r refl (λ o. absurd (z (settled (λ k. k) (openingChecks st) 0 (opening-test st (o .opened)))))
 
 -- ---- the promises
 
@@ -205,14 +179,3 @@ few-blamed st size Bad point (lists l m o hl hm e e′ h) (r ∷ rs) d a =
 
 pub few-wrong : FewWrong
 few-wrong st steps = few-blamed st (length (listRead st steps)) (WrongAt st steps) (λ r w. w .0) (blamed st steps)
-
-pub only-refusals : OnlyRefusals
-unfolding opening
-only-refusals st r why steps e =
-    subst (λ (x : Session). Every (λ a. a ≡ refused 5) (run x steps)) (sym (refused-void st r refuses)) (void-refuses steps)
-  where
-    refuses : Hold (openChecks st r) → ⊥
-    refuses h =
-        let a : Accepted ≡ Refused why = ap (λ (x : Reply). x .answer) (sym (settled (λ k. hand void (Refused k)) (openChecks st r) (accept (joined zeros zeros (opened st r))) h)) ∙ e in
-        let z : _≡_ {A = ℕ} 0 1 = cc in
-        omega arith

@@ -1,4 +1,4 @@
--- A whole exchange in order: the arcs read, the claim, the node numbers, the arcs again, finishing; and its rules in the order in which a session meets them.
+-- An exchange in order: the arcs read, the claim, the node numbers, the arcs again, finishing; and its rules in the order in which a session meets them (PANEL 6).
 -- Assumes nothing.
 use mathlib.Core.Path.{_≡_}
 use mathlib.Core.List.{List, [], _∷_, _++_, map}
@@ -9,15 +9,16 @@ use Rattle.prelude.specs.Checks.{Check, settle}
 use Rattle.prelude.specs.Lists.{Every, at}
 use Rattle.network.specs.Limits.{mostArcs}
 use Rattle.network.specs.Network.{Arc, Load, arcs}
-use Rattle.network.specs.Question.{Setting, asks, Opened, Allowed, Answer}
-use Rattle.network.specs.Certificate.{Claim, claimFor, marked, Sums, sumsOf, Certified}
+use Rattle.network.specs.Question.{Setting, Opened, Allowed, Answer}
+use Rattle.network.specs.Certificate.{Claim, claimFor, Certified}
 use Rattle.network.specs.Tests.{readingAll, claimNumber, claimOf, claimingChecks, Numbers, numberingChecks, repeatingChecks, finishingChecks, answerOf}
-use Rattle.points.specs.Points.{IsPoint, printOf, samePrint}
+use Rattle.points.specs.Points.{IsPoint, printOf}
 use Rattle.points.specs.declared.Point.{Point}
 use Rattle.state.specs.Answers.{Said, accepted, gives, refused}
 use Rattle.runs.specs.Run.{Step, read, end, claim, number, repeat, finish}
+use Rattle.runs.specs.AcceptedLists.{numbersOf, sumsAt, agreeAt, AcceptedLists, over, reading, hasRead, certifying}
 
--- The steps of an exchange: k is the number of the claim.
+-- The steps of an exchange in order: k is the number of the claim.
 abbrev pub exchange : List Arc → ℕ → List ℤ → List Load → List Step
 exchange net k ys f = map read net ++ (end ∷ claim k ∷ (map number ys ++ (map repeat f ++ (finish ∷ []))))
 
@@ -34,15 +35,7 @@ last [] = accepted
 last (a ∷ []) = a
 last (a ∷ b ∷ rest) = last (b ∷ rest)
 
--- ---- the rules, in document 01's order
-
--- The claim c with the node numbers ys.
-abbrev pub numbersOf : Claim → List ℤ → Numbers
-numbersOf c ys = record { claim = c; given = length ys; number = at ys; mark = marked (at ys) }
-
--- The sums over the repeated arcs f.
-abbrev pub sumsAt : Setting → List ℤ → List Load → Sums
-sumsAt st ys f = sumsOf (asks st) (marked (at ys)) f
+-- ---- the rules, in the order of the checks
 
 -- The rules of all the node numbers, where i are given already, and of all the arcs repeated, where m are read and i repeated already.
 unfoldable pub numberingAll : Setting → Claim → ℕ → List ℤ → List Check
@@ -60,9 +53,9 @@ annotationRules st m k ys f = claimingChecks st k ++ (numberingAll st (claimOf k
 -- The rules of finishing.
 abbrev pub finalRules : Setting → Point → List Arc → ℕ → List ℤ → List Load → List Check
 finalRules st r net k ys f =
-    finishingChecks st (numbersOf (claimOf k) ys) (length net) (length f) (samePrint (printOf r net) (printOf r (arcs f))) (sumsAt st ys f)
+    finishingChecks st (numbersOf (claimOf k) ys) (length net) (length f) (agreeAt r net (arcs f)) (sumsAt st ys f)
 
--- The verdict: the first rule broken, in document 01's order, or the answer.
+-- The verdict: the first rule broken, in the order of the checks, or the answer.
 abbrev pub verdict : Setting → Point → List Arc → ℕ → List ℤ → List Load → Said
 verdict st r net k ys f =
     settle refused
@@ -81,7 +74,8 @@ pub record Readable (st : Setting) (net : List Arc) : Type 0 where
   pub allowed : Every (Allowed st) net
   pub few : length net ≤ mostArcs
 
--- The annotation meets every rule of the certificate for the answer a, equal fingerprints taken for equal lists of arcs (demand 2).
+-- The annotation meets every rule of the certificate for the answer a, equal fingerprints taken for equal lists of arcs (PANEL 12, demand 2): the claim is that of the answer, there is
+-- one node number for each vertex, the repeated arcs are such as may be read, they are a certificate, and as many as were read, with the same fingerprint.
 pub record Meets (st : Setting) (r : Point) (net : List Arc) (k : ℕ) (ys : List ℤ) (f : List Load) (a : Answer) : Type 0 where
   pub claims : k ≡ claimNumber (claimFor a)
   pub one-each : length ys ≡ st .n
@@ -89,3 +83,10 @@ pub record Meets (st : Setting) (r : Point) (net : List Arc) (k : ℕ) (ys : Lis
   pub certificate : Certified st (at ys) f a
   pub as-many : length f ≡ length net
   pub fingerprints : printOf r net ≡ printOf r (arcs f)
+
+-- What is accepted meets every rule for the answer a: a claim stands, and its lists do.
+abbrev pub MeetsAll : Setting → Point → AcceptedLists → Answer → Type 0
+MeetsAll st r over a = ⊥
+MeetsAll st r (reading l) a = ⊥
+MeetsAll st r (hasRead l) a = ⊥
+MeetsAll st r (certifying l k ys f) a = Meets st r l k ys f a

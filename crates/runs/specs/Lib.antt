@@ -1,3 +1,5 @@
 pub mod Run
+pub mod AcceptedLists
+pub mod HeldAtPoint
 pub mod Exchange
 pub mod Promises

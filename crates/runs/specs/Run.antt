@@ -1,4 +1,4 @@
--- Lists of session steps, and what demand 3 counts (document 01, What demand 3 counts).
+-- Lists of session steps, and what demand 3 counts (PANEL 12).
 -- Assumes nothing.
 use mathlib.Core.List.{List, [], _∷_, _++_}
 use Prim.Native.Nat.{ℕ}
@@ -16,7 +16,7 @@ use Rattle.session.specs.Steps.{opening, readStep, endStep, claimStep, numberSt
 use Rattle.session.specs.declared.Reply.{Reply}
 use Rattle.session.specs.declared.Session.{Session}
 
--- The six steps, each with any arguments.
+-- The six steps, each with any arguments (PANEL 6).
 pub data Step : Type 0 where
   read : Arc → Step
   end : Step
@@ -25,6 +25,7 @@ pub data Step : Type 0 where
   repeat : Load → Step
   finish : Step
 
+-- What a session replies to a step.
 abbrev pub step : Session → Step → Reply
 step x (read e) = readStep x e
 step x end = endStep x
@@ -38,9 +39,20 @@ unfoldable pub run : Session → List Step → List Said
 run x [] = []
 run x (a ∷ steps) = said ((step x a) .answer) ∷ run ((step x a) .session) steps
 
+-- The session that a list of steps hands back.
+unfoldable pub sessionAfter : Session → List Step → Session
+sessionAfter x [] = x
+sessionAfter x (a ∷ steps) = sessionAfter ((step x a) .session) steps
+
 -- The list starts from the session that opening handed back for a setting and a point.
 abbrev pub runFrom : Setting → Point → List Step → List Said
 runFrom st r steps = run (opening st r .session) steps
+
+-- What the step a answers after the steps before it, accepted or refused.
+abbrev pub answerTo : Setting → Point → List Step → Step → Said
+answerTo st r before a = said (step (sessionAfter (opening st r .session) before) a .answer)
+
+-- ---- what demand 3 counts (PANEL 12)
 
 -- A reading step adds its arc at the end of the list l, unless check 6, 7 or 8 refuses it.
 abbrev pub withArc : Setting → List Arc → Arc → List Arc

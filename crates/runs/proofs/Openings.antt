@@ -5,12 +5,12 @@ use Rattle.prelude.specs.Checks.{_unless_, Hold}
 use Rattle.prelude.proofs.Settle.{hold-append, hold-left, hold-right}
 use Rattle.network.specs.Question.{Setting}
 use Rattle.network.specs.Tests.{openingChecks}
-use Rattle.network.proofs.Allowed.{opening-rule}
+use Rattle.network.proofs.Allowed.{opening-rule, opening-test}
 use Rattle.points.specs.Points.{IsPoint, pointOk}
 use Rattle.points.specs.declared.Point.{Point}
 use Rattle.points.proofs.Prints.{point-rule, point-test}
 use Rattle.state.specs.State.{openChecks}
 use Rattle.runs.specs.Exchange.{Opens}
 
 module _ (st : Setting) (r : Point) where
   pub opens-rule : Hold (openChecks st r) → Opens st r
@@ -26,3 +26,6 @@ module _ (st : Setting) (r : Point) where
   -- the checks of opening but for that of the point
   pub without-point : Hold (openChecks st r) → Hold (openingChecks st)
   without-point h = hold-left (openingChecks st) (4 unless pointOk r ∷ []) h
+
+  pub opens-test : Opens st r → Hold (openChecks st r)
+  opens-test o = opens-held (opening-test st (o .opened)) (o .point)

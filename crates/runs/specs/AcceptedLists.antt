@@ -1,0 +1,159 @@
+-- What a session has accepted, as lists: the checks of each step, what an accepted step adds, what a refusal leaves, and what is answered (PANEL 6).
+-- No array, no word of marks and no point is here: the point enters only where two lists are compared at it, check 14.
+-- Assumes nothing.
+use mathlib.Core.Path.{_≡_}
+use mathlib.Core.Bool.{Bool, true, false}
+use mathlib.Core.List.{List, [], _∷_, _++_}
+use Prim.Native.Nat.{ℕ}
+use lib.Dec.{eqb}
+use lib.IntN.{ℤ}
+use lib.ListN.{length}
+use Rattle.prelude.specs.Checks.{Check, _unless_, settle}
+use Rattle.prelude.specs.Choice.{pick}
+use Rattle.prelude.specs.Lists.{at}
+use Rattle.network.specs.Network.{Arc, Load, arcs}
+use Rattle.network.specs.Question.{Setting, asks}
+use Rattle.network.specs.Certificate.{Claim, marked, Sums, sumsOf}
+use Rattle.network.specs.Tests.{readingChecks, claimOf, claimingChecks, Numbers, numberingChecks, repeatingChecks, finishingChecks, answerOf}
+use Rattle.points.specs.Points.{printOf, samePrint}
+use Rattle.points.specs.declared.Point.{Point}
+use Rattle.state.specs.Answers.{Said, accepted, gives, refused}
+use Rattle.state.specs.State.{openChecks}
+use Rattle.runs.specs.Run.{Step, read, end, claim, number, repeat, finish}
+
+-- The phases of a session with what it has accepted in each (PANEL 6): nothing counts once it is over; the arcs while they are read; the arcs once reading has ended;
+-- and where a claim stands the arcs read, the claim's number, the node numbers and the repeated arcs with their amounts.
+pub data AcceptedLists : Type 0 where
+  over : AcceptedLists
+  reading : List Arc → AcceptedLists
+  hasRead : List Arc → AcceptedLists
+  certifying : List Arc → ℕ → List ℤ → List Load → AcceptedLists
+
+-- Is reading under way? Has it just ended? Does a claim stand?
+abbrev pub isReading : AcceptedLists → Bool
+isReading over = false
+isReading (reading l) = true
+isReading (hasRead l) = false
+isReading (certifying l k ys f) = false
+
+abbrev pub hasJustRead : AcceptedLists → Bool
+hasJustRead over = false
+hasJustRead (reading l) = false
+hasJustRead (hasRead l) = true
+hasJustRead (certifying l k ys f) = false
+
+abbrev pub isClaimed : AcceptedLists → Bool
+isClaimed over = false
+isClaimed (reading l) = false
+isClaimed (hasRead l) = false
+isClaimed (certifying l k ys f) = true
+
+-- The arcs read, the claim's number, the node numbers, and the repeated arcs; where there are none yet, 0 and empty lists.
+abbrev pub readIn : AcceptedLists → List Arc
+readIn over = []
+readIn (reading l) = l
+readIn (hasRead l) = l
+readIn (certifying l k ys f) = l
+
+abbrev pub claimedIn : AcceptedLists → ℕ
+claimedIn over = 0
+claimedIn (reading l) = 0
+claimedIn (hasRead l) = 0
+claimedIn (certifying l k ys f) = k
+
+abbrev pub numberedIn : AcceptedLists → List ℤ
+numberedIn over = []
+numberedIn (reading l) = []
+numberedIn (hasRead l) = []
+numberedIn (certifying l k ys f) = ys
+
+abbrev pub repeatedIn : AcceptedLists → List Load
+repeatedIn over = []
+repeatedIn (reading l) = []
+repeatedIn (hasRead l) = []
+repeatedIn (certifying l k ys f) = f
+
+-- The claim c with the node numbers ys.
+abbrev pub numbersOf : Claim → List ℤ → Numbers
+numbersOf c ys = record { claim = c; given = length ys; number = at ys; mark = marked (at ys) }
+
+-- The sums over the repeated arcs f (PANEL 5, checks 15 and 16).
+abbrev pub sumsAt : Setting → List ℤ → List Load → Sums
+sumsAt st ys f = sumsOf (asks st) (marked (at ys)) f
+
+-- The claim with the node numbers of what is accepted, and its sums.
+abbrev pub numbersAccepted : AcceptedLists → Numbers
+numbersAccepted x = numbersOf (claimOf (claimedIn x)) (numberedIn x)
+
+abbrev pub sumsAccepted : Setting → AcceptedLists → Sums
+sumsAccepted st x = sumsAt st (numberedIn x) (repeatedIn x)
+
+-- Do two lists of arcs have equal fingerprints at the point (check 14)?
+abbrev pub agreeAt : Point → List Arc → List Arc → Bool
+agreeAt r l m = samePrint (printOf r l) (printOf r m)
+
+-- ---- a step
+
+-- The checks of a step in their order, 5 first: is it the step's turn? `agree` compares two lists of arcs.
+abbrev pub stepChecks : (List Arc → List Arc → Bool) → Setting → AcceptedLists → Step → List Check
+stepChecks agree st x (read e) = 5 unless isReading x ∷ readingChecks st (length (readIn x)) e
+stepChecks agree st x end = 5 unless isReading x ∷ []
+stepChecks agree st x (claim k) = 5 unless hasJustRead x ∷ claimingChecks st k
+stepChecks agree st x (number z) = 5 unless isClaimed x ∷ numberingChecks st (claimOf (claimedIn x)) (length (numberedIn x)) z
+stepChecks agree st x (repeat b) = 5 unless isClaimed x ∷ repeatingChecks st (numbersAccepted x) (length (readIn x)) (length (repeatedIn x)) b
+stepChecks agree st x finish =
+    5 unless isClaimed x
+    ∷ finishingChecks st (numbersAccepted x) (length (readIn x)) (length (repeatedIn x)) (agree (readIn x) (arcs (repeatedIn x))) (sumsAccepted st x)
+
+-- What is accepted once the step is: what it brings stands at the end of its list. Finishing ends the session.
+abbrev pub withStep : AcceptedLists → Step → AcceptedLists
+withStep x (read e) = reading (readIn x ++ e ∷ [])
+withStep x end = hasRead (readIn x)
+withStep x (claim k) = certifying (readIn x) k [] []
+withStep x (number z) = certifying (readIn x) (claimedIn x) (numberedIn x ++ z ∷ []) (repeatedIn x)
+withStep x (repeat b) = certifying (readIn x) (claimedIn x) (numberedIn x) (repeatedIn x ++ b ∷ [])
+withStep x finish = over
+
+-- What an accepted step answers: finishing gives a value or none.
+abbrev pub acceptedSays : Setting → AcceptedLists → Step → Said
+acceptedSays st x (read e) = accepted
+acceptedSays st x end = accepted
+acceptedSays st x (claim k) = accepted
+acceptedSays st x (number z) = accepted
+acceptedSays st x (repeat b) = accepted
+acceptedSays st x finish = gives (answerOf st (claimOf (claimedIn x)) (sumsAccepted st x))
+
+-- What a refusal leaves: all as it was, but nothing where a claim stands and the refusal is not 5.
+abbrev pub afterRefusal : AcceptedLists → ℕ → AcceptedLists
+afterRefusal x why = pick (isClaimed x) (pick (eqb why 5) x over) x
+
+-- What a step leaves, and what it answers: the first check that does not hold decides.
+abbrev pub next : (List Arc → List Arc → Bool) → Setting → AcceptedLists → Step → AcceptedLists
+next agree st x a = settle (afterRefusal x) (stepChecks agree st x a) (withStep x a)
+
+abbrev pub reply : (List Arc → List Arc → Bool) → Setting → AcceptedLists → Step → Said
+reply agree st x a = settle refused (stepChecks agree st x a) (acceptedSays st x a)
+
+-- What a list of steps answers, and what is accepted after it.
+unfoldable pub replies : (List Arc → List Arc → Bool) → Setting → AcceptedLists → List Step → List Said
+replies agree st x [] = []
+replies agree st x (a ∷ steps) = reply agree st x a ∷ replies agree st (next agree st x a) steps
+
+unfoldable pub acceptedAfter : (List Arc → List Arc → Bool) → Setting → AcceptedLists → List Step → AcceptedLists
+acceptedAfter agree st x [] = x
+acceptedAfter agree st x (a ∷ steps) = acceptedAfter agree st (next agree st x a) steps
+
+-- What is accepted by opening (PANEL 6, checks 1 to 4): nothing yet; a refused opening is over.
+abbrev pub openedLists : Setting → Point → AcceptedLists
+openedLists st r = settle (λ why. over) (openChecks st r) (reading [])
+
+-- What is accepted once a session was opened at a point and has run through a list of steps.
+abbrev pub acceptedBy : Setting → Point → List Step → AcceptedLists
+acceptedBy st r steps = acceptedAfter (agreeAt r) st (openedLists st r) steps
+
+-- The arcs read are those of the list `net`, unless the session is over.
+abbrev pub ReadIs : List Arc → AcceptedLists → Type 0
+ReadIs net over = Unit {0}
+ReadIs net (reading l) = l ≡ net
+ReadIs net (hasRead l) = l ≡ net
+ReadIs net (certifying l k ys f) = l ≡ net

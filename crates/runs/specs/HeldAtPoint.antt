@@ -1,0 +1,45 @@
+-- How a session holds what it has accepted at its point: of the lists of arcs their lengths and fingerprints, of the node numbers an array and words of marks, of the repeated arcs
+-- balances and sums (PANEL 6).
+-- Assumes nothing.
+use mathlib.Core.List.{List, [], _∷_}
+use Prim.Native.Nat.{ℕ, suc}
+use lib.IntN.{ℤ, pos}
+use lib.ListN.{length, replicate}
+use Rattle.prelude.specs.Lists.{listTo, at}
+use Rattle.network.specs.Limits.{mostVertices}
+use Rattle.network.specs.Network.{Arc, arcs, balance, sumOf, sumAcross}
+use Rattle.network.specs.Question.{Setting, asks, unitCost, unitsMost}
+use Rattle.network.specs.Certificate.{marked}
+use Rattle.points.specs.Points.{printOf}
+use Rattle.points.specs.declared.Point.{Point}
+use Rattle.points.specs.declared.Stream.{Stream}
+use Rattle.state.specs.State.{marksAfter, stateOf, held}
+use Rattle.session.specs.Session.{joined, holding, void}
+use Rattle.session.specs.declared.Session.{Session}
+use Rattle.runs.specs.AcceptedLists.{AcceptedLists, over, reading, hasRead, certifying}
+
+-- A list of arcs: its length and its fingerprint.
+abbrev pub streamOf : Point → List Arc → Stream
+streamOf r l = record { count = length l; print = printOf r l }
+
+-- The words of marks, where those of the vertices from i on are set by the node numbers.
+abbrev pub marksFrom : ℕ → List ℕ → List ℤ → List ℕ
+marksFrom i ms [] = ms
+marksFrom i ms (z ∷ zs) = marksFrom (suc i) (marksAfter ms i z) zs
+
+abbrev pub marksOf : List ℤ → List ℕ
+marksOf ys = marksFrom 0 (replicate 4 0) ys
+
+-- The session that holds what is accepted in a setting at a point.
+abbrev pub sessionOf : Setting → Point → AcceptedLists → Session
+sessionOf st r over = void
+sessionOf st r (reading l) = holding 1 (held st) r (streamOf r l)
+sessionOf st r (hasRead l) = holding 2 (held st) r (streamOf r l)
+sessionOf st r (certifying l k ys f) = joined (listTo mostVertices (at ys)) (listTo mostVertices (λ v. balance v f))
+    (stateOf 3 (record { setting = held st; point = r; list = streamOf r l })
+    (record { claim = k; given = length ys; marks = marksOf ys })
+    (record {
+      list = streamOf r (arcs f);
+      cost = pos (sumOf (unitCost (asks st)) f);
+      cut = pos (sumAcross (unitsMost (asks st)) (marked (at ys)) (arcs f));
+    }))
