@@ -29,7 +29,7 @@ use Rattle.format.specs.Promises.{Signed32, LoadFits}
 use Rattle.acceptance.specs.Acceptance.{acceptanceChecks, AcceptedFile}
 use Rattle.acceptance.proofs.AcceptedFiles.{file-opened, file-allowed}
 use Rattle.judging.specs.Judging.{judged}
-use Rattle.judging.proofs.Promises.{certificates-judged}
+use Rattle.judging.proofs.Promises.{judged-by-steps, certificates-judged}
 use Rattle.helper.specs.Helper.{HelperSaid, wrote, declined, sizeFor, annotateChecks, Annotation, BufferAfter}
 use Rattle.demands.specs.Promises.{JudgedTruly, HelperServes}
 
@@ -86,8 +86,12 @@ loads-fit st f o h b =
 -- ---- judged at every point
 
 pub annotation-judged : (net ann : List ℕ) → AcceptedFile net → Annotation net ann → JudgedTruly net ann
-annotation-judged net ann h A =
-    record { answer = A .answer; is-true = at-point (record { r = 0 }) (omega arith) .1; at-every-point = λ r hr. subst (λ (l : List ℕ). judged net l r ≡ gives (A .answer)) (sym (A .bytes)) (at-point r hr .0) }
+annotation-judged net ann h A = record {
+  answer = A .answer;
+  is-true = at-point (record { r = 0 }) (omega arith) .1;
+  at-every-point = answered;
+  by-steps = λ r hr. sym (judged-by-steps net ann r) ∙ answered r hr;
+}
   where
     st : Setting
     st = settingIn net
@@ -104,6 +108,9 @@ annotation-judged net ann h A =
         (numbers-fit (A .numbers) (λ v l. number-fits (asks st) (claimFor (A .answer)) st (at (A .numbers)) (A .loads) (A .answer) (A .certified) v (omega (arith, A .one-each))))
         (loads-fit st (A .loads) (file-opened net h) allowed (amounts-bounded (asks st) (claimFor (A .answer)) st (at (A .numbers)) (A .loads) (A .answer) (A .certified)))
         (subst (λ (l : List Arc). Perm l (arcsIn net)) (sym (A .in-order)) (perm-refl (arcsIn net))) (A .certified) hr
+
+    answered : (r : Point) → IsPoint r → judged net ann r ≡ gives (A .answer)
+    answered r hr = subst (λ (l : List ℕ). judged net l r ≡ gives (A .answer)) (sym (A .bytes)) (at-point r hr .0)
 
 pub helper-serves : HelperServes
 helper-serves net before after reply h room e held =

@@ -1,4 +1,4 @@
--- Demand 3, its second half: what the helper writes is judged truly at every point; proofs/Promises.antt keeps it. With FewWrong (runs) and FewJudgedWrong (judging) demand 3 is whole.
+-- The second half of demand 3 (PANEL 12): what the helper writes is judged truly at every point; proofs/Promises.antt keeps it. With FewWrong (runs) and FewJudgedWrong (judging) demand 3 is whole.
 -- Assumes nothing.
 use mathlib.Core.Path.{_≡_}
 use mathlib.Core.List.{List}
@@ -10,14 +10,15 @@ use Rattle.points.specs.declared.Point.{Point}
 use Rattle.state.specs.Answers.{gives}
 use Rattle.format.specs.Files.{settingIn, arcsIn}
 use Rattle.acceptance.specs.Acceptance.{AcceptedFile}
-use Rattle.judging.specs.Judging.{judged}
+use Rattle.judging.specs.Judging.{judged, judgedBySteps}
 use Rattle.helper.specs.Helper.{HelperSaid, wrote, annotated, sizeFor, Annotation, BufferAfter}
 
--- Judging the file with the annotation gives the true answer at every point.
+-- Judging the file with the annotation gives the true answer at every point, and so do the steps of a session: every one is accepted, and finishing gives that answer.
 pub record JudgedTruly (net ann : List ℕ) : Type 0 where
   pub answer : Answer
   pub is-true : TrueAnswer (settingIn net) (arcsIn net) answer
   pub at-every-point : (r : Point) → IsPoint r → judged net ann r ≡ gives answer
+  pub by-steps : (r : Point) → IsPoint r → judgedBySteps net ann r ≡ gives answer
 
 -- The helper has served: the reply is the length, and below it stands an annotation that meets every rule and is judged truly.
 pub record Helped (net after : List ℕ) (reply : HelperSaid) : Type 0 where

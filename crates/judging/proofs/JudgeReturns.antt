@@ -24,9 +24,10 @@ use Rattle.runs.specs.Run.{read, run}
 use Rattle.runs.specs.Exchange.{outcome}
 use Rattle.runs.proofs.Verdict.{reading-broken}
 use Rattle.judging.specs.Judging.{networkChecks, annotationChecks, judged}
-use Rattle.judging.specs.RunsTo.{RunsTo, stepsIn}
-use Rattle.judging.proofs.Openings.{opens-rule}
-use Rattle.judging.proofs.Promises.{by-steps, opens, reads, notes, ends, answer}
+use Rattle.judging.specs.RunsTo.{RunsTo}
+use Rattle.judging.specs.Judging.{stepsIn}
+use Rattle.runs.proofs.Openings.{opens-rule}
+use Rattle.judging.proofs.Promises.{by-steps, apart, opens, reads, notes, ends, answer}
 use Rattle.judging.proofs.StepLoops.{stops-there, runs-on}
 
 -- ---- checks that hold, and the first that does not
@@ -75,22 +76,15 @@ module _ (net ann : List ℕ) (r : Point) where
   abbrev after-layout : Said
   after-layout = settle refused opening-checks after-opening
 
-  apart : judged net ann r ≡ settle refused layout-checks after-layout
-  apart =
-      settle-append refused (networkChecks net r) (annotationChecks net ann r) (gives (answer net ann r))
-      ∙ settle-append refused layout-checks (opening-checks ++ reading-checks) (settle refused (annotationChecks net ann r) (gives (answer net ann r)))
-      ∙ ap (settle refused layout-checks) (settle-append refused opening-checks reading-checks (settle refused (annotationChecks net ann r) (gives (answer net ann r))))
-      ∙ ap (λ (s : Said). settle refused layout-checks (settle refused opening-checks (settle refused reading-checks s))) (settle-append refused annotation-layout (notes net ann r ++ ends net ann r) (gives (answer net ann r)))
-
   pub at-layout : (why : ℕ) → why ≡ firstBroken layout-checks → (why ≡ 0 → ⊥) → refused why ≡ judged net ann r
-  at-layout why e n = sym (apart ∙ broken-here layout-checks after-layout why e n)
+  at-layout why e n = sym (apart net ann r ∙ broken-here layout-checks after-layout why e n)
 
   module _ (why : ℕ) (found : why ≡ firstBroken layout-checks) (fine : why ≡ 0) where
     layout-held : Hold layout-checks
     layout-held = none-broken layout-checks (refl, (refl, (refl, tt))) (sym found ∙ fine)
 
     past-layout : judged net ann r ≡ after-layout
-    past-layout = apart ∙ settled refused layout-checks after-layout layout-held
+    past-layout = apart net ann r ∙ settled refused layout-checks after-layout layout-held
 
     module _ (o : Opening) (eo : handed o ≡ settingIn net) (u : Turn) (eu : u ≡ openTurn (handed o) r) where
       as-filed : u ≡ openTurn (settingIn net) r

@@ -1,6 +1,6 @@
 -- The promises of specs/Promises.antt, kept: judging is an exchange whose steps the two files hold.
 -- Assumes nothing.
-use mathlib.Core.Path.{_≡_, sym, _∙_, ap, subst}
+use mathlib.Core.Path.{_≡_, refl, sym, _∙_, ap, subst}
 use mathlib.Core.List.{List, [], _∷_, _++_, map, append-nil, append-assoc}
 use mathlib.Core.Logic.{inl, inr}
 use Prim.Native.Nat.{ℕ, suc, _≤_}
@@ -9,7 +9,7 @@ use lib.IntN.{ℤ}
 use lib.ListN.{length, length-map, length-append}
 use Rattle.prelude.specs.Checks.{Check, settle, Hold}
 use Rattle.prelude.specs.Lists.{Some, at}
-use Rattle.prelude.proofs.Settle.{settled, settle-append, hold-append, hold-left, hold-right}
+use Rattle.prelude.proofs.Settle.{settled, settle-append, settle-map, settle-when, hold-append, hold-left, hold-right}
 use Rattle.prelude.proofs.Lists.{every-map}
 use Rattle.prelude.proofs.Permutations.{perm-length}
 use Rattle.network.specs.Network.{Arc, Load}
@@ -22,17 +22,21 @@ use Rattle.points.specs.declared.Point.{Point}
 use Rattle.format.specs.Files.{settingIn, nIn, arcsIn, claimIn, numbersIn, loadsIn, annotationFile, networkLayout, annotationLayout}
 use Rattle.format.specs.Promises.{Byte}
 use Rattle.format.proofs.Promises.{annotation-round-trip}
-use Rattle.state.specs.Answers.{Said, accepted, gives, refused}
+use Rattle.state.specs.Answers.{Said, accepted, gives, refused, said}
 use Rattle.state.specs.State.{openChecks}
-use Rattle.runs.specs.Run.{Step, read, end, claim, number, repeat, finish, runFrom, listFrom, listRead, Wrong, WrongAt}
-use Rattle.runs.specs.Exchange.{exchange, outcome, sumsAt, annotationRules, finalRules, Readable}
+use Rattle.runs.specs.Run.{Step, read, end, claim, number, repeat, finish, step, run, sessionAfter, runFrom, listFrom, listRead, Wrong, WrongAt}
+use Rattle.runs.specs.AcceptedLists.{sumsAt}
+use Rattle.runs.specs.Exchange.{exchange, outcome, annotationRules, finalRules, Readable}
 use Rattle.runs.proofs.FirstAndLast.{no-answer}
 use Rattle.runs.proofs.Meets.{gives-held}
 use Rattle.runs.proofs.WrongAnswers.{wrong-held}
-use Rattle.runs.proofs.Promises.{first-broken, certificates-pass, few-wrong}
-use Rattle.judging.specs.Judging.{numbersFor, loadsFor, networkChecks, annotationChecks, judged, JudgedWrong}
+use Rattle.runs.proofs.Promises.{opening-answers, first-broken, certificates-pass, few-wrong}
+use Rattle.runs.proofs.Verdict.{reading-broken}
+use Rattle.session.specs.Steps.{opening}
+use Rattle.session.specs.declared.Session.{Session}
+use Rattle.judging.specs.Judging.{numbersFor, loadsFor, networkChecks, annotationChecks, judged, stepsOfNetwork, stepsIn, andThen, JudgedWrong}
 use Rattle.acceptance.proofs.AcceptedFiles.{layout-held, opening-held, reading-held, file-opened, file-allowed, file-few}
-use Rattle.judging.proofs.Openings.{opens-rule, opens-held, without-point}
+use Rattle.runs.proofs.Openings.{opens-rule, opens-held, without-point}
 use Rattle.judging.specs.Promises.{JudgedBySteps, FewJudgedWrong, OnlyAccepted, CertificatesJudged}
 
 -- ---- the list read of an exchange
@@ -53,6 +57,29 @@ said-by P [] a e h = let z : _≡_ {A = ℕ} 0 1 = cc in absurd (omega arith)
 said-by P (accepted ∷ l) a e h = inr (said-by P l a e h)
 said-by P (gives b ∷ l) a e h = inl (subst P (sym e) h)
 said-by P (refused k ∷ l) a e h = absurd (no-answer k a e)
+
+-- ---- one after the other
+
+first-or-rest : (a : Said) (l : List Said) → outcome (a ∷ l) ≡ andThen a (outcome l)
+first-or-rest accepted l = refl
+first-or-rest (gives a) l = refl
+first-or-rest (refused k) l = refl
+
+then-settle : (cs : List Check) (a b : Said) → andThen (settle refused cs a) b ≡ settle refused cs (andThen a b)
+then-settle cs a b = settle-map (λ (s : Said). andThen s b) refused cs a
+
+-- steps that are all accepted leave it to what follows
+accepted-both : (a : Said) (l : List Said) → outcome (a ∷ l) ≡ accepted → (a ≡ accepted) × (outcome l ≡ accepted)
+accepted-both accepted l e = (refl, e)
+accepted-both (gives a) l e = let z : _≡_ {A = ℕ} 0 1 = cc in absurd (omega arith)
+accepted-both (refused k) l e = let z : _≡_ {A = ℕ} 0 1 = cc in absurd (omega arith)
+
+runs-past : (steps rest : List Step) (x : Session) → outcome (run x steps) ≡ accepted → outcome (run x (steps ++ rest)) ≡ outcome (run (sessionAfter x steps) rest)
+unfolding run sessionAfter
+runs-past [] rest x e = refl
+runs-past (a ∷ steps) rest x e =
+    let u = accepted-both (said (step x a .answer)) (run (step x a .session) steps) e in
+    ap (λ (s : Said). outcome (s ∷ run (step x a .session) (steps ++ rest))) (u .0) ∙ runs-past steps rest (step x a .session) (u .1)
 
 -- ---- the checks of two files
 
@@ -88,9 +115,45 @@ module _ (net ann : List ℕ) (r : Point) where
       ∙ sym (settle-append refused reads (notes ++ ends) (gives answer) ∙ settled refused reads (settle refused (notes ++ ends) (gives answer)) hr)
       ∙ sym (first-broken (settingIn net) r (arcsIn net) (claimIn ann) (numbersFor net ann) (loadsFor net ann) (opens-rule (settingIn net) r ho))
 
+  -- judging, part by part
+  pub apart : judged net ann r ≡ settle refused (networkLayout net) (settle refused opens (settle refused reads (settle refused (annotationLayout (nIn net) ann) (settle refused (notes ++ ends) (gives answer)))))
+  apart =
+      settle-append refused (networkChecks net r) (annotationChecks net ann r) (gives answer)
+      ∙ settle-append refused (networkLayout net) (opens ++ reads) (settle refused (annotationChecks net ann r) (gives answer))
+      ∙ ap (settle refused (networkLayout net)) (settle-append refused opens reads (settle refused (annotationChecks net ann r) (gives answer)))
+      ∙ ap (λ (s : Said). settle refused (networkLayout net) (settle refused opens (settle refused reads s))) (settle-append refused (annotationLayout (nIn net) ann) (notes ++ ends) (gives answer))
+
+  -- ---- through a session
+
+  abbrev fresh : Session
+  fresh = opening (settingIn net) r .session
+
+  -- what is left to the annotation file, where the records are read
+  abbrev annotated : Said
+  annotated = settle refused (annotationLayout (nIn net) ann) (outcome (run (sessionAfter fresh (stepsOfNetwork net)) (stepsIn (nIn net) ann)))
+
+  read-out : Hold opens → outcome (run fresh (stepsOfNetwork net)) ≡ settle refused reads accepted
+  read-out ho = ap (λ (l : List Step). outcome (run fresh l)) (sym (append-nil (stepsOfNetwork net))) ∙ reading-broken (settingIn net) r (arcsIn net) (opens-rule (settingIn net) r ho)
+
+  after-reading : Hold opens → Hold reads → outcome (run (sessionAfter fresh (stepsOfNetwork net)) (stepsIn (nIn net) ann)) ≡ settle refused (notes ++ ends) (gives answer)
+  after-reading ho hr =
+      sym (runs-past (stepsOfNetwork net) (stepsIn (nIn net) ann) fresh (read-out ho ∙ settled refused reads accepted hr))
+      ∙ first-broken (settingIn net) r (arcsIn net) (claimIn ann) (numbersFor net ann) (loadsFor net ann) (opens-rule (settingIn net) r ho)
+      ∙ settle-append refused reads (notes ++ ends) (gives answer)
+      ∙ settled refused reads (settle refused (notes ++ ends) (gives answer)) hr
+
+  after-opening : Hold opens → settle refused reads (settle refused (annotationLayout (nIn net) ann) (settle refused (notes ++ ends) (gives answer))) ≡ andThen (outcome (run fresh (stepsOfNetwork net))) annotated
+  after-opening ho =
+      settle-when refused reads _ _ (λ hr. ap (settle refused (annotationLayout (nIn net) ann)) (sym (after-reading ho hr)))
+      ∙ sym (ap (λ (s : Said). andThen s annotated) (read-out ho) ∙ then-settle reads accepted annotated)
+
 pub judged-by-steps : JudgedBySteps
-judged-by-steps net ann r h ha hr =
-    by-steps net ann r (layout-held net h) (opens-held (settingIn net) r (opening-held net h) hr) (reading-held net h) ha
+judged-by-steps net ann r =
+    apart net ann r
+    ∙ ap (settle refused (networkLayout net))
+    (settle-when refused (opens net ann r) _ _ (after-opening net ann r)
+    ∙ sym (ap (λ (s : Said). andThen s (annotated net ann r)) (first-or-rest (said (opening (settingIn net) r .answer)) (run (fresh net ann r) (stepsOfNetwork net)) ∙ ap (λ (s : Said). andThen s (outcome (run (fresh net ann r) (stepsOfNetwork net)))) (opening-answers (settingIn net) r) ∙ then-settle (opens net ann r) accepted (outcome (run (fresh net ann r) (stepsOfNetwork net))))
+    ∙ then-settle (opens net ann r) (outcome (run (fresh net ann r) (stepsOfNetwork net))) (annotated net ann r)))
 
 pub only-accepted : OnlyAccepted
 only-accepted net ann r a e =
@@ -150,7 +213,7 @@ certificates-judged net ys f a r h one-each signed fit d c hr =
     let readable : Readable (settingIn net) (arcsIn net) = record { allowed = file-allowed net h; few = few } in
     let back = annotation-round-trip (claimNumber (claimFor a)) ys f (claim-byte a) signed (omega (arith, perm-length d, length-map f (λ l. l .arc))) fit in
     let ann : List ℕ = annotationFile (claimNumber (claimFor a)) ys f in (
-      judged-by-steps net ann r h (subst (λ (n : ℕ). Hold (annotationLayout n ann)) one-each (back .passes)) hr
+      by-steps net ann r (layout-held net h) (opens-held (settingIn net) r (opening-held net h) hr) (reading-held net h) (subst (λ (n : ℕ). Hold (annotationLayout n ann)) one-each (back .passes))
           ∙ same-out net ann r (back .claim-back) (subst (λ (n : ℕ). numbersIn n ann ≡ ys) one-each (back .numbers-back)) (subst (λ (n : ℕ). loadsIn n ann ≡ f) one-each (back .loads-back))
           ∙ certificates-pass (settingIn net) r (arcsIn net) ys f a
           (record { opened = opened; point = hr }) readable d one-each c,

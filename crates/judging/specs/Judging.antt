@@ -1,6 +1,6 @@
--- Judging two files at a point (document 01, Files and the helper; What demand 3 counts).
+-- Judging two files at a point: by the checks in their order, and by the steps of a session (PANEL 8).
 -- Assumes nothing.
-use mathlib.Core.List.{List, _++_}
+use mathlib.Core.List.{List, [], _∷_, _++_, map}
 use Prim.Native.Nat.{ℕ}
 use lib.IntN.{ℤ}
 use lib.ListN.{length}
@@ -10,10 +10,14 @@ use Rattle.network.specs.Tests.{readingAll, claimOf, answerOf}
 use Rattle.points.specs.Points.{IsPoint}
 use Rattle.points.specs.declared.Point.{Point}
 use Rattle.format.specs.Files.{settingIn, nIn, arcsIn, claimIn, numbersIn, loadsIn, networkLayout, annotationLayout}
-use Rattle.state.specs.Answers.{Said, gives, refused}
+use Rattle.state.specs.Answers.{Said, accepted, gives, refused, said}
 use Rattle.state.specs.State.{openChecks}
-use Rattle.runs.specs.Run.{Wrong}
-use Rattle.runs.specs.Exchange.{sumsAt, annotationRules, finalRules}
+use Rattle.session.specs.Steps.{opening}
+use Rattle.runs.specs.Run.{Step, read, end, claim, number, repeat, finish, run, sessionAfter, Wrong}
+use Rattle.runs.specs.AcceptedLists.{sumsAt}
+use Rattle.runs.specs.Exchange.{outcome, annotationRules, finalRules}
+
+-- ---- by the checks
 
 -- The node numbers and the repeated arcs of an annotation file: the network file says how many node numbers there are.
 abbrev pub numbersFor : List ℕ → List ℕ → List ℤ
@@ -42,6 +46,33 @@ judged net ann r =
     settle refused (networkChecks net r ++ annotationChecks net ann r)
     (gives (answerOf (settingIn net) (claimOf (claimIn ann)) (sumsAt (settingIn net) (numbersFor net ann) (loadsFor net ann))))
 
--- A point counts where judging gives an answer there that is not the true one of the network file (What demand 3 counts).
+-- ---- by the steps of a session
+
+-- The steps of a network file after opening: its records are read in file order.
+abbrev pub stepsOfNetwork : List ℕ → List Step
+stepsOfNetwork net = map read (arcsIn net)
+
+-- The steps of an annotation file with n node numbers, from the end of reading to finishing, in file order.
+abbrev pub stepsIn : ℕ → List ℕ → List Step
+stepsIn n ann = end ∷ claim (claimIn ann) ∷ (map number (numbersIn n ann) ++ (map repeat (loadsIn n ann) ++ (finish ∷ [])))
+
+-- One after the other: an acceptance leaves it to what comes after, an answer and a refusal stand.
+abbrev pub andThen : Said → Said → Said
+andThen accepted b = b
+andThen (gives a) b = gives a
+andThen (refused k) b = refused k
+
+-- The two files through a session: the layout of the network file; opening at the point, and the records read; the layout of the annotation file; its steps. The first refusal is given.
+abbrev pub judgedBySteps : List ℕ → List ℕ → Point → Said
+judgedBySteps net ann r =
+    let o = opening (settingIn net) r in
+    settle refused (networkLayout net)
+    (andThen (outcome (said (o .answer) ∷ run (o .session) (stepsOfNetwork net)))
+    (settle refused (annotationLayout (nIn net) ann)
+    (outcome (run (sessionAfter (o .session) (stepsOfNetwork net)) (stepsIn (nIn net) ann)))))
+
+-- ---- what demand 3 counts
+
+-- A point counts where judging gives an answer there that is not the true one of the network file (PANEL 12, demand 3).
 abbrev pub JudgedWrong : List ℕ → List ℕ → Point → Type 0
 JudgedWrong net ann r = IsPoint r × Wrong (settingIn net) (arcsIn net) (judged net ann r)

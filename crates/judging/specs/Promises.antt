@@ -5,7 +5,6 @@ use mathlib.Core.List.{List}
 use Prim.Native.Nat.{ℕ}
 use lib.IntN.{ℤ}
 use lib.ListN.{length}
-use Rattle.prelude.specs.Checks.{Hold}
 use Rattle.prelude.specs.Lists.{Every, Perm, AtMost, at}
 use Rattle.network.specs.Network.{Load, arcs}
 use Rattle.network.specs.Question.{Answer, TrueAnswer}
@@ -13,30 +12,25 @@ use Rattle.network.specs.Certificate.{claimFor, Certified}
 use Rattle.network.specs.Tests.{claimNumber}
 use Rattle.points.specs.Points.{IsPoint, misleadingPoints}
 use Rattle.points.specs.declared.Point.{Point}
-use Rattle.format.specs.Files.{settingIn, nIn, arcsIn, claimIn, annotationFile, annotationLayout}
+use Rattle.format.specs.Files.{settingIn, nIn, arcsIn, annotationFile}
 use Rattle.format.specs.Promises.{LoadFits, Signed32}
 use Rattle.acceptance.specs.Acceptance.{AcceptedFile}
 use Rattle.state.specs.Answers.{gives}
-use Rattle.runs.specs.Run.{runFrom}
-use Rattle.runs.specs.Exchange.{exchange, outcome}
-use Rattle.judging.specs.Judging.{judged, numbersFor, loadsFor, JudgedWrong}
+use Rattle.judging.specs.Judging.{judged, judgedBySteps, JudgedWrong}
 
--- Judging is the session's (Files and the helper): of an accepted network file and an annotation file of its layout it gives what the steps in file order come out as.
+-- Judging is the session's, for every pair of files and every point: also where a layout, opening or a step refuses (PANEL 8).
 abbrev pub JudgedBySteps : Type 0
-JudgedBySteps =
-    (net ann : List ℕ) (r : Point)
-    → AcceptedFile net → Hold (annotationLayout (nIn net) ann) → IsPoint r
-    → judged net ann r ≡ outcome (runFrom (settingIn net) r (exchange (arcsIn net) (claimIn ann) (numbersFor net ann) (loadsFor net ann)))
+JudgedBySteps = (net ann : List ℕ) (r : Point) → judged net ann r ≡ judgedBySteps net ann r
 
--- Demand 3 (What demand 3 counts): judging any two files gives a wrong answer at m - 1 points at most, at none for m 0 or 1, where the network file has m records.
+-- Judging any two files (PANEL 12, demand 3) gives a wrong answer at m - 1 points at most, at none for m 0 or 1, where the network file has m records.
 abbrev pub FewJudgedWrong : Type 0
 FewJudgedWrong = (net ann : List ℕ) → AtMost (misleadingPoints (length (arcsIn net))) (JudgedWrong net ann)
 
--- Judging refuses where the network file is not accepted (Files and the helper): what gives an answer has an accepted network file.
+-- Judging refuses where the network file is not accepted: what gives an answer has an accepted network file (PANEL 12, demand 3).
 abbrev pub OnlyAccepted : Type 0
 OnlyAccepted = (net ann : List ℕ) (r : Point) (a : Answer) → judged net ann r ≡ gives a → AcceptedFile net
 
--- Demand 3: an annotation file that holds a certificate over the records of an accepted network file, in any order, is answered at every point, and truly.
+-- An annotation file that holds a certificate over the records of an accepted network file, in any order, is answered at every point, and truly.
 abbrev pub CertificatesJudged : Type 0
 CertificatesJudged =
     (net : List ℕ) (ys : List ℤ) (f : List Load) (a : Answer) (r : Point)
