@@ -1,4 +1,4 @@
--- The network files that the panel accepts: document 01, What demand 3 counts, by the checks of Files and the helper.
+-- The network files that the panel accepts (PANEL 8).
 -- Assumes nothing.
 use mathlib.Core.List.{List, _++_}
 use Prim.Native.Nat.{ℕ}
@@ -6,10 +6,10 @@ use Rattle.prelude.specs.Checks.{Check, Hold}
 use Rattle.network.specs.Tests.{openingChecks, readingAll}
 use Rattle.format.specs.Files.{settingIn, arcsIn, networkLayout}
 
--- The checks of a network file, which the helper makes before 20: 17, 18 and 19 of its layout, 1, 2 and 3 of its header, then 6, 7 and 8 of each record in turn.
+-- The checks of a network file that need no point (PANEL 9): of its layout 17 to 19, of its header 1 to 3, and of each record in turn 6 to 8.
 abbrev pub acceptanceChecks : List ℕ → List Check
 acceptanceChecks net = networkLayout net ++ (openingChecks (settingIn net) ++ readingAll (settingIn net) 0 (arcsIn net))
 
--- The panel accepts the file: none of these checks refuses it.
+-- The panel accepts the file (PANEL 8): all of these checks hold.
 abbrev pub AcceptedFile : List ℕ → Type 0
 AcceptedFile net = Hold (acceptanceChecks net)

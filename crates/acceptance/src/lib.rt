@@ -1,4 +1,4 @@
-// Network files: what the header asks, and the checks by which the panel accepts a file.
+// Network files: what the header asks, and the checks by which the panel accepts a file (PANEL 8).
 ghost use mathlib.Core.Path.{_≡_};
 ghost use Rattle.prelude.specs.Checks.{firstBroken};
 ghost use Rattle.network.specs.Tests.{readingAll};
@@ -56,7 +56,7 @@ fn records_check(st: HeldSetting, net: &[u8]) -> u8
     0
 }
 
-// 0, or the number of the first check that refuses the file: 17, 18, 19, then 1, 2, 3, then 6, 7, 8 for each record.
+// 0, or the number of the first check that refuses the file: of its layout, of its header, or of one of its records in turn.
 pub fn acceptance_check(net: &[u8]) -> u8
     ensures { λ r. ⌜ r ≡ firstBroken (acceptanceChecks (now (net .entry))) ⌝ }
 {

@@ -10,20 +10,22 @@ use Rattle.checks.specs.declared.rows.Question.the-variants.{Path, Flow,
 use Rattle.checks.specs.declared.rows.Row.{Row}
 use Rattle.checks.specs.declared.rows.Row.the-variants.{PathValue, PathNone, FlowValue, AssignmentValue, AssignmentNone, Nothing}
 
--- The setting that an opening is handed, and the setting that a session holds.
+-- The setting that an opening is handed.
 abbrev pub handed : Opening → Setting
 handed o = record { question = o .question; n = o .n; s = o .s; t = o .t }
 
+-- The setting that a session holds.
 abbrev pub asked : HeldSetting → Setting
 asked st = record { question = st .question; n = st .n; s = st .s; t = st .t }
 
--- The question, and the row of rules, that a value of the code names.
+-- The question that a value of the code names.
 abbrev pub questionHeld : Question → Asked
 questionHeld Path = shortestPath
 questionHeld Flow = maximumFlow
 questionHeld Assignment = assignment
 questionHeld Unasked = unasked
 
+-- The row of rules that a value of the code names.
 abbrev pub rulesHeld : Row → Rules
 rulesHeld PathValue = pathRules
 rulesHeld FlowValue = flowRules

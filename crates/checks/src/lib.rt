@@ -1,4 +1,4 @@
-// The rows of rules, and the numbered checks of opening and reading, each as a total function whose contract is the test of the network's definitions.
+// The rows of rules (PANEL 5), and the numbered checks of opening and reading (PANEL 6), each as a total function whose contract is the test of the network's definitions.
 pub mod reading;
 pub mod rows;
 

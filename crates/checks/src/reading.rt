@@ -1,4 +1,4 @@
-// Checks 1, 2 and 3 of opening, and 6, 7 and 8 of an arc that is read or repeated.
+// Checks 1, 2 and 3 of opening, and 6, 7 and 8 of an arc that is read or repeated (PANEL 6).
 ghost use mathlib.Core.Path.{_≡_};
 ghost use Rattle.prelude.specs.Checks.{firstBroken};
 ghost use Rattle.network.specs.Network.{arcHeld};

@@ -1,4 +1,4 @@
-// The question of a number, the row of rules for a question and a claim, and what the weight of an arc means.
+// The question of a number, the row of rules for a question and a claim (PANEL 5), and what the weight of an arc means (PANEL 3).
 ghost use mathlib.Core.Path.{_≡_};
 ghost use Rattle.network.specs.Network.{arcHeld};
 ghost use Rattle.network.specs.Question.{questionOf, unitCost, unitsMost};

@@ -1,4 +1,4 @@
--- The prime p, and the fingerprint of a list of numbers, the keys, at a point (document 01, The point and the product).
+-- The prime p, and the fingerprint of a list of numbers, the keys, at a point (PANEL 4).
 -- Assumes nothing.
 use mathlib.Core.Path.{_≡_}
 use mathlib.Core.Logic.{_⊎_}
@@ -7,7 +7,7 @@ use mathlib.Core.List.{List, [], _∷_}
 use Prim.Native.Nat.{ℕ, _+_, _*_, _-_, _%_, _≤_, _<_}
 use lib.Dec.{eqb}
 
--- The prime p.
+-- The modulus (PANEL 4); that it is prime is promised and proved.
 abbrev pub p : ℕ
 p = 2147483647
 
@@ -25,7 +25,7 @@ unfoldable pub product : ℕ → ℕ → List ℕ → ℕ
 product q r [] = 1
 product q r (k ∷ ks) = factor q r k * product q r ks
 
--- The fingerprint at the point r: the product of r - key over the list, modulo p, taken in 0 to p - 1.
+-- The fingerprint at the point r (PANEL 4): the product, reduced modulo p.
 abbrev pub fingerprint : ℕ → List ℕ → ℕ
 fingerprint r ks = product p r ks % p
 

@@ -1,4 +1,4 @@
--- What is promised of fingerprints; proofs/Promises.antt keeps it.
+-- What is promised of fingerprints (PANEL 4); proofs/Promises.antt keeps it.
 -- Assumes nothing.
 use mathlib.Core.Path.{_≡_}
 use mathlib.Core.List.{List}
@@ -19,7 +19,7 @@ pub record Different (ks ls : List ℕ) : Type 0 where
   pub as-long : length ks ≡ length ls
   pub unlike : ¬ (Perm ks ls)
 
--- How many points may mislead, for m keys: m - 1, and none for m 0 or 1.
+-- How many points may mislead, for m keys: m - 1, and none for m 0 or 1 (PANEL 4).
 abbrev pub misleading : ℕ → ℕ
 misleading m = m - 1
 

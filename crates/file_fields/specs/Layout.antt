@@ -1,4 +1,4 @@
--- What begins either file, and the checks of a layout: document 01, Files and the helper. In a mark 68 is D and 82 is R.
+-- What begins either file, and the checks of a layout (PANEL 7). In a mark 68 is D and 82 is R.
 -- Assumes nothing.
 use mathlib.Core.Bool.{Bool, _&&_}
 use mathlib.Core.List.{List, [], _∷_}
@@ -16,7 +16,7 @@ markAndVersion third = 68 ∷ 82 ∷ third ∷ byte16 1
 abbrev pub hasMark : ℕ → List ℕ → Bool
 hasMark third file = eqb (byteAt file 0) 68 && eqb (byteAt file 1) 82 && eqb (byteAt file 2) third
 
--- Check 17 asks that the file has all of its header and the right mark, check 18 the version 1, check 19 the size that n and the count give.
+-- The checks of a layout (PANEL 7): 17, the header is whole and has its mark; 18, the version is 1; 19, the file has this size.
 abbrev pub layout : ℕ → ℕ → ℕ → List ℕ → List Check
 layout header third size file =
     17 unless (leb header (length file) && hasMark third file)

@@ -1,4 +1,4 @@
-// What begins either file: its mark and its version, written, and checked with its length (checks 17, 18 and 19).
+// What begins either file: its mark and its version, written, and checked with its length (PANEL 7, checks 17 to 19).
 ghost use mathlib.Core.Path.{_≡_};
 ghost use lib.Seq.{sets};
 ghost use Rattle.prelude.specs.Checks.{firstBroken};

@@ -1,3 +1,3 @@
-// Fields of a file: numbers of one, two and four bytes, most significant byte first, read and written, and what begins a file.
+// Fields of a file (PANEL 7): numbers of one, two and four bytes, read and written, and what begins a file.
 pub mod bytes;
 pub mod layout;

@@ -1,4 +1,4 @@
--- The two files: the bytes that are written, the checks of a layout, and what a file says. All of it renders document 01, Files and the helper.
+-- The two files (PANEL 7): the bytes that are written, what a file says, and the checks of a layout.
 -- Assumes nothing.
 use mathlib.Core.List.{List, _∷_, _++_, flatMap}
 use Prim.Native.Nat.{ℕ, _+_, _*_, _%_}
@@ -13,10 +13,11 @@ use Rattle.file_fields.specs.Layout.{markAndVersion, layout}
 
 -- ---- what is written
 
--- The marks are DRN of a network and DRA of an annotation: 68 is D, 82 is R, and these are their third letters, N and A.
+-- The third letter of the mark of a network file, DRN: N. The first two are D, 68, and R, 82.
 abbrev pub networkMark : ℕ
 networkMark = 78
 
+-- The third letter of the mark of an annotation file, DRA: A.
 abbrev pub annotationMark : ℕ
 annotationMark = 65
 
@@ -52,72 +53,84 @@ lowArc a = arcOf (a .tail % 256) (a .head % 256) (a .weight % 65536)
 
 -- ---- what a file says
 
--- The header of a network file.
+-- The question in the header of a network file, at offset 5.
 abbrev pub questionIn : List ℕ → ℕ
 questionIn file = byteAt file 5
 
+-- The number of vertices in it, at offset 6.
 abbrev pub nIn : List ℕ → ℕ
 nIn file = byteAt file 6
 
+-- The source in it, at offset 7.
 abbrev pub sIn : List ℕ → ℕ
 sIn file = byteAt file 7
 
+-- The sink in it, at offset 8.
 abbrev pub tIn : List ℕ → ℕ
 tIn file = byteAt file 8
 
--- What the header asks.
+-- The setting in the header of a network file.
 abbrev pub settingIn : List ℕ → Setting
 settingIn file = record { question = questionIn file; n = nIn file; s = sIn file; t = tIn file }
 
+-- The count of records in it, at offset 9.
 abbrev pub countIn : List ℕ → ℕ
 countIn file = read16 file 9
 
--- The header of an annotation file.
+-- The claim in the header of an annotation file.
 abbrev pub claimIn : List ℕ → ℕ
 claimIn file = byteAt file 5
 
+-- The count of records in it.
 abbrev pub annotationCount : List ℕ → ℕ
 annotationCount file = read16 file 6
 
--- The arc, and the load, whose bytes begin at the index i.
+-- The arc whose bytes begin at the index i.
 abbrev pub arcAt : List ℕ → ℕ → Arc
 arcAt file i = arcOf (byteAt file i) (byteAt file (i + 1)) (read16 file (i + 2))
 
+-- The load whose bytes begin at the index i.
 abbrev pub loadAt : List ℕ → ℕ → Load
 loadAt file i = record { arc = arcAt file i; amount = read16 file (i + 4) }
 
--- The arc number e of a network file, and all of them in file order.
+-- The arc number e of a network file.
 abbrev pub arcIn : List ℕ → ℕ → Arc
 arcIn file e = arcAt file (11 + 4 * e)
 
+-- All arcs of a network file, in file order.
 abbrev pub arcsIn : List ℕ → List Arc
 arcsIn file = listTo (countIn file) (arcIn file)
 
--- The node number of the vertex v, and those of the vertices below n.
+-- The node number of the vertex v in an annotation file.
 abbrev pub numberIn : List ℕ → ℕ → ℤ
 numberIn file v = readSigned file (8 + 4 * v)
 
+-- The node numbers of n vertices.
 abbrev pub numbersIn : ℕ → List ℕ → List ℤ
 numbersIn n file = listTo n (numberIn file)
 
--- The load number e of an annotation file with n node numbers, and all of them in file order.
+-- The load number e of an annotation file with n node numbers.
 abbrev pub loadIn : ℕ → List ℕ → ℕ → Load
 loadIn n file e = loadAt file (8 + 4 * n + 6 * e)
 
+-- All its loads, in file order.
 abbrev pub loadsIn : ℕ → List ℕ → List Load
 loadsIn n file = listTo (annotationCount file) (loadIn n file)
 
 -- ---- the checks of a layout
 
--- The size of check 19: 11 bytes and 4 for each arc; or 8 bytes, 4 for each node number and 6 for each load.
+-- The size of a network file (PANEL 7, check 19): 11 bytes, and 4 for each arc.
 abbrev pub networkSize : ℕ → ℕ
 networkSize count = 11 + 4 * count
 
+-- The size of an annotation file (PANEL 7, check 19): 8 bytes, 4 for each of n node numbers, and 6 for each load.
 abbrev pub annotationSize : ℕ → ℕ → ℕ
 annotationSize n count = 8 + 4 * n + 6 * count
 
+-- The checks of the layout of a network file (PANEL 7, checks 17 to 19).
 abbrev pub networkLayout : List ℕ → List Check
 networkLayout file = layout 11 networkMark (networkSize (countIn file)) file
 
+-- The checks of the layout of an annotation file for n vertices (PANEL 7, checks 17 to 19).
 abbrev pub annotationLayout : ℕ → List ℕ → List Check
 annotationLayout n file = layout 8 annotationMark (annotationSize n (annotationCount file)) file

@@ -1,4 +1,4 @@
--- What is promised of the two files of document 01, Files and the helper; proofs/Promises.antt keeps it.
+-- What is promised of the two files (PANEL 7); proofs/Promises.antt keeps it.
 -- Assumes nothing.
 use mathlib.Core.Path.{_≡_}
 use mathlib.Core.Logic.{_⊎_}
@@ -15,20 +15,24 @@ use Rattle.format.specs.Files.{networkFile, annotationFile, settingIn, a
 
 -- ---- what the fields hold
 
+-- A byte.
 abbrev pub Byte : ℕ → Type 0
 Byte b = b < 256
 
+-- Each number of the setting fits its byte.
 pub record SettingFits (st : Setting) : Type 0 where
   pub question : Byte (st .question)
   pub n : Byte (st .n)
   pub s : Byte (st .s)
   pub t : Byte (st .t)
 
+-- Each number of the arc fits its field.
 pub record ArcFits (a : Arc) : Type 0 where
   pub tail : Byte (a .tail)
   pub head : Byte (a .head)
   pub weight : a .weight < 65536
 
+-- Each number of the load fits its field.
 pub record LoadFits (l : Load) : Type 0 where
   pub arc : ArcFits (l .arc)
   pub amount : l .amount < 65536
@@ -39,17 +43,19 @@ Signed32 z = mag z < 2 ^ 31
 
 -- ---- the promises
 
--- What is written is bytes, passes every check of the layout and is read back as it was.
+-- The file is bytes, passes every check of the layout of a network, and is read as this setting and these arcs.
 pub record NetworkRead (st : Setting) (arcs : List Arc) (file : List ℕ) : Type 0 where
   pub bytes : Every Byte file
   pub passes : Hold (networkLayout file)
   pub setting-back : settingIn file ≡ st
   pub arcs-back : arcsIn file ≡ arcs
 
+-- A network that fits, once written, is read back as it was.
 abbrev pub NetworkRoundTrip : Type 0
 NetworkRoundTrip =
     (st : Setting) (arcs : List Arc) → SettingFits st → length arcs ≤ 65535 → Every ArcFits arcs → NetworkRead st arcs (networkFile st arcs)
 
+-- The file is bytes, passes every check of the layout of an annotation, and is read as this claim, these numbers and these loads.
 pub record AnnotationRead (claim : ℕ) (numbers : List ℤ) (loads : List Load) (file : List ℕ) : Type 0 where
   pub bytes : Every Byte file
   pub passes : Hold (annotationLayout (length numbers) file)
@@ -57,18 +63,20 @@ pub record AnnotationRead (claim : ℕ) (numbers : List ℤ) (loads : List Load)
   pub numbers-back : numbersIn (length numbers) file ≡ numbers
   pub loads-back : loadsIn (length numbers) file ≡ loads
 
+-- An annotation that fits, once written, is read back as it was.
 abbrev pub AnnotationRoundTrip : Type 0
 AnnotationRoundTrip =
     (claim : ℕ) (numbers : List ℤ) (loads : List Load)
     → Byte claim → Every Signed32 numbers → length loads ≤ 65535 → Every LoadFits loads
     → AnnotationRead claim numbers loads (annotationFile claim numbers loads)
 
--- Bytes that pass the checks of the layout are the encoding of what is read from them, and of nothing else.
+-- Bytes that pass the checks of a network's layout are the encoding of what is read from them, and of nothing else.
 abbrev pub OnlyNetwork : Type 0
 OnlyNetwork =
     (file : List ℕ) → Every Byte file → Hold (networkLayout file)
     → file ≡ networkFile (settingIn file) (arcsIn file)
 
+-- The same of an annotation's layout.
 abbrev pub OnlyAnnotation : Type 0
 OnlyAnnotation =
     (n : ℕ) (file : List ℕ) → Every Byte file → Hold (annotationLayout n file)

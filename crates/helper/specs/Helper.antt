@@ -1,4 +1,4 @@
--- What the helper replies and what it leaves in the buffer (document 01, Files and the helper).
+-- What the helper replies and what it leaves in the buffer (PANEL 9).
 -- Assumes nothing.
 use mathlib.Core.Path.{_≡_}
 use mathlib.Core.List.{List, [], _∷_, _++_}
@@ -23,23 +23,24 @@ pub data HelperSaid : Type 0 where
   wrote : ℕ → HelperSaid
   declined : ℕ → HelperSaid
 
+-- What a reply of the code says.
 abbrev pub helperSaid : Written → HelperSaid
 helperSaid (Length k) = wrote k
 helperSaid (Refused k) = declined k
 
--- The length of the annotation: 8 + 4n + 6m.
+-- The length of the annotation of a network file (PANEL 7).
 abbrev pub sizeFor : List ℕ → ℕ
 sizeFor net = annotationSize (nIn net) (countIn net)
 
--- The checks by which the panel accepts the file, then 20: is the buffer of so many bytes large enough?
+-- The checks by which the panel accepts the file, then 20 (PANEL 9): is there room for the annotation?
 abbrev pub annotateChecks : List ℕ → ℕ → List Check
 annotateChecks net room = acceptanceChecks net ++ (20 unless leb (sizeFor net) room ∷ [])
 
--- The reply: the first refusal, or the length.
+-- The reply (PANEL 9): the first refusal, or the length.
 abbrev pub annotated : List ℕ → ℕ → HelperSaid
 annotated net room = settle declined (annotateChecks net room) (wrote (sizeFor net))
 
--- The bytes are an annotation that meets every rule of the certificate, for some answer, with the records in file order. Node numbers of a route are the least lengths.
+-- The bytes are an annotation (PANEL 9): a certificate of some answer, over the file's records in their order. The node numbers of a route are the least lengths.
 pub record Annotation (net ann : List ℕ) : Type 0 where
   pub answer : Answer
   pub numbers : List ℤ
@@ -55,7 +56,7 @@ pub record AnnotationIn (net before after : List ℕ) : Type 0 where
   pub annotation : Annotation net (take (sizeFor net) after)
   pub beyond : drop (sizeFor net) after ≡ drop (sizeFor net) before
 
--- What the buffer holds afterwards: a refusal leaves it as it was.
+-- What the buffer holds afterwards (PANEL 9): the annotation, or after a refusal what it held before.
 abbrev pub BufferAfter : HelperSaid → List ℕ → List ℕ → List ℕ → Type 0
 BufferAfter (declined k) net before after = after ≡ before
 BufferAfter (wrote k) net before after = AnnotationIn net before after

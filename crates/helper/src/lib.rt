@@ -1,4 +1,4 @@
-// The helper: it finds an answer for a network file and writes the annotation for it into a lent buffer.
+// The helper (PANEL 9): an annotation for a network file, written into a lent buffer.
 ghost use mathlib.Core.Path.{_≡_};
 ghost use lib.ListN.{length};
 ghost use Rattle.helper.specs.Helper.{helperSaid, annotated, BufferAfter};

@@ -61,7 +61,7 @@ fn write_body(rest: &mut [u8], records: &[u32], numbers: &[i32], amounts: &[u16]
     write_loads(&mut rest[at..], records, amounts);
 }
 
-// The whole file. The node numbers go after the eighth byte.
+// The whole file: a header of eight bytes, and the rest in the part that is lent on.
 fn write_file(
     buffer: &mut [u8],
     claim: u8,

@@ -1,4 +1,4 @@
--- The certificates: what is asked of node numbers y, one for each vertex, and of the arcs with amounts, f. One row of rules for each question and claim.
+-- The certificates (PANEL 5): what is asked of node numbers y, one for each vertex, and of the arcs with amounts, f. One row of rules for each question and claim.
 -- Assumes nothing.
 use mathlib.Core.Path.{_≡_}
 use mathlib.Core.Bool.{Bool, true, false, not, _&&_}
@@ -17,12 +17,12 @@ use Rattle.network.specs.Question.{Question, shortestPath, maximumFlow, 
 
 -- ---- what the rules speak of
 
--- What an annotation claims: 1 a value, 2 none.
+-- What an annotation claims (PANEL 5): 1 a value, 2 none.
 pub data Claim : Type 0 where
   ofValue : Claim
   ofNone : Claim
 
--- The vertices with the node number 1 are marked: one side of a cut.
+-- The vertices with the node number 1 are marked (PANEL 5): one side of a cut.
 abbrev pub marked : (ℕ → ℤ) → ℕ → Bool
 marked y v = eqZ (y v) (pos 1)
 
@@ -33,21 +33,23 @@ pub record Ends : Type 0 where
   pub tail-marked : Bool
   pub head-marked : Bool
 
+-- What the ends of the arc e have, by the node numbers y and the marks m.
 abbrev pub endsOf : (ℕ → ℤ) → (ℕ → Bool) → Arc → Ends
 endsOf y m e = record { tail-number = y (e .tail); head-number = y (e .head); tail-marked = m (e .tail); head-marked = m (e .head) }
 
--- The sums over the repeated arcs: the balance of each vertex, the total cost, and the capacity of the arcs from mark 1 to mark 0.
+-- The sums over the repeated arcs (PANEL 5, checks 15 and 16): the balance of each vertex, the total cost, and the capacity of the cut that the marks make.
 pub record Sums : Type 0 where
   pub balances : ℕ → ℤ
   pub cost : ℤ
   pub cut : ℤ
 
+-- The sums over the loads f, for the question q and the marks m.
 abbrev pub sumsOf : Question → (ℕ → Bool) → List Load → Sums
 sumsOf q m f = record { balances = λ v. balance v f; cost = pos (sumOf (unitCost q) f); cut = pos (sumAcross (unitsMost q) m (arcs f)) }
 
 -- ---- what one certificate asks
 
--- The rules in the order of the checks: 9, may the claim be made; 10, the range of node numbers, and the number z of the vertex v; 11, the most amount on an arc;
+-- One column of PANEL 5, in the order of the checks: 9, may the claim be made; 10, the range of node numbers, and the number z of the vertex v; 11, the most amount on an arc;
 -- 12, an arc with its amount, by what its ends have; 15, the balance b of the vertex v; 16, the sums; and the answer.
 pub record Rules : Type 0 where
   pub admitted : Bool
@@ -60,39 +62,41 @@ pub record Rules : Type 0 where
   pub onSums : Setting → (ℕ → ℤ) → (ℕ → Bool) → Sums → Bool
   pub answer : Sums → Answer
 
--- The number of the head is at most that of the tail and the cost of the arc.
+-- The number of the head is at most that of the tail and the weight together (PANEL 5, check 12).
 abbrev pub noShortcut : Ends → Load → Bool
 noShortcut e l = leZ (e .head-number) (e .tail-number +ℤ pos (l .arc .weight))
 
--- The arc does not lead from mark 1 to mark 0.
+-- The arc does not lead out of the marked side (PANEL 5, check 12).
 abbrev pub staysInside : Ends → Load → Bool
 staysInside e l = not (e .tail-marked && not (e .head-marked))
 
--- s has the mark 1 and t the mark 0.
+-- The number of s is the mark 1, and that of t the mark 0 (PANEL 5, check 10).
 abbrev pub separates : Setting → ℕ → ℤ → Bool
 separates st v z = implies (eqb v (st .s)) (eqZ z (pos 1)) && implies (eqb v (st .t)) (eqZ z (pos 0))
 
--- The balances of a path, +1 at s, -1 at t, else 0; and of an assignment, +1 at pumps, -1 at sites.
+-- The balances of one unit on its way from s to t (PANEL 5, check 15).
 abbrev pub pathBalance : Setting → ℕ → ℤ
 pathBalance st v = pick (eqb v (st .s)) (pos 1) (pick (eqb v (st .t)) (negℤ (pos 1)) (pos 0))
 
+-- The balances of an assignment (PANEL 5, check 15): one unit leaves each pump, one enters each site.
 abbrev pub assignmentBalance : Setting → ℕ → ℤ
 assignmentBalance st v = pick (ltb v (pumps st)) (pos 1) (negℤ (pos 1))
 
--- The sum of y over sites minus that over pumps.
+-- The potentials of all sites, less those of all pumps (PANEL 5, check 16).
 abbrev pub potentialGap : Setting → (ℕ → ℤ) → ℤ
 potentialGap st y = sumToℤ (sites st) (λ i. y (pumps st + i)) -ℤ sumToℤ (pumps st) y
 
--- How many pumps are marked, and how many sites.
+-- How many pumps are marked (PANEL 5, check 16).
 abbrev pub markedPumps : Setting → (ℕ → Bool) → ℕ
 markedPumps st m = count m (pumps st)
 
+-- How many sites are marked (PANEL 5, check 16).
 abbrev pub markedSites : Setting → (ℕ → Bool) → ℕ
 markedSites st m = count (λ i. m (pumps st + i)) (sites st)
 
--- ---- the five certificates, in the order of document 01 (The certificate)
+-- ---- the five certificates: the columns of PANEL 5, from left to right
 
--- Route, value.
+-- Route, value (PANEL 5).
 abbrev pub pathRules : Rules
 pathRules = record {
   admitted = true;
@@ -106,7 +110,7 @@ pathRules = record {
   answer = λ u. value (natural (u .cost));
 }
 
--- Discharge, value.
+-- Discharge, value (PANEL 5).
 abbrev pub flowRules : Rules
 flowRules = record {
   admitted = true;
@@ -120,7 +124,7 @@ flowRules = record {
   answer = λ u. value (natural (u .cut));
 }
 
--- Pairing, value.
+-- Pairing, value (PANEL 5).
 abbrev pub assignmentRules : Rules
 assignmentRules = record {
   admitted = true;
@@ -134,7 +138,7 @@ assignmentRules = record {
   answer = λ u. value (natural (u .cost));
 }
 
--- Route, none.
+-- Route, none (PANEL 5).
 abbrev pub noPathRules : Rules
 noPathRules = record {
   admitted = true;
@@ -148,7 +152,7 @@ noPathRules = record {
   answer = λ u. none;
 }
 
--- Pairing, none.
+-- Pairing, none (PANEL 5).
 abbrev pub noAssignmentRules : Rules
 noAssignmentRules = record {
   admitted = true;
@@ -162,7 +166,7 @@ noAssignmentRules = record {
   answer = λ u. none;
 }
 
--- Where there is no certificate, nothing passes.
+-- Where there is no certificate, nothing passes: check 9 refuses the claim (PANEL 6).
 abbrev pub noRules : Rules
 noRules = record {
   admitted = false;
@@ -176,7 +180,7 @@ noRules = record {
   answer = λ u. none;
 }
 
--- The rules for a question and a claim.
+-- The rules for a question and a claim (PANEL 5).
 abbrev pub rulesFor : Question → Claim → Rules
 rulesFor shortestPath ofValue = pathRules
 rulesFor shortestPath ofNone = noPathRules
@@ -186,16 +190,17 @@ rulesFor assignment ofValue = assignmentRules
 rulesFor assignment ofNone = noAssignmentRules
 rulesFor unasked c = noRules
 
+-- The rules for the question of a setting and a claim.
 abbrev pub rulesOf : Setting → Claim → Rules
 rulesOf st c = rulesFor (asks st) c
 
 -- ---- meeting a certificate
 
--- Check 10 of a vertex: its node number is in the range, and the rule on it holds.
+-- The node number z of the vertex v is in the range, and the rule on it holds (PANEL 6, check 10).
 abbrev pub nodeMeets : Rules → Setting → ℕ → ℤ → Bool
 nodeMeets rules st v z = between (rules .lowest) (rules .highest) z && rules .onNode st v z
 
--- The node numbers y and the amounts f meet every rule for the answer a.
+-- The node numbers y and the amounts f meet every rule of the row for the answer a (PANEL 5).
 pub record CertifiedBy (rules : Rules) (q : Question) (st : Setting) (y : ℕ → ℤ) (f : List Load) (a : Answer) : Type 0 where
   pub admitted : T (rules .admitted)
   pub nodes : (v : ℕ) → v < st .n → T (nodeMeets rules st v (y v))
@@ -210,6 +215,6 @@ abbrev pub claimFor : Answer → Claim
 claimFor (value v) = ofValue
 claimFor none = ofNone
 
--- The annotation is a certificate of the answer.
+-- The annotation is a certificate of the answer (PANEL 5).
 abbrev pub Certified : Setting → (ℕ → ℤ) → List Load → Answer → Type 0
 Certified st y f a = CertifiedBy (rulesOf st (claimFor a)) (asks st) st y f a

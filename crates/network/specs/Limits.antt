@@ -1,17 +1,19 @@
--- The limits of document 01, each once.
+-- The limits (PANEL 3), each once.
 -- Assumes nothing.
 use Prim.Native.Nat.{ℕ}
 
--- What the panel decides: the most vertices, the most arcs that are read, and the greatest weight.
+-- The most vertices (PANEL 6, check 2).
 abbrev pub mostVertices : ℕ
 mostVertices = 255
 
+-- The most arcs that are read (PANEL 6, check 6).
 abbrev pub mostArcs : ℕ
 mostArcs = 4096
 
+-- The greatest weight (PANEL 6, check 8).
 abbrev pub mostWeight : ℕ
 mostWeight = 32767
 
--- The certificate: a potential is at most this in size. It is the length of a walk over 254 arcs of the greatest weight.
+-- The largest size of a potential (PANEL 5, check 10): the length of a walk over 254 arcs of the greatest weight.
 abbrev pub mostPotential : ℕ
 mostPotential = 8322818

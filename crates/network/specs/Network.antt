@@ -8,7 +8,7 @@ use lib.IntN.{ℤ, pos, _-ℤ_}
 use Rattle.prelude.specs.Choice.{indicator}
 use Rattle.network.specs.declared.Record.{Record}
 
--- A channel record (What the panel decides): an arc from its tail to its head, whose weight is a length, a capacity or a cost.
+-- A channel record (PANEL 2): an arc from its tail to its head, whose weight is a length, a capacity or a cost.
 pub record Arc : Type 0 where
   pub tail : ℕ
   pub head : ℕ
@@ -30,11 +30,11 @@ wordArc k = arcOf (k / 16777216 % 256) (k / 65536 % 256) (k % 65536)
 abbrev pub wordArcs : List ℕ → List Arc
 wordArcs ks = map wordArc ks
 
--- The key of an arc (The point and the product).
+-- The key of an arc (PANEL 4): its three numbers side by side, in 8, 8 and 15 bits.
 abbrev pub key : Arc → ℕ
 key e = e .tail * 8388608 + e .head * 32768 + e .weight
 
--- A repeated channel (The certificate): an arc with its amount x.
+-- A repeated channel (PANEL 5): an arc with its amount.
 pub record Load : Type 0 where
   pub arc : Arc
   pub amount : ℕ
@@ -70,14 +70,15 @@ unfoldable pub sumOf : (Arc → ℕ) → List Load → ℕ
 sumOf g [] = 0
 sumOf g (l ∷ f) = l .amount * g (l .arc) + sumOf g f
 
--- The sum of the amounts that leave the vertex v, and of those that enter it.
+-- The sum of the amounts that leave the vertex v.
 abbrev pub leaving : ℕ → List Load → ℕ
 leaving v f = sumOf (λ e. delta (e .tail) v) f
 
+-- The sum of the amounts that enter the vertex v.
 abbrev pub entering : ℕ → List Load → ℕ
 entering v f = sumOf (λ e. delta (e .head) v) f
 
--- The balance of the vertex v (The certificate).
+-- The balance of the vertex v (PANEL 5): what leaves it less what enters it.
 abbrev pub balance : ℕ → List Load → ℤ
 balance v f = pos (leaving v f) -ℤ pos (entering v f)
 

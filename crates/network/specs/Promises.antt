@@ -12,15 +12,15 @@ use Rattle.network.specs.Question.{Setting, asks, Opened, Allowed, Weigh
 use Rattle.network.specs.Certificate.{Claim, claimFor, marked, sumsOf, Certified}
 use Rattle.network.specs.Tests.{answerOf, Passed}
 
--- There is one true answer at most.
+-- There is one true answer at most (PANEL 3).
 abbrev pub OneAnswer : Type 0
 OneAnswer = (st : Setting) (net : List Arc) (a b : Answer) → TrueAnswer st net a → TrueAnswer st net b → a ≡ b
 
--- The order of the arcs does not matter.
+-- The order of the arcs does not matter for the true answer (PANEL 3).
 abbrev pub AnyOrder : Type 0
 AnyOrder = (st : Setting) (net new : List Arc) → Perm net new → (a : Answer) → TrueAnswer st net a → TrueAnswer st new a
 
--- Every certificate is sound: over the arcs of the network, in any order, it gives the true answer.
+-- Every certificate is sound (PANEL 5): over the arcs of the network, in any order, it gives the true answer.
 abbrev pub Sound : Type 0
 Sound =
     (st : Setting) (net : List Arc) (y : ℕ → ℤ) (f : List Load) (a : Answer)
@@ -44,10 +44,11 @@ pub record Keyed (e : Arc) : Type 0 where
   pub head-below : e .head < mostVertices
   pub weight-within : WeightWithin e
 
--- Keys are below p, and different arcs have different keys (The point and the product).
+-- The keys of such arcs are below p (PANEL 4).
 abbrev pub KeysBelow : Type 0
 KeysBelow = (e : Arc) → Keyed e → key e < p
 
+-- Two such arcs with one key are one arc (PANEL 4).
 abbrev pub KeysDiffer : Type 0
 KeysDiffer = (d e : Arc) → Keyed d → Keyed e → key d ≡ key e → d ≡ e
 

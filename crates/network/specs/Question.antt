@@ -1,4 +1,4 @@
--- The questions, what may be asked, and the true answers by the textbook.
+-- The questions, what may be asked, and the true answers by the textbook (PANEL 3).
 -- Assumes nothing.
 use mathlib.Core.Path.{_≡_}
 use mathlib.Core.Logic.{_≢_}
@@ -14,14 +14,14 @@ use Rattle.network.specs.Network.{Arc, Load, arcs, leaving, entering, ba
 
 -- ---- what is asked
 
--- The three questions (What the panel decides), and no question.
+-- The three questions (PANEL 3), and no question.
 pub data Question : Type 0 where
   shortestPath : Question
   maximumFlow : Question
   assignment : Question
   unasked : Question
 
--- The question of a number: 1 route, 2 discharge, 3 pairing; any other number asks nothing.
+-- The question of a number (PANEL 3): 1 route, 2 discharge, 3 pairing; any other number asks nothing.
 abbrev pub questionOf : ℕ → Question
 questionOf k = pick (eqb k 1) shortestPath (pick (eqb k 2) maximumFlow (pick (eqb k 3) assignment unasked))
 
@@ -36,10 +36,11 @@ pub record Setting : Type 0 where
 abbrev pub asks : Setting → Question
 asks st = questionOf (st .question)
 
--- Pairing: the vertices below n / 2 are pumps, the rest sites. How many there are of each.
+-- How many pumps there are, for pairing (PANEL 3): they are the vertices below n / 2.
 abbrev pub pumps : Setting → ℕ
 pumps st = st .n / 2
 
+-- How many sites there are: the other vertices.
 abbrev pub sites : Setting → ℕ
 sites st = st .n - pumps st
 
@@ -61,75 +62,81 @@ unitsMost unasked e = 0
 
 -- ---- what opening and reading allow
 
--- Check 1: the number is that of a question.
+-- The number is that of a question (PANEL 6, check 1).
 abbrev pub Asked : Question → Type 0
 Asked shortestPath = Unit {0}
 Asked maximumFlow = Unit {0}
 Asked assignment = Unit {0}
 Asked unasked = ⊥
 
--- Check 2: n is from 2 to 255, and even for an assignment.
+-- The number of vertices is even for an assignment (PANEL 6, check 2).
 abbrev pub EvenFor : Question → ℕ → Type 0
 EvenFor shortestPath n = Unit {0}
 EvenFor maximumFlow n = Unit {0}
 EvenFor assignment n = n % 2 ≡ 0
 EvenFor unasked n = Unit {0}
 
+-- There are 2 to 255 vertices, an even number for an assignment (PANEL 6, check 2).
 pub record Sized (st : Setting) : Type 0 where
   pub at-least : 2 ≤ st .n
   pub at-most : st .n ≤ mostVertices
   pub even : EvenFor (asks st) (st .n)
 
--- Check 3: s and t are two different vertices; for an assignment both are 0.
+-- s and t are two different vertices (PANEL 6, check 3).
 pub record TwoVertices (st : Setting) : Type 0 where
   pub source-below : st .s < st .n
   pub sink-below : st .t < st .n
   pub apart : st .s ≢ st .t
 
+-- s and t are both 0 (PANEL 6, check 3).
 pub record BothZero (st : Setting) : Type 0 where
   pub source-zero : st .s ≡ 0
   pub sink-zero : st .t ≡ 0
 
+-- What s and t have to be, by the question (PANEL 6, check 3).
 abbrev pub EndsFor : Question → Setting → Type 0
 EndsFor shortestPath st = TwoVertices st
 EndsFor maximumFlow st = TwoVertices st
 EndsFor assignment st = BothZero st
 EndsFor unasked st = ⊥
 
--- A setting that opening accepts.
+-- A setting that opening accepts (PANEL 6, checks 1 to 3).
 pub record Opened (st : Setting) : Type 0 where
   pub asked : Asked (asks st)
   pub sized : Sized st
   pub ends : EndsFor (asks st) st
 
--- Check 7: the ends of an arc are two different vertices; for an assignment it leads from a pump to a site.
+-- The arc leads from a pump to a site (PANEL 6, check 7).
 pub record PumpToSite (st : Setting) (e : Arc) : Type 0 where
   pub from-pump : e .tail < pumps st
   pub to-site : pumps st ≤ e .head
 
+-- Which sides the arc has to join, by the question (PANEL 6, check 7).
 abbrev pub SidesFor : Question → Setting → Arc → Type 0
 SidesFor shortestPath st e = Unit {0}
 SidesFor maximumFlow st e = Unit {0}
 SidesFor assignment st e = PumpToSite st e
 SidesFor unasked st e = ⊥
 
+-- The ends of the arc are two different vertices, on the sides that the question asks for (PANEL 6, check 7).
 pub record Joins (st : Setting) (e : Arc) : Type 0 where
   pub tail-below : e .tail < st .n
   pub head-below : e .head < st .n
   pub proper : e .tail ≢ e .head
   pub sides : SidesFor (asks st) st e
 
--- Check 8: the weight is at most 32767.
+-- The weight is within its limit (PANEL 6, check 8).
 abbrev pub WeightWithin : Arc → Type 0
 WeightWithin e = e .weight ≤ mostWeight
 
--- An arc that reading accepts.
+-- An arc that reading accepts (PANEL 6, checks 7 and 8).
 pub record Allowed (st : Setting) (e : Arc) : Type 0 where
   pub joins : Joins st e
   pub weight-within : WeightWithin e
 
 -- ---- answers
 
+-- An answer is a value, or none (PANEL 3).
 pub data Answer : Type 0 where
   value : ℕ → Answer
   none : Answer
@@ -141,31 +148,31 @@ abbrev pub Leads : ℕ → List Arc → ℕ → Type 0
 Leads u [] t = u ≡ t
 Leads u (e ∷ es) t = (e .tail ≡ u) × Leads (e .head) es t
 
--- A chain of records from s to t: a walk over arcs of the network.
+-- A walk from s to t over arcs of the network (PANEL 3): at the gate a chain of records.
 pub record Walk (st : Setting) (net es : List Arc) : Type 0 where
   pub over : Every (λ e. Member e net) es
   pub leads : Leads (st .s) es (st .t)
 
--- The least total length: one walk has the length v, and no walk is shorter.
+-- A shortest path has the length v (PANEL 3): one walk has it, and no walk is shorter.
 pub record ShortestPath (st : Setting) (net : List Arc) (v : ℕ) : Type 0 where
   pub path : List Arc
   pub is-walk : Walk st net path
   pub attained : total path ≡ v
   pub least : (es : List Arc) → Walk st net es → v ≤ total es
 
--- None: there is no walk.
+-- None is true of a route (PANEL 3): there is no walk.
 abbrev pub NoWalk : Setting → List Arc → Type 0
 NoWalk st net = (es : List Arc) → ¬ (Walk st net es)
 
 -- ---- 2, discharge: maximum flow
 
--- A flow: an amount within its capacity for each arc, and as much leaves as enters at every vertex but s and t.
+-- A flow (PANEL 3): each arc carries an amount within its capacity, and nothing is gained or lost at a vertex that is neither s nor t.
 pub record Flow (st : Setting) (net : List Arc) (f : List Load) : Type 0 where
   pub each : arcs f ≡ net
   pub within : Every (λ l. l .amount ≤ l .arc .weight) f
   pub conserved : (v : ℕ) → v < st .n → v ≢ st .s → v ≢ st .t → leaving v f ≡ entering v f
 
--- The greatest net amount that leaves s: one flow has it, and no flow has more.
+-- A maximum flow has the value v (PANEL 3): one flow sends so much out of s, less what enters s, and no flow sends more.
 pub record MaximumFlow (st : Setting) (net : List Arc) (v : ℕ) : Type 0 where
   pub flow : List Load
   pub is-flow : Flow st net flow
@@ -174,26 +181,26 @@ pub record MaximumFlow (st : Setting) (net : List Arc) (v : ℕ) : Type 0 where
 
 -- ---- 3, pairing: assignment
 
--- A set of arcs that touches every vertex exactly once: amount 1 at the arcs in it, 0 at the others.
+-- A perfect matching of pumps and sites (PANEL 3): the amount is 1 at the arcs chosen and 0 at the others, and each vertex is an end of one chosen arc.
 pub record Assignment (st : Setting) (net : List Arc) (f : List Load) : Type 0 where
   pub each : arcs f ≡ net
   pub chosen : Every (λ l. l .amount ≤ 1) f
   pub once : (v : ℕ) → v < st .n → degree v f ≡ 1
 
--- The least total: one assignment has the cost v, and none costs less.
+-- A cheapest assignment costs v (PANEL 3): one costs that, and none costs less.
 pub record CheapestAssignment (st : Setting) (net : List Arc) (v : ℕ) : Type 0 where
   pub chosen : List Load
   pub is-assignment : Assignment st net chosen
   pub attained : cost chosen ≡ v
   pub least : (f : List Load) → Assignment st net f → v ≤ cost f
 
--- None: there is no assignment.
+-- None is true of a pairing (PANEL 3): there is no assignment.
 abbrev pub NoAssignment : Setting → List Arc → Type 0
 NoAssignment st net = (f : List Load) → ¬ (Assignment st net f)
 
 -- ---- the true answer
 
--- The true answer of a question (What demand 3 counts): a greatest flow always has a value.
+-- Which answer is true, by the question (PANEL 3). A maximum flow always exists, so none is never true of it.
 abbrev pub TrueFor : Question → Setting → List Arc → Answer → Type 0
 TrueFor shortestPath st net (value v) = ShortestPath st net v
 TrueFor shortestPath st net none = NoWalk st net
@@ -203,5 +210,6 @@ TrueFor assignment st net (value v) = CheapestAssignment st net v
 TrueFor assignment st net none = NoAssignment st net
 TrueFor unasked st net a = ⊥
 
+-- The answer is the true one for the setting and the network (PANEL 12).
 abbrev pub TrueAnswer : Setting → List Arc → Answer → Type 0
 TrueAnswer st net a = TrueFor (asks st) st net a

@@ -1,4 +1,4 @@
--- The numbered checks of document 01, section Session steps, each once: as tests, and as the lists that run in its order.
+-- The numbered checks of the steps (PANEL 6), each once: as tests, and as lists in the order in which they run.
 -- Assumes nothing.
 use mathlib.Core.Bool.{Bool, true, false, not, _&&_}
 use mathlib.Core.List.{List, [], _∷_, _++_}
@@ -16,60 +16,65 @@ use Rattle.network.specs.Certificate.{Claim, ofValue, ofNone, marked, en
 
 -- ---- opening
 
--- 1: is there a question?
+-- Is there a question? (PANEL 6, check 1)
 abbrev pub isAsked : Question → Bool
 isAsked shortestPath = true
 isAsked maximumFlow = true
 isAsked assignment = true
 isAsked unasked = false
 
--- 2: is n from 2 to 255, and even for an assignment?
+-- Is the number of vertices even, for an assignment? (PANEL 6, check 2)
 abbrev pub evenFor : Question → ℕ → Bool
 evenFor shortestPath n = true
 evenFor maximumFlow n = true
 evenFor assignment n = eqb (n % 2) 0
 evenFor unasked n = true
 
+-- Are there 2 to 255 vertices, an even number for an assignment? (PANEL 6, check 2)
 abbrev pub sizeOk : Setting → Bool
 sizeOk st = (leb 2 (st .n) && leb (st .n) mostVertices) && evenFor (asks st) (st .n)
 
--- 3: are s and t two different vertices, and both 0 for an assignment?
+-- Are s and t two different vertices? (PANEL 6, check 3)
 abbrev pub twoVertices : Setting → Bool
 twoVertices st = (ltb (st .s) (st .n) && ltb (st .t) (st .n)) && not (eqb (st .s) (st .t))
 
+-- Are s and t what the question asks for? (PANEL 6, check 3)
 abbrev pub endsFor : Question → Setting → Bool
 endsFor shortestPath st = twoVertices st
 endsFor maximumFlow st = twoVertices st
 endsFor assignment st = eqb (st .s) 0 && eqb (st .t) 0
 endsFor unasked st = false
 
+-- The same for the question of the setting.
 abbrev pub endsOk : Setting → Bool
 endsOk st = endsFor (asks st) st
 
--- The checks of opening, but for that of the point.
+-- The checks of opening but for that of the point (PANEL 6, checks 1 to 3).
 abbrev pub openingChecks : Setting → List Check
 openingChecks st = 1 unless isAsked (asks st) ∷ 2 unless sizeOk st ∷ 3 unless endsOk st ∷ []
 
 -- ---- an arc, read or repeated
 
--- 7: are its ends two different vertices, from a pump to a site for an assignment?
+-- Does it join the sides that the question asks for? (PANEL 6, check 7)
 abbrev pub sidesFor : Question → Setting → Arc → Bool
 sidesFor shortestPath st e = true
 sidesFor maximumFlow st e = true
 sidesFor assignment st e = ltb (e .tail) (pumps st) && leb (pumps st) (e .head)
 sidesFor unasked st e = false
 
+-- Are its ends two different vertices, on the sides that the question asks for? (PANEL 6, check 7)
 abbrev pub joinsOk : Setting → Arc → Bool
 joinsOk st e = ((ltb (e .tail) (st .n) && ltb (e .head) (st .n)) && not (eqb (e .tail) (e .head))) && sidesFor (asks st) st e
 
--- 8: is its weight at most 32767?
+-- Is its weight within the limit? (PANEL 6, check 8)
 abbrev pub weightOk : Arc → Bool
 weightOk e = leb (e .weight) mostWeight
 
+-- The checks of an arc, read or repeated (PANEL 6, checks 7 and 8).
 abbrev pub arcChecks : Setting → Arc → List Check
 arcChecks st e = 7 unless joinsOk st e ∷ 8 unless weightOk e ∷ []
 
--- Reading an arc, where i are read already.
+-- Reading an arc, where i are read already (PANEL 6, checks 6 to 8).
 abbrev pub readingChecks : Setting → ℕ → Arc → List Check
 readingChecks st i e = 6 unless ltb i mostArcs ∷ arcChecks st e
 
@@ -80,6 +85,7 @@ readingAll st i (e ∷ net) = readingChecks st i e ++ readingAll st (suc i) net
 
 -- ---- the claim
 
+-- The number of a claim (PANEL 5).
 abbrev pub claimNumber : Claim → ℕ
 claimNumber ofValue = 1
 claimNumber ofNone = 2
@@ -88,10 +94,11 @@ claimNumber ofNone = 2
 abbrev pub claimOf : ℕ → Claim
 claimOf k = pick (eqb k 1) ofValue ofNone
 
--- 9: is the claim 1 or 2, and is there a certificate for it?
+-- Is the claim 1 or 2, and is there a certificate for it? (PANEL 6, check 9)
 abbrev pub claimOk : Setting → ℕ → Bool
 claimOk st k = (leb 1 k && leb k 2) && rulesOf st (claimOf k) .admitted
 
+-- Making a claim (PANEL 6, check 9).
 abbrev pub claimingChecks : Setting → ℕ → List Check
 claimingChecks st k = 9 unless claimOk st k ∷ []
 
@@ -104,23 +111,23 @@ pub record Numbers : Type 0 where
   pub number : ℕ → ℤ
   pub mark : ℕ → Bool
 
--- 10: does the node number z of the vertex v meet the rules about that vertex alone?
+-- Does the node number z of the vertex v meet the rules for it? (PANEL 6, check 10)
 abbrev pub nodeOk : Setting → Claim → ℕ → ℤ → Bool
 nodeOk st c v z = nodeMeets (rulesOf st c) st v z
 
--- A node number, where i are given already.
+-- A node number, where i are given already (PANEL 6, checks 5 and 10).
 abbrev pub numberingChecks : Setting → Claim → ℕ → ℤ → List Check
 numberingChecks st c i z = 5 unless ltb i (st .n) ∷ 10 unless nodeOk st c i z ∷ []
 
--- 11: is the amount allowed?
+-- Is the amount allowed? (PANEL 6, check 11)
 abbrev pub amountOk : Setting → Claim → Load → Bool
 amountOk st c l = leb (l .amount) (rulesOf st c .most (l .arc))
 
--- 12: does the arc meet the rule on node numbers or on marks?
+-- Does the arc meet the rule on potentials or on marks? (PANEL 6, check 12)
 abbrev pub ruleOk : Setting → Numbers → Load → Bool
 ruleOk st a l = rulesOf st (a .claim) .onArc (endsOf (a .number) (a .mark) (l .arc)) l
 
--- A repeated arc, where m are read and i are repeated already.
+-- A repeated arc, where m are read and i are repeated already (PANEL 6, checks 5 to 8, 11, 12).
 abbrev pub repeatingChecks : Setting → Numbers → ℕ → ℕ → Load → List Check
 repeatingChecks st a m i l =
     5 unless eqb (a .given) (st .n)
@@ -130,15 +137,15 @@ repeatingChecks st a m i l =
     ∷ 12 unless ruleOk st a l
     ∷ [])
 
--- 15: is each balance right?
+-- Is each balance right? (PANEL 6, check 15)
 abbrev pub balancesOk : Setting → Claim → Sums → Bool
 balancesOk st c u = allTo (st .n) (λ v. rulesOf st c .onBalance st v (u .balances v))
 
--- 16: do the sums agree?
+-- Do the sums agree? (PANEL 6, check 16)
 abbrev pub sumsOk : Setting → Numbers → Sums → Bool
 sumsOk st a u = rulesOf st (a .claim) .onSums st (a .number) (a .mark) u
 
--- Finishing, where m arcs are read and i repeated, `same` says whether their fingerprints agree, and u are the sums.
+-- Finishing (PANEL 6, checks 5, 13 to 16), where m arcs are read and i repeated, `same` says whether their fingerprints agree, and u are the sums.
 abbrev pub finishingChecks : Setting → Numbers → ℕ → ℕ → Bool → Sums → List Check
 finishingChecks st a m i same u =
     5 unless eqb (a .given) (st .n)
@@ -148,7 +155,7 @@ finishingChecks st a m i same u =
     ∷ 16 unless sumsOk st a u
     ∷ []
 
--- The answer of an annotation that passes.
+-- The answer of an annotation that passes (PANEL 5).
 abbrev pub answerOf : Setting → Claim → Sums → Answer
 answerOf st c u = rulesOf st c .answer u
 
@@ -161,5 +168,6 @@ pub record PassedFor (rules : Rules) (q : Question) (st : Setting) (y : ℕ → 
   pub balances : T (allTo (st .n) (λ v. rules .onBalance st v (balance v f)))
   pub sums : T (rules .onSums st y (marked y) (sumsOf q (marked y) f))
 
+-- The same by the row for the question of the setting and the claim.
 abbrev pub Passed : Setting → Claim → (ℕ → ℤ) → List Load → Type 0
 Passed st c y f = PassedFor (rulesOf st c) (asks st) st y f

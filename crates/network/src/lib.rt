@@ -9,7 +9,7 @@ pub struct Record {
     pub weight: u32,
 }
 
-// The limits: the most vertices, the most arcs that are read, the greatest weight, and the largest size of a potential.
+// The limits (PANEL 3): the most vertices, the most arcs that are read, the greatest weight, and the largest size of a potential.
 pub const MOST_VERTICES: u32 = 255;
 
 pub const MOST_ARCS: u32 = 4096;

@@ -1,4 +1,4 @@
--- The point of a session and the fingerprint of arcs at it (document 01, The point and the product). Everything that depends on how many points there are is here.
+-- The point of a session and the fingerprint of arcs at it (PANEL 4). Everything that depends on how many points there are is here.
 -- Assumes nothing.
 use mathlib.Core.Bool.{Bool}
 use mathlib.Core.List.{List, map}
@@ -11,35 +11,38 @@ use Rattle.points.specs.declared.Point.{Point}
 use Rattle.points.specs.declared.Print.{Print}
 use Rattle.points.specs.declared.Stream.{Stream}
 
--- The points are the numbers 0 to p - 1; check 4 as a test.
+-- The points are the numbers below p (PANEL 4).
 abbrev pub IsPoint : Point → Type 0
 IsPoint x = x .r < p
 
+-- Is it a point? (PANEL 6, check 4)
 abbrev pub pointOk : Point → Bool
 pointOk x = ltb (x .r) p
 
--- The fingerprint of a list of arcs at a point.
+-- The fingerprint that a list of arcs has at a point (PANEL 4).
 abbrev pub printOf : Point → List Arc → Print
 printOf x es = record { residue = fingerprint (x .r) (map key es) }
 
--- The fingerprint of no arc, and a fingerprint with one arc more.
+-- The fingerprint of no arc.
 abbrev pub emptyPrint : Print
 emptyPrint = record { residue = 1 }
 
+-- A fingerprint with one arc more.
 abbrev pub extendPrint : Point → Print → Arc → Print
 extendPrint x f e = record { residue = extended (x .r) (f .residue) (key e) }
 
--- Check 14: do two fingerprints agree?
+-- Do two fingerprints agree? (PANEL 6, check 14)
 abbrev pub samePrint : Print → Print → Bool
 samePrint f g = eqb (f .residue) (g .residue)
 
--- A list of arcs as the panel keeps it, its length and its fingerprint: the empty list, and a list with one arc more.
+-- A list of arcs as the panel keeps it, its length and its fingerprint: the empty list.
 abbrev pub emptyStream : Stream
 emptyStream = record { count = 0; print = emptyPrint }
 
+-- A list with one arc more.
 abbrev pub extendStream : Point → Stream → Arc → Stream
 extendStream x m e = record { count = m .count + 1; print = extendPrint x (m .print) e }
 
--- How many points may mislead, where m arcs are read: m - 1, and none for m 0 or 1.
+-- How many points may mislead, where m arcs are read: m - 1, and none for m 0 or 1 (PANEL 12).
 abbrev pub misleadingPoints : ℕ → ℕ
 misleadingPoints m = misleading m

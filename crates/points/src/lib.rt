@@ -1,4 +1,4 @@
-// The secret point of a session and the fingerprint taken at it. Nothing else knows how many points there are.
+// The secret point of a session and the fingerprint taken at it (PANEL 4). Nothing else knows how many points there are.
 ghost use mathlib.Core.Path.{_≡_};
 ghost use mathlib.Core.List.{[], _∷_};
 ghost use lib.Dec.{leb};
@@ -12,7 +12,7 @@ pub struct Point {
     pub r: u32,
 }
 
-// The fingerprint of a list of arcs at a point: the residue of the product.
+// What a list of arcs has at a point: the product, reduced.
 pub struct Print {
     pub residue: u32,
 }

@@ -1,4 +1,4 @@
--- Checks that run in the order written: the first that does not hold decides.
+-- Numbered checks, one after the other: the first that does not hold decides (PANEL 6).
 -- Assumes nothing.
 use mathlib.Core.Bool.{Bool}
 use mathlib.Core.List.{List, [], _∷_}

@@ -1,4 +1,4 @@
-// Checks 9 to 12: the claim, a node number, an amount, and the rule on an arc.
+// Checks 9 to 12 (PANEL 6): the claim, a node number, an amount, and the rule on an arc.
 ghost use mathlib.Core.Path.{_≡_};
 ghost use mathlib.Core.List.{[], _∷_};
 ghost use lib.Dec.{eqb, leb};
@@ -126,7 +126,7 @@ fn on_node(row: Row, st: HeldSetting, v: u32, z: i32) -> bool
     }
 }
 
-// 10: does the node number z of the vertex v meet the rules about that vertex alone?
+// 10: does the node number z of the vertex v meet the rules for it?
 pub fn node_ok(row: Row, st: HeldSetting, v: u32, z: i32) -> bool
     ensures { λ r. ⌜ r ≡ nodeMeets (rulesHeld row) (asked st) v z ⌝ }
 {
@@ -159,7 +159,7 @@ fn amount_ok(row: Row, arc: Record, x: u32) -> bool
     x <= most(row, arc)
 }
 
-// Does the arc not lead from mark 1 to mark 0?
+// Does the arc not lead out of the marked side?
 fn stays_inside(ends: Ends, arc: Record, x: u32) -> bool
     ensures { λ r. ⌜ r ≡ staysInside (endsHeld ends) (loadHeld arc x) ⌝ }
 {
@@ -169,7 +169,7 @@ fn stays_inside(ends: Ends, arc: Record, x: u32) -> bool
     true
 }
 
-// 12: does the arc with its amount meet the rule on node numbers or on marks?
+// 12: does the arc with its amount meet the rule on potentials or on marks?
 fn rule_ok(row: Row, ends: Ends, arc: Record, x: u32) -> bool
     ensures { λ r. ⌜ r ≡ rulesHeld row .onArc (endsHeld ends) (loadHeld arc x) ⌝ }
 {

@@ -1,4 +1,4 @@
-// Checks 15 and 16 of finishing: the balances, and the two sums or the marked pumps and sites.
+// Checks 15 and 16 of finishing (PANEL 6): the balances, and the two sums or the marked pumps and sites.
 ghost use mathlib.Core.Path.{_≡_};
 ghost use mathlib.Core.List.{[], _∷_};
 ghost use Prim.Native.Nat.{_+_, _-_};

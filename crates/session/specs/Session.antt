@@ -1,4 +1,4 @@
--- A session: its state with the node numbers and the balances of the vertices, and what a refusal hands back.
+-- A session: its state with the node numbers and the balances of the vertices, and what a refusal leaves of it (PANEL 6).
 -- Assumes nothing.
 use mathlib.Core.List.{List}
 use Prim.Native.Nat.{ℕ}
@@ -22,10 +22,11 @@ use Rattle.session.specs.declared.Session.{Session}
 
 -- ---- what a session holds
 
--- The node numbers, and the sums over the repeated arcs.
+-- The node numbers that were given.
 abbrev pub potentialsIn : Session → ℕ → ℤ
 potentialsIn x = at (x .potentials)
 
+-- The sums over the repeated arcs.
 abbrev pub sumsIn : Session → Sums
 sumsIn x = sumsHeld (x .balances) (x .state .repeating .cost) (x .state .repeating .cut)
 
@@ -43,7 +44,7 @@ zeros = replicate mostVertices (pos 0)
 abbrev pub holding : ℕ → HeldSetting → Point → Stream → Session
 holding ph st r m = joined zeros zeros (begun ph st r m)
 
--- A void session, which an ended one is too.
+-- A session that is over, void or ended (PANEL 6).
 abbrev pub void : Session
 void = joined zeros zeros idle
 
@@ -53,15 +54,18 @@ withState x y = joined (x .potentials) (x .balances) y
 
 -- ---- replies
 
+-- The reply with a session and an answer.
 abbrev pub hand : Session → Answer → Reply
 hand x a = record { session = x; answer = a }
 
+-- The reply of a step that is accepted.
 abbrev pub accept : Session → Reply
 accept x = hand x Accepted
 
--- What a refusal leaves (Session steps): the session as it was, but void where a claim stands and the refusal is not 5.
+-- What a refusal leaves (PANEL 6): the session as it was, but over where a claim stands and the refusal is not 5.
 abbrev pub leaves : Session → ℕ → Session
 leaves x k = pick (isClaimed (x .state)) (pick (eqb k 5) x void) x
 
+-- The reply of a step that is refused with the number k.
 abbrev pub refuse : Session → ℕ → Reply
 refuse x k = hand (leaves x k) (Refused k)

@@ -1,4 +1,4 @@
--- Opening and the six steps of a session: each by the checks and the next state of State.antt of the crate state.
+-- Opening and the six steps of a session (PANEL 6): each by the checks and the next state of State.antt of the crate state.
 -- Assumes nothing.
 use Prim.Native.Nat.{ℕ}
 use lib.IntN.{ℤ}
@@ -16,7 +16,7 @@ use Rattle.session.specs.Session.{potentialsIn, sumsIn, joined, zeros, v
 use Rattle.session.specs.declared.Reply.{Reply}
 use Rattle.session.specs.declared.Session.{Session}
 
--- Opening: a refusal hands back a void session.
+-- Opening; refused, the session is void.
 unfoldable pub opening : Setting → Point → Reply
 opening st r = settle (λ why. hand void (Refused why)) (openChecks st r) (accept (joined zeros zeros (opened st r)))
 
@@ -44,7 +44,7 @@ repeatStep x l =
     settle (refuse x) (repeatChecks (x .state) (potentialsIn x) l)
     (accept (joined (x .potentials) (moved (x .balances) (l .arc .tail) (l .arc .head) (l .amount)) (withRepeat (x .state) l)))
 
--- Finishing: it ends the session unless it gave 5.
+-- Finishing: with an answer the session is over.
 unfoldable pub finishStep : Session → Reply
 finishStep x =
     settle (refuse x) (finishChecks (x .state) (potentialsIn x) (sumsIn x))

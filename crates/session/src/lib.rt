@@ -1,4 +1,4 @@
-// A checking session: opening and the six steps, by value. Each step takes the session and hands it back with its answer.
+// A checking session (PANEL 6): opening and the six steps, by value. A step consumes the session and gives the next one with what it says.
 // Each step is thin over a step of the session's state, so that a caller who keeps the two arrays in place copies only the state.
 ghost use mathlib.Core.Path.{_≡_};
 ghost use mathlib.Core.Bool.{false, not, _&&_};
@@ -123,7 +123,7 @@ impl Session {
         }
     }
 
-    // Opening. A refusal hands back a void session.
+    // Opening; refused, the session is void.
     pub fn open(o: Opening, point: Point) -> Reply
         ensures { λ r. ⌜ r ≡ opening (handed o) point ⌝ }
     {

@@ -25,7 +25,7 @@ use Rattle.solver.specs.Instance.{toward, single, plenty, pairRoom, atPu
 
 -- ---- what is handed over
 
--- Checks 7 and 8 let the arc of the record through.
+-- Checks 7 and 8 (PANEL 6) let the arc of the record through.
 abbrev pub recordOk : Setting → ℕ → Bool
 recordOk st r = eqb (firstBroken (arcChecks st (wordArc r))) 0
 
@@ -104,7 +104,7 @@ pub record Wanting (need : List ℕ) : Type 0 where
 
 -- ---- what is handed back
 
--- The number that tells the true answer for a vertex: its least length, or as high as a potential goes where no walk leads; for the claim none, 1 where a walk leads and 0 elsewhere.
+-- The number that tells the true answer for a vertex (PANEL 9): its least length, or as high as a potential goes where no walk leads; for the claim none, 1 where a walk leads and 0 elsewhere.
 abbrev pub toldBy : Claim → Answer → ℤ
 toldBy ofValue (value d) = pos d
 toldBy ofValue none = pos mostPotential
@@ -117,7 +117,7 @@ pub record Told (st : Setting) (net : List Arc) (c : Claim) (y : ℕ → ℤ) (v
   pub is-true : TrueAnswer (toward st v) net answer
   pub told : y v ≡ toldBy c answer
 
--- For a path every node number tells its vertex's own answer; the other questions ask no more than a certificate.
+-- For a path every node number tells its vertex's own answer (PANEL 9); the other questions ask no more than a certificate.
 abbrev pub LengthsFor : Question → Setting → List Arc → Claim → (ℕ → ℤ) → Type 0
 LengthsFor shortestPath st net c y = (v : ℕ) → v < st .n → Told st net c y v
 LengthsFor maximumFlow st net c y = Unit {0}

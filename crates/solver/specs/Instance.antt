@@ -84,13 +84,15 @@ numberOf Mark k = indicator (reached k)
 numberOf Distance k = pick (reached k) (k / 256) mostPotential
 numberOf Potential k = k
 
--- The distances by vertex; as the node numbers of a path; and the marks.
+-- The distance of the vertex v.
 abbrev pub distanceOf : List ℕ → ℕ → ℕ
 distanceOf key v = numberOf Distance (entry key v)
 
+-- The same as the node number of a path.
 abbrev pub potentialOf : List ℕ → ℕ → ℤ
 potentialOf key v = pos (distanceOf key v)
 
+-- The mark of the vertex v.
 abbrev pub markOf : List ℕ → ℕ → ℤ
 markOf key v = pos (numberOf Mark (entry key v))
 

@@ -1,4 +1,4 @@
--- What a session knows but for the node numbers and the balances of the vertices: its groups, what they say, and what each step makes of them.
+-- What a session knows but for the node numbers and the balances of the vertices: its groups, what they say, and what each step makes of them (PANEL 6).
 -- Assumes nothing.
 use mathlib.Core.Bool.{Bool}
 use mathlib.Core.List.{List, [], _∷_, _++_}
@@ -27,26 +27,31 @@ use Rattle.state.specs.declared.State.{State}
 
 -- ---- what a state says
 
--- Phase 1: reading is under way; 2: reading has just ended; 3: a claim stands; any other: void or ended.
+-- The phase reading (PANEL 6), number 1.
 abbrev pub isReading : State → Bool
 isReading x = eqb (x .phase) 1
 
+-- The phase read, number 2: no claim stands yet.
 abbrev pub hasRead : State → Bool
 hasRead x = eqb (x .phase) 2
 
+-- The phase claimed, number 3. In any other phase the session is over.
 abbrev pub isClaimed : State → Bool
 isClaimed x = eqb (x .phase) 3
 
--- The setting, and what was given of the annotation; y gives the node numbers.
+-- The setting that was opened.
 abbrev pub settingHeld : State → Setting
 settingHeld x = asked (x .reading .setting)
 
+-- The claim that stands.
 abbrev pub claimHeld : State → Claim
 claimHeld x = claimOf (x .numbering .claim)
 
+-- The marks that were given.
 abbrev pub marksHeld : State → ℕ → Bool
 marksHeld x = isMarked (x .numbering .marks)
 
+-- What was given of the annotation; y gives the node numbers.
 abbrev pub numbersHeld : State → (ℕ → ℤ) → Numbers
 numbersHeld x y = record { claim = claimHeld x; given = x .numbering .given; number = y; mark = marksHeld x }
 
@@ -60,14 +65,15 @@ readMore g e = record { setting = g .setting; point = g .point; list = extendStr
 abbrev pub claimed : ℕ → Numbering
 claimed k = record { claim = k; given = 0; marks = replicate 4 0 }
 
--- One node number more is given. The number 1 sets the mark of its vertex, also where the numbers are potentials: no rule then looks at marks.
+-- The marks with the number z of the vertex v. The number 1 sets the mark, also where the numbers are potentials: no rule then looks at marks (PANEL 5).
 abbrev pub marksAfter : List ℕ → ℕ → ℤ → List ℕ
 marksAfter words v z = pick (eqZ z (pos 1)) (withMark words v) words
 
+-- One node number more is given.
 abbrev pub numberMore : Numbering → ℤ → Numbering
 numberMore g z = record { claim = g .claim; given = g .given + 1; marks = marksAfter (g .marks) (g .given) z }
 
--- One arc more is repeated: the list, the total cost, and the capacity from mark 1 to mark 0.
+-- One arc more is repeated: it joins the list, the total cost, and, where it leads out of the marked side, the capacity of the cut.
 abbrev pub repeatMore : State → Load → Repeating
 repeatMore x l = record {
   list = extendStream (x .reading .point) (x .repeating .list) (l .arc);
@@ -81,6 +87,7 @@ unrepeated = record { list = emptyStream; cost = pos 0; cut = pos 0 }
 
 -- ---- states
 
+-- The state of a phase and three groups.
 abbrev pub stateOf : ℕ → Reading → Numbering → Repeating → State
 stateOf ph a b c = record { phase = ph; reading = a; numbering = b; repeating = c }
 
@@ -88,7 +95,7 @@ stateOf ph a b c = record { phase = ph; reading = a; numbering = b; repeating = 
 abbrev pub begun : ℕ → HeldSetting → Point → Stream → State
 begun ph st r m = stateOf ph (record { setting = st; point = r; list = m }) (claimed 0) unrepeated
 
--- The state of a void session, which that of an ended one is too.
+-- The state of a session that is over, void or ended (PANEL 6).
 abbrev pub idle : State
 idle = begun 0 (record { question = 0; n = 0; s = 0; t = 0 }) (record { r = 0 }) emptyStream
 
@@ -98,48 +105,55 @@ idle = begun 0 (record { question = 0; n = 0; s = 0; t = 0 }) (record { r = 0 })
 abbrev pub held : Setting → HeldSetting
 held st = record { question = st .question; n = st .n; s = st .s; t = st .t }
 
+-- Opening (PANEL 6, checks 1 to 4).
 abbrev pub openChecks : Setting → Point → List Check
 openChecks st r = openingChecks st ++ 4 unless pointOk r ∷ []
 
+-- The state after opening: nothing is read.
 abbrev pub opened : Setting → Point → State
 opened st r = begun 1 (held st) r emptyStream
 
--- Reading a channel.
+-- Reading a channel (PANEL 6, checks 5 to 8).
 abbrev pub readChecks : State → Arc → List Check
 readChecks x e = 5 unless isReading x ∷ readingChecks (settingHeld x) (x .reading .list .count) e
 
+-- The state with one arc more read.
 abbrev pub withRead : State → Arc → State
 withRead x e = stateOf (x .phase) (readMore (x .reading) e) (x .numbering) (x .repeating)
 
--- Ending the reading.
+-- Ending the reading (PANEL 6, check 5).
 abbrev pub endChecks : State → List Check
 endChecks x = 5 unless isReading x ∷ []
 
+-- The state once the reading has ended.
 abbrev pub withEnd : State → State
 withEnd x = stateOf 2 (x .reading) (x .numbering) (x .repeating)
 
--- The claim.
+-- The claim (PANEL 6, checks 5 and 9).
 abbrev pub claimChecks : State → ℕ → List Check
 claimChecks x k = 5 unless hasRead x ∷ claimingChecks (settingHeld x) k
 
+-- The state with the claim k.
 abbrev pub withClaim : State → ℕ → State
 withClaim x k = stateOf 3 (x .reading) (claimed k) (x .repeating)
 
--- A node number.
+-- A node number (PANEL 6, checks 5 and 10).
 abbrev pub numberChecks : State → ℤ → List Check
 numberChecks x z = 5 unless isClaimed x ∷ numberingChecks (settingHeld x) (claimHeld x) (x .numbering .given) z
 
+-- The state with one node number more.
 abbrev pub withNumber : State → ℤ → State
 withNumber x z = stateOf (x .phase) (x .reading) (numberMore (x .numbering) z) (x .repeating)
 
--- A repeated channel; y gives the node numbers.
+-- A repeated channel (PANEL 6, checks 5 to 8, 11, 12); y gives the node numbers.
 abbrev pub repeatChecks : State → (ℕ → ℤ) → Load → List Check
 repeatChecks x y l = 5 unless isClaimed x ∷ repeatingChecks (settingHeld x) (numbersHeld x y) (x .reading .list .count) (x .repeating .list .count) l
 
+-- The state with one arc more repeated.
 abbrev pub withRepeat : State → Load → State
 withRepeat x l = stateOf (x .phase) (x .reading) (x .numbering) (repeatMore x l)
 
--- Finishing; u are the sums over the repeated arcs.
+-- Finishing (PANEL 6, checks 5, 13 to 16); u are the sums over the repeated arcs.
 abbrev pub finishChecks : State → (ℕ → ℤ) → Sums → List Check
 finishChecks x y u =
     5 unless isClaimed x

@@ -1,4 +1,4 @@
--- The steps on a state alone: what each makes of it.
+-- The steps on a state alone (PANEL 6): what each makes of it.
 -- Assumes nothing.
 use mathlib.Core.List.{List}
 use Prim.Native.Nat.{ℕ}
@@ -15,21 +15,26 @@ use Rattle.state.specs.declared.Turn.{Turn}
 abbrev pub turned : State → List Check → State → Turn
 turned x checks next = settle (λ k. record { state = x; why = k }) checks (record { state = next; why = 0 })
 
+-- Opening.
 unfoldable pub openTurn : Setting → Point → Turn
 openTurn st r = turned idle (openChecks st r) (opened st r)
 
+-- Reading a channel.
 unfoldable pub readTurn : State → Arc → Turn
 readTurn x e = turned x (readChecks x e) (withRead x e)
 
+-- Ending the reading.
 unfoldable pub endTurn : State → Turn
 endTurn x = turned x (endChecks x) (withEnd x)
 
+-- The claim.
 unfoldable pub claimTurn : State → ℕ → Turn
 claimTurn x k = turned x (claimChecks x k) (withClaim x k)
 
+-- A node number.
 unfoldable pub numberTurn : State → ℤ → Turn
 numberTurn x z = turned x (numberChecks x z) (withNumber x z)
 
--- y gives the node numbers.
+-- A repeated channel; y gives the node numbers.
 unfoldable pub repeatTurn : State → (ℕ → ℤ) → Load → Turn
 repeatTurn x y l = turned x (repeatChecks x y l) (withRepeat x l)

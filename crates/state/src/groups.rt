@@ -89,7 +89,7 @@ pub(crate) fn cost_after(cost: i64, unit: u32, x: u32) -> i64
     increase(cost, x * unit)
 }
 
-// Does an arc lead from mark 1 to mark 0?
+// Does an arc lead out of the marked side?
 pub(crate) fn leads_out(from: bool, to: bool) -> bool
     ensures { λ r. ⌜ r ≡ (from && not to) ⌝ }
 {

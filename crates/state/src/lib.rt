@@ -72,14 +72,14 @@ pub struct Numbering {
     marks: [u64; 4],
 }
 
-// The arcs that are repeated: their list, their cost, and the capacity of those from mark 1 to mark 0.
+// The arcs that are repeated: their list, their cost, and the capacity of the cut that the marks make.
 pub struct Repeating {
     list: Stream,
     cost: i64,
     cut: i64,
 }
 
-// phase: 1 reading is under way, 2 reading has just ended, 3 a claim stands; any other: void or ended.
+// phase (PANEL 6): 1 reading, 2 read, 3 claimed; any other: over.
 // Every group fills whole words: a gap would be copied in pieces at each step.
 pub struct State {
     phase: u64,
@@ -273,7 +273,7 @@ impl State {
         arc_check(st, arc)
     }
 
-    // The state with one arc more repeated, which leads from mark 1 to mark 0 or does not.
+    // The state with one arc more repeated, which leads out of the marked side or does not.
     fn with_repeat(mut self, crossing: bool, arc: Record, x: u32) -> State
         requires { ⌜ self .repeating .list .count < self .reading .list .count ⌝ }
         requires { ⌜ arc .weight ≤ 32767 ⌝ }

@@ -1,4 +1,4 @@
-// The checks of opening, of reading and of a node number in their order: 0, or the number of the first that refuses the step.
+// The checks of opening, of reading and of a node number in their order (PANEL 6): 0, or the number of the first that refuses the step.
 ghost use mathlib.Core.Path.{_≡_};
 ghost use mathlib.Core.List.{_∷_};
 ghost use lib.Dec.{eqb};

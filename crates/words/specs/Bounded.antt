@@ -9,9 +9,10 @@ use Rattle.prelude.specs.Integers.{between}
 abbrev pub small : ℤ → Bool
 small z = between (negℤ (pos 2305843009213693952)) (pos 2305843009213693952) z
 
--- The sum and the difference of small numbers; of others the first number, so that they are defined for every pair.
+-- The sum of small numbers; of others the first number, so that it is defined for every pair.
 abbrev pub boundedSum : ℤ → ℤ → ℤ
 boundedSum a b = pick (small a && small b) (a +ℤ b) a
 
+-- The difference of small numbers; of others the first number.
 abbrev pub boundedDifference : ℤ → ℤ → ℤ
 boundedDifference a b = pick (small a && small b) (a -ℤ b) a

@@ -1,4 +1,4 @@
-// Marks of vertices, one bit to a vertex, in four words of 64 bits.
+// Marks of vertices as the bits of four words of 64 (PANEL 5).
 ghost use mathlib.Core.Path.{_≡_};
 ghost use Prim.Native.Nat.{_+_, _-_};
 ghost use Rattle.words.specs.Marks.{isMarked, withMark};

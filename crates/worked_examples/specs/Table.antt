@@ -1,4 +1,4 @@
--- The worked examples R1 to R10 (document 01, Known waters): a table of inputs and outcomes, and what it means that the definitions yield the outcomes of an example.
+-- The worked examples R1 to R10 (PANEL 13), one table, and what it means that the definitions yield the outcomes of an example.
 -- Assumes nothing.
 use mathlib.Core.Path.{_≡_}
 use mathlib.Core.List.{List, [], _∷_, map}
@@ -37,6 +37,7 @@ pub record Taken : Type 0 where
   pub point : Point
 
 infix 68 _at-point_
+-- The fingerprint f, taken at the point r.
 abbrev pub _at-point_ : ℕ → ℕ → Taken
 _at-point_ f r = record { print = record { residue = f }; point = record { r = r } }
 
@@ -68,7 +69,7 @@ loads w = loadsOf (w .net) (w .amounts)
 abbrev pub annotation : Plan → List ℕ
 annotation w = annotationFile (claimNumber (claimFor (w .answer))) (w .numbers) (loads w)
 
--- The node numbers of a route are the example's: they are the least lengths. Those of another question are free (document 01, The strength of the contracts).
+-- The node numbers of a route are the example's: they are the least lengths. Those of another question the helper may choose (PANEL 9).
 abbrev pub SameNumbers : Question → List ℤ → List ℤ → Type 0
 SameNumbers shortestPath ys zs = ys ≡ zs
 SameNumbers maximumFlow ys zs = Unit {0}
@@ -215,6 +216,6 @@ R9 = record { read = arcOf 0 1 2 ∷ arcOf 0 1 4 ∷ []; repeated = arcOf 0 1 3 
 abbrev pub R10 : Product
 R10 = record { arc = arcOf 254 253 32767; key = 2139029503; prints = [] }
 
--- The table.
+-- The table (PANEL 13).
 abbrev pub table : List Example
 table = plan R1 ∷ plan R2 ∷ plan R3 ∷ plan R4 ∷ plan R5 ∷ plan R6 ∷ product R7 ∷ meeting R8 ∷ meeting R9 ∷ product R10 ∷ []
