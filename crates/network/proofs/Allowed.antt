@@ -1,7 +1,7 @@
--- The tests of checks 1, 2, 3, 6, 7 and 8 hold exactly where opening and reading allow.
+-- The tests of checks 1, 2, 3, 6, 7, 8 and 9 hold exactly where their rules do.
 -- Assumes nothing.
 use mathlib.Core.Path.{_≡_, refl, sym, _∙_, ap}
-use mathlib.Core.Logic.{_≢_}
+use mathlib.Core.Logic.{_≢_, _⊎_, inl, inr}
 use mathlib.Core.Bool.{Bool, not, _&&_}
 use mathlib.Core.List.{List, [], _∷_, _++_}
 use Prim.Native.Nat.{ℕ, suc, _+_, _%_, _≤_}
@@ -18,7 +18,8 @@ use Rattle.prelude.proofs.Settle.{hold-append, Numbered, numbered-append}
 use Rattle.network.specs.Limits.{mostVertices, mostArcs, mostWeight}
 use Rattle.network.specs.Network.{Arc}
 use Rattle.network.specs.Question.{Question, shortestPath, maximumFlow, assignment, questionOf, unasked, Setting, asks, pumps, Asked, EvenFor, Sized, TwoVertices, EndsFor, Opened, SidesFor, Joins, WeightWithin, Allowed}
-use Rattle.network.specs.Tests.{isAsked, evenFor, sizeOk, twoVertices, endsFor, endsOk, openingChecks, sidesFor, joinsOk, weightOk, arcChecks, readingChecks, readingAll}
+use Rattle.network.specs.Certificate.{rulesFor, MayClaim}
+use Rattle.network.specs.Tests.{isAsked, evenFor, sizeOk, twoVertices, endsFor, endsOk, openingChecks, sidesFor, joinsOk, weightOk, arcChecks, readingChecks, readingAll, claimOf, claimOk}
 
 -- ---- numbers that differ
 
@@ -33,13 +34,13 @@ eq→T a b e = rw e (eqb-refl b)
 
 -- ---- 1
 
-asked-rule : (q : Question) → T (isAsked q) → Asked q
+pub asked-rule : (q : Question) → T (isAsked q) → Asked q
 asked-rule shortestPath t = tt
 asked-rule maximumFlow t = tt
 asked-rule assignment t = tt
 asked-rule unasked t = absurd t
 
-asked-test : (q : Question) → Asked q → T (isAsked q)
+pub asked-test : (q : Question) → Asked q → T (isAsked q)
 asked-test shortestPath h = tt
 asked-test maximumFlow h = tt
 asked-test assignment h = tt
@@ -174,6 +175,39 @@ weight-rule e t = leb→le (e .weight) mostWeight t
 
 pub weight-test : (e : Arc) → WeightWithin e → T (weightOk e)
 weight-test e h = le→leb (e .weight) mostWeight h
+
+-- ---- 9
+
+-- a claim that has a number is 1 or 2
+one-or-two : (k : ℕ) → T (leb 1 k && leb k 2) → (k ≡ 1) ⊎ (k ≡ 2)
+one-or-two k t = go (ℕ-discrete k 1)
+  where
+    go : Dec (k ≡ 1) → (k ≡ 1) ⊎ (k ≡ 2)
+    go (yes e) = inl e
+    go (no n) = inr (omega (arith, leb→le 1 k (and-left (leb 1 k) (leb k 2) t), leb→le k 2 (and-right (leb 1 k) (leb k 2) t)))
+
+claim-rule-for : (q : Question) (k : ℕ) → (k ≡ 1) ⊎ (k ≡ 2) → T (rulesFor q (claimOf k) .admitted) → MayClaim q k
+claim-rule-for shortestPath k d a = d
+claim-rule-for maximumFlow k (inl e) a = e
+claim-rule-for maximumFlow k (inr e) a = absurd (rw e at a)
+claim-rule-for assignment k d a = d
+claim-rule-for unasked k d a = a
+
+pub claim-rule : (st : Setting) (k : ℕ) → T (claimOk st k) → MayClaim (asks st) k
+claim-rule st k t =
+    let named = leb 1 k && leb k 2 in
+    claim-rule-for (asks st) k (one-or-two k (and-left named (rulesFor (asks st) (claimOf k) .admitted) t)) (and-right named (rulesFor (asks st) (claimOf k) .admitted) t)
+
+claim-test-for : (q : Question) (k : ℕ) → MayClaim q k → T ((leb 1 k && leb k 2) && rulesFor q (claimOf k) .admitted)
+claim-test-for shortestPath k (inl e) = rw e tt
+claim-test-for shortestPath k (inr e) = rw e tt
+claim-test-for maximumFlow k e = rw e tt
+claim-test-for assignment k (inl e) = rw e tt
+claim-test-for assignment k (inr e) = rw e tt
+claim-test-for unasked k h = absurd h
+
+pub claim-test : (st : Setting) (k : ℕ) → MayClaim (asks st) k → T (claimOk st k)
+claim-test st k h = claim-test-for (asks st) k h
 
 -- ---- together: opening and reading accept exactly what the rules allow
 

@@ -1,6 +1,8 @@
 -- The promises of specs/Promises.antt, kept.
 -- Assumes nothing.
-use Rattle.network.specs.Promises.{OneAnswer, AnyOrder, Sound, TestsSuffice, TestsNeeded, KeysTell, KeysBelow, KeysDiffer}
+use Rattle.network.specs.Question.{asks}
+use Rattle.network.specs.Promises.{OneAnswer, AnyOrder, Sound, TestsMean, TestsSuffice, TestsNeeded, KeysTell, KeysBelow, KeysDiffer}
+use Rattle.network.proofs.Allowed.{asked-rule, asked-test, size-rule, size-test, ends-rule, ends-test, joins-rule, joins-test, weight-rule, weight-test, claim-rule, claim-test}
 use Rattle.network.proofs.Orders.{unique, any-order}
 use Rattle.network.proofs.Sound.{sound}
 use Rattle.network.proofs.Tests.{passed-certified, certified-passed, certified-answer}
@@ -15,6 +17,16 @@ order-free st net new d a h = any-order st d a h
 
 pub certificates-sound : Sound
 certificates-sound = sound
+
+pub tests-mean : TestsMean
+tests-mean = record {
+  check-1 = λ st. (asked-rule (asks st), asked-test (asks st));
+  check-2 = λ st. (size-rule st, size-test st);
+  check-3 = λ st. (ends-rule st, ends-test st);
+  check-7 = λ st e. (joins-rule st e, joins-test st e);
+  check-8 = λ e. (weight-rule e, weight-test e);
+  check-9 = λ st k. (claim-rule st k, claim-test st k);
+}
 
 pub tests-suffice : TestsSuffice
 tests-suffice st c y f o p = passed-certified st c y f p

@@ -1,6 +1,7 @@
 -- The certificates (PANEL 5): what is asked of node numbers y, one for each vertex, and of the arcs with amounts, f. One row of rules for each question and claim.
 -- Assumes nothing.
 use mathlib.Core.Path.{_≡_}
+use mathlib.Core.Logic.{_⊎_}
 use mathlib.Core.Bool.{Bool, true, false, not, _&&_}
 use mathlib.Core.List.{List}
 use Prim.Native.Nat.{ℕ, _+_, _≤_, _<_}
@@ -193,6 +194,13 @@ rulesFor unasked c = noRules
 -- The rules for the question of a setting and a claim.
 abbrev pub rulesOf : Setting → Claim → Rules
 rulesOf st c = rulesFor (asks st) c
+
+-- The numbers of the claims that may be made (PANEL 6, check 9): a value, or none but for a discharge.
+abbrev pub MayClaim : Question → ℕ → Type 0
+MayClaim shortestPath k = (k ≡ 1) ⊎ (k ≡ 2)
+MayClaim maximumFlow k = k ≡ 1
+MayClaim assignment k = (k ≡ 1) ⊎ (k ≡ 2)
+MayClaim unasked k = ⊥
 
 -- ---- meeting a certificate
 

@@ -1,16 +1,18 @@
 -- What is promised of questions and certificates; proofs/Promises.antt keeps it.
 -- Assumes nothing.
 use mathlib.Core.Path.{_≡_}
+use mathlib.Core.Logic.{_↔_}
 use mathlib.Core.List.{List, map}
 use Prim.Native.Nat.{ℕ, _<_}
+use lib.Dec.{T}
 use lib.IntN.{ℤ}
 use Rattle.prelude.specs.Lists.{Every, Perm}
 use Rattle.field.specs.Field.{p}
 use Rattle.network.specs.Limits.{mostVertices}
 use Rattle.network.specs.Network.{Arc, Load, arcs, key}
-use Rattle.network.specs.Question.{Setting, asks, Opened, Allowed, WeightWithin, Answer, TrueAnswer}
-use Rattle.network.specs.Certificate.{Claim, claimFor, marked, sumsOf, Certified}
-use Rattle.network.specs.Tests.{answerOf, Passed}
+use Rattle.network.specs.Question.{Setting, asks, Asked, Sized, EndsFor, Opened, Joins, Allowed, WeightWithin, Answer, TrueAnswer}
+use Rattle.network.specs.Certificate.{Claim, MayClaim, claimFor, marked, sumsOf, Certified}
+use Rattle.network.specs.Tests.{isAsked, sizeOk, endsOk, joinsOk, weightOk, claimOk, answerOf, Passed}
 
 -- There is one true answer at most (PANEL 3).
 abbrev pub OneAnswer : Type 0
@@ -25,6 +27,15 @@ abbrev pub Sound : Type 0
 Sound =
     (st : Setting) (net : List Arc) (y : ℕ → ℤ) (f : List Load) (a : Answer)
     → Opened st → Every (Allowed st) net → Perm (arcs f) net → Certified st y f a → TrueAnswer st net a
+
+-- What the tests of opening, of an arc and of a claim mean (PANEL 6): each holds exactly where the rule of its check does.
+pub record TestsMean : Type 0 where
+  pub check-1 : (st : Setting) → T (isAsked (asks st)) ↔ Asked (asks st)
+  pub check-2 : (st : Setting) → T (sizeOk st) ↔ Sized st
+  pub check-3 : (st : Setting) → T (endsOk st) ↔ EndsFor (asks st) st
+  pub check-7 : (st : Setting) (e : Arc) → T (joinsOk st e) ↔ Joins st e
+  pub check-8 : (e : Arc) → T (weightOk e) ↔ WeightWithin e
+  pub check-9 : (st : Setting) (k : ℕ) → T (claimOk st k) ↔ MayClaim (asks st) k
 
 -- An annotation that passes every test meets every rule of the certificate for the answer that the tests give.
 abbrev pub TestsSuffice : Type 0

@@ -5,7 +5,7 @@ use Rattle.network.specs.Question.{value, none}
 use Rattle.state.specs.Answers.{Said, accepted, gives, refused}
 use Rattle.helper.specs.Helper.{HelperSaid, wrote, declined}
 
--- Below 4294967296 the value, 4294967296 for none, that plus k for the refusal k. Judging never says that it accepts.
+-- The value as it is, 4294967296 for none, that plus k for the refusal k. Judging never says that it accepts.
 abbrev pub saidCode : Said → ℕ
 saidCode (gives (value v)) = v
 saidCode (gives none) = 4294967296
