@@ -13,7 +13,7 @@ use Rattle.network.specs.Certificate.{marked}
 use Rattle.points.specs.Points.{printOf}
 use Rattle.points.specs.declared.Point.{Point}
 use Rattle.points.specs.declared.Stream.{Stream}
-use Rattle.state.specs.State.{marksAfter, stateOf, held}
+use Rattle.state.specs.State.{phaseReading, phaseRead, phaseClaimed, marksAfter, stateOf, held}
 use Rattle.session.specs.Session.{joined, holding, void}
 use Rattle.session.specs.declared.Session.{Session}
 use Rattle.runs.specs.AcceptedLists.{AcceptedLists, over, reading, hasRead, certifying}
@@ -33,10 +33,10 @@ marksOf ys = marksFrom 0 (replicate 4 0) ys
 -- The session that holds what is accepted in a setting at a point.
 abbrev pub sessionOf : Setting → Point → AcceptedLists → Session
 sessionOf st r over = void
-sessionOf st r (reading l) = holding 1 (held st) r (streamOf r l)
-sessionOf st r (hasRead l) = holding 2 (held st) r (streamOf r l)
+sessionOf st r (reading l) = holding phaseReading (held st) r (streamOf r l)
+sessionOf st r (hasRead l) = holding phaseRead (held st) r (streamOf r l)
 sessionOf st r (certifying l k ys f) = joined (listTo mostVertices (at ys)) (listTo mostVertices (λ v. balance v f))
-    (stateOf 3 (record { setting = held st; point = r; list = streamOf r l })
+    (stateOf phaseClaimed (record { setting = held st; point = r; list = streamOf r l })
     (record { claim = k; given = length ys; marks = marksOf ys })
     (record {
       list = streamOf r (arcs f);

@@ -25,19 +25,37 @@ use Rattle.state.specs.declared.Reading.{Reading}
 use Rattle.state.specs.declared.Repeating.{Repeating}
 use Rattle.state.specs.declared.State.{State}
 
+-- ---- the phases, each with its number (PANEL 6)
+
+-- Over; so is a session with any number but the other three.
+abbrev pub phaseOver : ℕ
+phaseOver = 0
+
+-- Reading: arcs are read.
+abbrev pub phaseReading : ℕ
+phaseReading = 1
+
+-- Read: the reading has ended, and no claim stands yet.
+abbrev pub phaseRead : ℕ
+phaseRead = 2
+
+-- Claimed: a claim stands.
+abbrev pub phaseClaimed : ℕ
+phaseClaimed = 3
+
 -- ---- what a state says
 
--- The phase reading (PANEL 6), number 1.
+-- Is reading under way?
 abbrev pub isReading : State → Bool
-isReading x = eqb (x .phase) 1
+isReading x = eqb (x .phase) phaseReading
 
--- The phase read, number 2: no claim stands yet.
+-- Has reading just ended?
 abbrev pub hasRead : State → Bool
-hasRead x = eqb (x .phase) 2
+hasRead x = eqb (x .phase) phaseRead
 
--- The phase claimed, number 3. In any other phase the session is over.
+-- Does a claim stand?
 abbrev pub isClaimed : State → Bool
-isClaimed x = eqb (x .phase) 3
+isClaimed x = eqb (x .phase) phaseClaimed
 
 -- The setting that was opened.
 abbrev pub settingHeld : State → Setting
@@ -97,7 +115,7 @@ begun ph st r m = stateOf ph (record { setting = st; point = r; list = m }) (cla
 
 -- The state of a session that is over, void or ended (PANEL 6).
 abbrev pub idle : State
-idle = begun 0 (record { question = 0; n = 0; s = 0; t = 0 }) (record { r = 0 }) emptyStream
+idle = begun phaseOver (record { question = 0; n = 0; s = 0; t = 0 }) (record { r = 0 }) emptyStream
 
 -- ---- opening and the six steps: the checks in their order, and the next state
 
@@ -111,7 +129,7 @@ openChecks st r = openingChecks st ++ 4 unless pointOk r ∷ []
 
 -- The state after opening: nothing is read.
 abbrev pub opened : Setting → Point → State
-opened st r = begun 1 (held st) r emptyStream
+opened st r = begun phaseReading (held st) r emptyStream
 
 -- Reading a channel (PANEL 6, checks 5 to 8).
 abbrev pub readChecks : State → Arc → List Check
@@ -127,7 +145,7 @@ endChecks x = 5 unless isReading x ∷ []
 
 -- The state once the reading has ended.
 abbrev pub withEnd : State → State
-withEnd x = stateOf 2 (x .reading) (x .numbering) (x .repeating)
+withEnd x = stateOf phaseRead (x .reading) (x .numbering) (x .repeating)
 
 -- The claim (PANEL 6, checks 5 and 9).
 abbrev pub claimChecks : State → ℕ → List Check
@@ -135,7 +153,7 @@ claimChecks x k = 5 unless hasRead x ∷ claimingChecks (settingHeld x) k
 
 -- The state with the claim k.
 abbrev pub withClaim : State → ℕ → State
-withClaim x k = stateOf 3 (x .reading) (claimed k) (x .repeating)
+withClaim x k = stateOf phaseClaimed (x .reading) (claimed k) (x .repeating)
 
 -- A node number (PANEL 6, checks 5 and 10).
 abbrev pub numberChecks : State → ℤ → List Check

@@ -9,6 +9,7 @@ ghost use Rattle.network.specs.Network.{arcHeld};
 ghost use Rattle.points.specs.Points.{emptyStream, extendStream};
 ghost use Rattle.state.specs.State.{claimed, numberMore, unrepeated, begun, idle};
 use super::Numbering;
+use super::OVER;
 use super::Reading;
 use super::Repeating;
 use super::State;
@@ -136,5 +137,5 @@ pub fn idle() -> State
         s: 0,
         t: 0,
     };
-    begun(0, setting, Point { r: 0 })
+    begun(OVER, setting, Point { r: 0 })
 }

@@ -79,7 +79,15 @@ pub struct Repeating {
     cut: i64,
 }
 
-// phase (PANEL 6): 1 reading, 2 read, 3 claimed; any other: over.
+// The phases of a session (PANEL 6); one with any other number is over, too.
+pub(crate) const OVER: u64 = 0;
+
+pub(crate) const READING: u64 = 1;
+
+pub(crate) const READ: u64 = 2;
+
+pub(crate) const CLAIMED: u64 = 3;
+
 // Every group fills whole words: a gap would be copied in pieces at each step.
 pub struct State {
     phase: u64,
@@ -127,7 +135,7 @@ impl State {
             t: o.t as u8,
         };
         Turn {
-            state: begun(1, setting, point),
+            state: begun(READING, setting, point),
             why: 0,
         }
     }
@@ -159,13 +167,13 @@ impl State {
         ensures { λ r. ⌜ r ≡ endTurn self ⌝ }
     {
         let phase = self.phase;
-        if phase != 1 {
+        if phase != READING {
             return Turn {
                 state: self,
                 why: 5,
             };
         }
-        self.phase = 2;
+        self.phase = READ;
         Turn {
             state: self,
             why: 0,
@@ -178,7 +186,7 @@ impl State {
     {
         let phase = self.phase;
         let reading = self.reading;
-        if phase != 2 {
+        if phase != READ {
             return Turn {
                 state: self,
                 why: 5,
@@ -190,7 +198,7 @@ impl State {
                 why: 9,
             };
         }
-        self.phase = 3;
+        self.phase = CLAIMED;
         self.numbering = claimed(claim);
         Turn {
             state: self,
@@ -237,7 +245,7 @@ impl State {
         ensures { λ r. ⌜ r ≡ (isClaimed self && not (eqb why 5)) ⌝ }
     {
         let phase = self.phase;
-        if phase != 3 {
+        if phase != CLAIMED {
             return false;
         }
         why != 5
@@ -261,7 +269,7 @@ impl State {
         let numbering = self.numbering;
         let repeating = self.repeating;
         let st = reading.setting;
-        if self.phase != 3 {
+        if self.phase != CLAIMED {
             return 5;
         }
         if numbering.given != st.n as u32 {
@@ -335,7 +343,7 @@ impl State {
         let numbering = self.numbering;
         let repeating = self.repeating;
         let st = reading.setting;
-        if self.phase != 3 {
+        if self.phase != CLAIMED {
             return 5;
         }
         if numbering.given != st.n as u32 {

@@ -6,7 +6,9 @@ ghost use Rattle.prelude.specs.Checks.{_unless_, firstBroken};
 ghost use Rattle.network.specs.Network.{arcHeld};
 ghost use Rattle.network.specs.Tests.{readingChecks, claimOf, numberingChecks};
 ghost use Rattle.checks.specs.Held.{handed, asked};
-ghost use Rattle.state.specs.State.{openChecks};
+ghost use Rattle.state.specs.State.{phaseReading, phaseClaimed, openChecks};
+use super::CLAIMED;
+use super::READING;
 use checks::HeldSetting;
 use checks::Opening;
 use checks::reading::opening_check;
@@ -32,9 +34,9 @@ pub(crate) fn open_check(o: Opening, point: Point) -> u8
 
 // An arc to be read: 5 to 8.
 pub(crate) fn read_check(phase: u64, st: HeldSetting, count: u32, arc: Record) -> u8
-    ensures { λ r. ⌜ r ≡ firstBroken (5 unless eqb phase 1 ∷ readingChecks (asked st) count (arcHeld arc)) ⌝ }
+    ensures { λ r. ⌜ r ≡ firstBroken (5 unless eqb phase phaseReading ∷ readingChecks (asked st) count (arcHeld arc)) ⌝ }
 {
-    if phase != 1 {
+    if phase != READING {
         return 5;
     }
     reading_check(st, count, arc)
@@ -42,10 +44,10 @@ pub(crate) fn read_check(phase: u64, st: HeldSetting, count: u32, arc: Record) -
 
 // A node number: 5 or 10.
 pub(crate) fn number_check(phase: u64, st: HeldSetting, claim: u32, given: u32, y: i32) -> u8
-    ensures { λ r. ⌜ r ≡ firstBroken (5 unless eqb phase 3 ∷ numberingChecks (asked st) (claimOf claim) given y) ⌝ }
+    ensures { λ r. ⌜ r ≡ firstBroken (5 unless eqb phase phaseClaimed ∷ numberingChecks (asked st) (claimOf claim) given y) ⌝ }
 {
     let n = st.n as u32;
-    if phase != 3 {
+    if phase != CLAIMED {
         return 5;
     }
     if n <= given {
