@@ -23,7 +23,7 @@ use Rattle.network.specs.Tests.{arcChecks, readingChecks, claimOf, claimOk, cla
 use Rattle.network.proofs.Allowed.{arc-rule}
 use Rattle.runs.specs.Run.{Step, read, end, claim, number, repeat, finish}
 use Rattle.runs.specs.Exchange.{Readable}
-use Rattle.runs.specs.AcceptedLists.{AcceptedLists, over, reading, hasRead, certifying, isClaimed, numbersOf, stepChecks, withStep, afterRefusal, next}
+use Rattle.runs.specs.AcceptedLists.{AcceptedLists, over, reading, hasRead, claimed, isClaimed, numbersOf, stepChecks, withStep, afterRefusal, next}
 
 -- a repeated arc with its amount that passes checks 7, 8, 11 and 12
 pub record LoadPassed (st : Setting) (a : Numbers) (b : Load) : Type 0 where
@@ -45,7 +45,7 @@ abbrev pub Invariant : Setting → AcceptedLists → Type 0
 Invariant st over = Unit {0}
 Invariant st (reading l) = Readable st l
 Invariant st (hasRead l) = Readable st l
-Invariant st (certifying l k ys f) = AnnotationPassed st l k ys f
+Invariant st (claimed l k ys f) = AnnotationPassed st l k ys f
 
 -- what holds of every refusal, and of the value where the checks hold
 pub settle-keeps : {A : Type 0} (P : A → Type 0) (g : ℕ → A) (cs : List Check) (v : A) → ((k : ℕ) → P (g k)) → (Hold cs → P v) → P (settle g cs v)
@@ -143,12 +143,12 @@ module _ (st : Setting) where
       }
       more (hasRead l) g (number z) h = absurd (h .0)
       more (hasRead l) g (repeat b) h = absurd (h .0)
-      more (certifying l k ys f) g (read e) h = absurd (h .0)
-      more (certifying l k ys f) g end h = absurd (h .0)
-      more (certifying l k ys f) g (claim j) h = absurd (h .0)
-      more (certifying l k ys f) g (number z) h = number-more l k ys f g z (h .1)
-      more (certifying l k ys f) g (repeat b) h = repeat-more l k ys f g b (h .1)
+      more (claimed l k ys f) g (read e) h = absurd (h .0)
+      more (claimed l k ys f) g end h = absurd (h .0)
+      more (claimed l k ys f) g (claim j) h = absurd (h .0)
+      more (claimed l k ys f) g (number z) h = number-more l k ys f g z (h .1)
+      more (claimed l k ys f) g (repeat b) h = repeat-more l k ys f g b (h .1)
       more over g finish h = tt
       more (reading l) g finish h = tt
       more (hasRead l) g finish h = tt
-      more (certifying l k ys f) g finish h = tt
+      more (claimed l k ys f) g finish h = tt

@@ -33,7 +33,7 @@ use Rattle.points.proofs.Promises.{same-everywhere}
 use Rattle.state.specs.Answers.{Said, accepted, gives, refused}
 use Rattle.runs.specs.Run.{Step, read, end, claim, number, repeat, finish, runFrom, listRead}
 use Rattle.runs.specs.Exchange.{exchange, last, numberingAll, repeatingAll, annotationRules, finalRules, verdict, Opens, Readable, Meets, MeetsAll}
-use Rattle.runs.specs.AcceptedLists.{AcceptedLists, over, reading, hasRead, certifying, repeatedIn, numbersOf, sumsAt, agreeAt, stepChecks, acceptedSays, reply, acceptedBy, ReadIs}
+use Rattle.runs.specs.AcceptedLists.{AcceptedLists, over, reading, hasRead, claimed, repeatedIn, numbersOf, sumsAt, agreeAt, stepChecks, acceptedSays, reply, acceptedBy, ReadIs}
 use Rattle.runs.specs.Promises.{AnswersExactly, TrueWhereSame, ExchangeGives, ExchangeFinishes, ExchangeTrue, CertificatesPass}
 use Rattle.runs.proofs.FirstAndLast.{no-answer}
 use Rattle.runs.proofs.Invariant.{LoadPassed, AnnotationPassed, settle-keeps, repeat-passed}
@@ -150,10 +150,10 @@ module _ (st : Setting) where
         let full : T (eqb (length ys) (st .n)) = rw (m .one-each) (eqb-refl (st .n)) in
         let number = number-holds c ys 0 (omega (arith, m .one-each)) (λ j v e b. subst (λ (i : ℕ). T (nodeOk st c i (at ys j))) (omega arith) (node j (omega (arith, m .one-each)))) in
         let repeat = repeat-holds (numbersOf c ys) (length net) full f 0 record { records = m .records; amounts = passed .amounts; rules = passed .on-arcs; room = omega (arith, m .as-many) } in
-        let claimed : T (claimOk st k) = rw (m .claims) (claim-fits st (claimFor a) (m .certificate .admitted)) in
+        let admitted : T (claimOk st k) = rw (m .claims) (claim-fits st (claimFor a) (m .certificate .admitted)) in
         let same = print-same (printOf r net) (printOf r (arcs f)) (m .fingerprints) in
         let final : Hold (finalRules st r net k ys f) = (full, (le→leb (length net) (length f) (omega (arith, m .as-many)), (same, (passed .balances, (passed .sums, tt))))) in
-        ((claimed, hold-append numberRules repeatRules number repeat), final, ap (λ (d : Claim). answerOf st d (sumsAt st ys f)) (sym same-claim) ∙ sym (certified-answer st (at ys) f a (m .certificate)))
+        ((admitted, hold-append numberRules repeatRules number repeat), final, ap (λ (d : Claim). answerOf st d (sumsAt st ys f)) (sym same-claim) ∙ sym (certified-answer st (at ys) f a (m .certificate)))
       where
         same-claim : claimFor a ≡ c
         same-claim = sym (claim-of-number (claimFor a)) ∙ ap claimOf (sym (m .claims))
@@ -219,17 +219,17 @@ module _ (st : Setting) (r : Point) where
   reply-exactly over g finish v = (λ d. absurd (no-answer 5 v d), λ w. absurd (w .1))
   reply-exactly (reading l) g finish v = (λ d. absurd (no-answer 5 v d), λ w. absurd (w .1))
   reply-exactly (hasRead l) g finish v = (λ d. absurd (no-answer 5 v d), λ w. absurd (w .1))
-  reply-exactly (certifying l k ys f) (running o g) finish v = (to, from)
+  reply-exactly (claimed l k ys f) (running o g) finish v = (to, from)
     where
       final : List Check
       final = finalRules st r l k ys f
 
-      to : reply (agreeAt r) st (certifying l k ys f) finish ≡ gives v → (finish ≡ finish) × Meets st r l k ys f v
+      to : reply (agreeAt r) st (claimed l k ys f) finish ≡ gives v → (finish ≡ finish) × Meets st r l k ys f v
       to d =
           let u = gives-held final (answerOf st (claimOf k) (sumsAt st ys f)) v d in
           (refl, subst (Meets st r l k ys f) (u .1) (meets st l k ys f g r (u .0)))
 
-      from : (finish ≡ finish) × Meets st r l k ys f v → reply (agreeAt r) st (certifying l k ys f) finish ≡ gives v
+      from : (finish ≡ finish) × Meets st r l k ys f v → reply (agreeAt r) st (claimed l k ys f) finish ≡ gives v
       from w = let u = holds st r l k ys f v (w .1) in settled refused final (gives (answerOf st (claimOf k) (sumsAt st ys f))) (u .1) ∙ ap gives (u .2)
 
   -- what meets every rule over the arcs that were read, in any order, is true
@@ -237,7 +237,7 @@ module _ (st : Setting) (r : Point) where
   met-truly over net v g e d m = absurd m
   met-truly (reading l) net v g e d m = absurd m
   met-truly (hasRead l) net v g e d m = absurd m
-  met-truly (certifying l k ys f) net v (running o g) e d m =
+  met-truly (claimed l k ys f) net v (running o g) e d m =
       certificates-sound st net (at ys) f v o (subst (Every (Allowed st)) e (g .list .allowed)) d (m .certificate)
 
 pub answers-exactly : AnswersExactly

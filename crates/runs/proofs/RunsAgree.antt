@@ -27,7 +27,7 @@ use Rattle.session.specs.Steps.{opening}
 use Rattle.session.specs.declared.Reply.{Reply}
 use Rattle.session.specs.declared.Session.{Session}
 use Rattle.runs.specs.Run.{Step, read, end, claim, number, repeat, finish, step, run, sessionAfter, runFrom, answerTo, listFrom}
-use Rattle.runs.specs.AcceptedLists.{AcceptedLists, over, reading, hasRead, certifying, numbersOf, sumsAt, agreeAt, stepChecks, afterRefusal, next, reply, replies, acceptedAfter, openedLists, acceptedBy, ReadIs}
+use Rattle.runs.specs.AcceptedLists.{AcceptedLists, over, reading, hasRead, claimed, numbersOf, sumsAt, agreeAt, stepChecks, afterRefusal, next, reply, replies, acceptedAfter, openedLists, acceptedBy, ReadIs}
 use Rattle.runs.specs.HeldAtPoint.{sessionOf}
 use Rattle.runs.specs.Exchange.{Opens}
 use Rattle.runs.specs.Promises.{OpeningAnswers, AnswersOfLists, HoldsAccepted, PointUnseen, ReadAsListed}
@@ -141,9 +141,9 @@ ended-blindly x true true true true false = refl
 ended-blindly x true true true true true = refl
 
 pub finish-leaves : (agree : List Arc → List Arc → Bool) (st : Setting) (l : List Arc) (k : ℕ) (ys : List ℤ) (f : List Load)
-    → next agree st (certifying l k ys f) finish ≡ pick (eqb (length ys) (st .n)) over (certifying l k ys f)
+    → next agree st (claimed l k ys f) finish ≡ pick (eqb (length ys) (st .n)) over (claimed l k ys f)
 finish-leaves agree st l k ys f =
-    ended-blindly (certifying l k ys f) (eqb (length ys) (st .n)) (leb (length l) (length f)) (agree l (arcs f)) (balancesOk st (claimOf k) (sumsAt st ys f)) (sumsOk st (numbersOf (claimOf k) ys) (sumsAt st ys f))
+    ended-blindly (claimed l k ys f) (eqb (length ys) (st .n)) (leb (length l) (length f)) (agree l (arcs f)) (balancesOk st (claimOf k) (sumsAt st ys f)) (sumsOk st (numbersOf (claimOf k) ys) (sumsAt st ys f))
 
 module _ (agree other : List Arc → List Arc → Bool) (st : Setting) where
   blind-next : (x : AcceptedLists) (a : Step) → next agree st x a ≡ next other st x a
@@ -155,7 +155,7 @@ module _ (agree other : List Arc → List Arc → Bool) (st : Setting) where
   blind-next over finish = refl
   blind-next (reading l) finish = refl
   blind-next (hasRead l) finish = refl
-  blind-next (certifying l k ys f) finish = finish-leaves agree st l k ys f ∙ sym (finish-leaves other st l k ys f)
+  blind-next (claimed l k ys f) finish = finish-leaves agree st l k ys f ∙ sym (finish-leaves other st l k ys f)
 
   blind-after : (steps : List Step) (x : AcceptedLists) → acceptedAfter agree st x steps ≡ acceptedAfter other st x steps
   unfolding acceptedAfter
@@ -181,7 +181,7 @@ module _ (st : Setting) (net : List Arc) where
   WillRead steps over = Unit {0}
   WillRead steps (reading l) = listFrom st l steps ≡ net
   WillRead steps (hasRead l) = l ≡ net
-  WillRead steps (certifying l k ys f) = l ≡ net
+  WillRead steps (claimed l k ys f) = l ≡ net
 
   module _ (agree : List Arc → List Arc → Bool) where
     pub will-read-next : (steps : List Step) (x : AcceptedLists) (a : Step) → WillRead (a ∷ steps) x → WillRead steps (next agree st x a)
@@ -196,29 +196,29 @@ module _ (st : Setting) (net : List Arc) where
     will-read-next steps (hasRead l) (read e) fit = fit
     will-read-next steps (hasRead l) end fit = fit
     will-read-next steps (hasRead l) (claim k) fit =
-        settle-keeps (WillRead steps) (λ why. hasRead l) (claimingChecks st k) (certifying l k [] []) (λ why. fit) (λ h. fit)
+        settle-keeps (WillRead steps) (λ why. hasRead l) (claimingChecks st k) (claimed l k [] []) (λ why. fit) (λ h. fit)
     will-read-next steps (hasRead l) (number z) fit = fit
     will-read-next steps (hasRead l) (repeat b) fit = fit
     will-read-next steps (hasRead l) finish fit = fit
-    will-read-next steps (certifying l k ys f) (read e) fit = fit
-    will-read-next steps (certifying l k ys f) end fit = fit
-    will-read-next steps (certifying l k ys f) (claim j) fit = fit
-    will-read-next steps (certifying l k ys f) (number z) fit =
-        settle-keeps (WillRead steps) (afterRefusal (certifying l k ys f)) (stepChecks agree st (certifying l k ys f) (number z)) (certifying l k (ys ++ z ∷ []) f)
-        (refusal-keeps (WillRead steps) (certifying l k ys f) fit tt) (λ h. fit)
-    will-read-next steps (certifying l k ys f) (repeat b) fit =
-        settle-keeps (WillRead steps) (afterRefusal (certifying l k ys f)) (stepChecks agree st (certifying l k ys f) (repeat b)) (certifying l k ys (f ++ b ∷ []))
-        (refusal-keeps (WillRead steps) (certifying l k ys f) fit tt) (λ h. fit)
-    will-read-next steps (certifying l k ys f) finish fit =
-        settle-keeps (WillRead steps) (afterRefusal (certifying l k ys f)) (stepChecks agree st (certifying l k ys f) finish) over
-        (refusal-keeps (WillRead steps) (certifying l k ys f) fit tt) (λ h. tt)
+    will-read-next steps (claimed l k ys f) (read e) fit = fit
+    will-read-next steps (claimed l k ys f) end fit = fit
+    will-read-next steps (claimed l k ys f) (claim j) fit = fit
+    will-read-next steps (claimed l k ys f) (number z) fit =
+        settle-keeps (WillRead steps) (afterRefusal (claimed l k ys f)) (stepChecks agree st (claimed l k ys f) (number z)) (claimed l k (ys ++ z ∷ []) f)
+        (refusal-keeps (WillRead steps) (claimed l k ys f) fit tt) (λ h. fit)
+    will-read-next steps (claimed l k ys f) (repeat b) fit =
+        settle-keeps (WillRead steps) (afterRefusal (claimed l k ys f)) (stepChecks agree st (claimed l k ys f) (repeat b)) (claimed l k ys (f ++ b ∷ []))
+        (refusal-keeps (WillRead steps) (claimed l k ys f) fit tt) (λ h. fit)
+    will-read-next steps (claimed l k ys f) finish fit =
+        settle-keeps (WillRead steps) (afterRefusal (claimed l k ys f)) (stepChecks agree st (claimed l k ys f) finish) over
+        (refusal-keeps (WillRead steps) (claimed l k ys f) fit tt) (λ h. tt)
 
     read-after : (steps : List Step) (x : AcceptedLists) → WillRead steps x → ReadIs net (acceptedAfter agree st x steps)
     unfolding acceptedAfter listFrom
     read-after [] over fit = tt
     read-after [] (reading l) fit = fit
     read-after [] (hasRead l) fit = fit
-    read-after [] (certifying l k ys f) fit = fit
+    read-after [] (claimed l k ys f) fit = fit
     read-after (a ∷ steps) x fit = read-after steps (next agree st x a) (will-read-next steps x a fit)
 
 pub read-as-listed : ReadAsListed

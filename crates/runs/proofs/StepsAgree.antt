@@ -32,7 +32,7 @@ use Rattle.session.specs.Steps.{readStep, endStep, claimStep, numberStep, repea
 use Rattle.session.specs.declared.Reply.{Reply}
 use Rattle.session.specs.declared.Session.{Session}
 use Rattle.runs.specs.Run.{Step, read, end, claim, number, repeat, finish, step}
-use Rattle.runs.specs.AcceptedLists.{AcceptedLists, over, reading, hasRead, certifying, numbersOf, sumsAt, agreeAt, afterRefusal, next, reply}
+use Rattle.runs.specs.AcceptedLists.{AcceptedLists, over, reading, hasRead, claimed, numbersOf, sumsAt, agreeAt, afterRefusal, next, reply}
 use Rattle.runs.specs.HeldAtPoint.{streamOf, sessionOf}
 use Rattle.runs.proofs.MarkWords.{marks-more, marks-same}
 use Rattle.runs.proofs.VertexArrays.{all-zero, at-list, list-more}
@@ -77,7 +77,7 @@ module _ (st : Setting) (r : Point) where
   abbrev pub Agrees : AcceptedLists → Step → Type 0
   Agrees x a = step (session x) a ≡ hand (session (next (agreeAt r) st x a)) (saying (reply (agreeAt r) st x a))
 
-  claim-one : (l : List Arc) (k : ℕ) → withState (session (hasRead l)) (withClaim (session (hasRead l) .state) k) ≡ session (certifying l k [] [])
+  claim-one : (l : List Arc) (k : ℕ) → withState (session (hasRead l)) (withClaim (session (hasRead l) .state) k) ≡ session (claimed l k [] [])
   unfolding sumOf sumAcross
   claim-one l k = λ i. joined (all-zero mostVertices (at []) (λ v. refl) i) (all-zero mostVertices (λ v. balance v []) (λ v. refl) i)
       (stateOf 3 (session (hasRead l) .state .reading) (withClaim (session (hasRead l) .state) k .numbering)
@@ -85,7 +85,7 @@ module _ (st : Setting) (r : Point) where
 
   module _ (l : List Arc) (k : ℕ) (ys : List ℤ) (f : List Load) where
     abbrev here : AcceptedLists
-    here = certifying l k ys f
+    here = claimed l k ys f
 
     abbrev numbersHere : Numbers
     numbersHere = numbersOf (claimOf k) ys
@@ -118,7 +118,7 @@ module _ (st : Setting) (r : Point) where
       abbrev numbered : ℤ → Session
       numbered z = joined (set (session here .potentials) (length ys) z) (session here .balances) (withNumber (session here .state) z)
 
-      number-one : (z : ℤ) → length ys < st .n → numbered z ≡ session (certifying l k (ys ++ z ∷ []) f)
+      number-one : (z : ℤ) → length ys < st .n → numbered z ≡ session (claimed l k (ys ++ z ∷ []) f)
       unfolding sumAcross
       number-one z h = λ i. joined (list-more mostVertices ys z (omega (arith, h, o .sized .at-most)) i) (session here .balances)
           (stateOf 3 (session here .state .reading)
@@ -131,7 +131,7 @@ module _ (st : Setting) (r : Point) where
       number-step : (z : ℤ) → Agrees here (number z)
       unfolding numberStep
       number-step z =
-          ruled (numbered z) (certifying l k (ys ++ z ∷ []) f) accepted (numberingChecks st (claimOf k) (length ys) z)
+          ruled (numbered z) (claimed l k (ys ++ z ∷ []) f) accepted (numberingChecks st (claimOf k) (length ys) z)
           (λ h. number-one z (ltb→lt (length ys) (st .n) (h .0)))
 
       -- ---- a repeated arc
@@ -140,7 +140,7 @@ module _ (st : Setting) (r : Point) where
       abbrev loaded : Load → Session
       loaded b = joined (session here .potentials) (moved (session here .balances) (b .arc .tail) (b .arc .head) (b .amount)) (withRepeat (session here .state) b)
 
-      repeat-one : (b : Load) → LoadWithin (asks st) b → loaded b ≡ session (certifying l k ys (f ++ b ∷ []))
+      repeat-one : (b : Load) → LoadWithin (asks st) b → loaded b ≡ session (claimed l k ys (f ++ b ∷ []))
       repeat-one b h = λ i. joined (session here .potentials) (balances-more (asks st) f loads-within few b h i)
           (stateOf 3 (session here .state .reading) (session here .state .numbering)
           (record {
@@ -158,7 +158,7 @@ module _ (st : Setting) (r : Point) where
       unfolding repeatStep
       repeat-step b =
           ap₂ (λ (a : Numbers) (n : ℕ). settle (refuse (session here)) (repeatingChecks st a (length l) n b) (accept (loaded b))) numbers-same (length-map f (λ b. b .arc))
-          ∙ ruled (loaded b) (certifying l k ys (f ++ b ∷ [])) accepted (repeatingChecks st numbersHere (length l) (length f) b)
+          ∙ ruled (loaded b) (claimed l k ys (f ++ b ∷ [])) accepted (repeatingChecks st numbersHere (length l) (length f) b)
           (λ h. repeat-one b (within-limits st o numbersHere b (repeat-passed st numbersHere (length l) (length f) b h)))
 
       -- ---- finishing
@@ -205,14 +205,14 @@ module _ (st : Setting) (r : Point) where
   steps-agree (hasRead l) o g (read e) = refl
   steps-agree (hasRead l) o g end = refl
   steps-agree (hasRead l) o g (claim k) =
-      decided session (refuse (session (hasRead l))) (λ why. hasRead l) (λ why. refl) (withState (session (hasRead l)) (withClaim (session (hasRead l) .state) k)) (certifying l k [] []) accepted (claimingChecks st k)
+      decided session (refuse (session (hasRead l))) (λ why. hasRead l) (λ why. refl) (withState (session (hasRead l)) (withClaim (session (hasRead l) .state) k)) (claimed l k [] []) accepted (claimingChecks st k)
       (λ h. claim-one l k)
   steps-agree (hasRead l) o g (number z) = refl
   steps-agree (hasRead l) o g (repeat b) = refl
   steps-agree (hasRead l) o g finish = refl
-  steps-agree (certifying l k ys f) o g (read e) = refl
-  steps-agree (certifying l k ys f) o g end = refl
-  steps-agree (certifying l k ys f) o g (claim j) = refl
-  steps-agree (certifying l k ys f) o g (number z) = number-step l k ys f o g z
-  steps-agree (certifying l k ys f) o g (repeat b) = repeat-step l k ys f o g b
-  steps-agree (certifying l k ys f) o g finish = finish-step l k ys f o g
+  steps-agree (claimed l k ys f) o g (read e) = refl
+  steps-agree (claimed l k ys f) o g end = refl
+  steps-agree (claimed l k ys f) o g (claim j) = refl
+  steps-agree (claimed l k ys f) o g (number z) = number-step l k ys f o g z
+  steps-agree (claimed l k ys f) o g (repeat b) = repeat-step l k ys f o g b
+  steps-agree (claimed l k ys f) o g finish = finish-step l k ys f o g

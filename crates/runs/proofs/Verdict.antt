@@ -23,7 +23,7 @@ use Rattle.state.specs.Answers.{Said, accepted, gives, refused}
 use Rattle.runs.specs.Run.{Step, read, end, claim, number, repeat, finish, runFrom}
 use Rattle.runs.specs.Exchange.{exchange, outcome, last, numberingAll, repeatingAll, annotationRules, Opens}
 use Rattle.runs.specs.Promises.{FirstBroken}
-use Rattle.runs.specs.AcceptedLists.{AcceptedLists, over, reading, hasRead, certifying, numbersOf, sumsAt, agreeAt, afterRefusal, next, reply, replies}
+use Rattle.runs.specs.AcceptedLists.{AcceptedLists, over, reading, hasRead, claimed, numbersOf, sumsAt, agreeAt, afterRefusal, next, reply, replies}
 use Rattle.runs.proofs.RunsAgree.{runs-agree}
 use Rattle.runs.proofs.FirstAndLast.{outcome-alone, outcome-step, LastSays, alone, refusing, on, ends-gives, ends-step}
 
@@ -76,20 +76,20 @@ module _ (agree : List Arc → List Arc → Bool) (st : Setting) where
   }
 
   module _ (net : List Arc) (k : ℕ) where
-    numbering-kind : OneKind number (λ ys. certifying net k ys []) (numberingChecks st (claimOf k)) (numberingAll st (claimOf k))
+    numbering-kind : OneKind number (λ ys. claimed net k ys []) (numberingChecks st (claimOf k)) (numberingAll st (claimOf k))
     unfolding numberingAll
     numbering-kind = record {
-      kept = λ ys. afterRefusal (certifying net k ys []);
+      kept = λ ys. afterRefusal (claimed net k ys []);
       moves = λ ys z. refl;
       says = λ ys z. refl;
       rules-none = λ i. refl;
       rules-more = λ i z l. refl;
     }
 
-    repeating-kind : (ys : List ℤ) → OneKind repeat (certifying net k ys) (repeatingChecks st (numbersOf (claimOf k) ys) (length net)) (repeatingAll st (numbersOf (claimOf k) ys) (length net))
+    repeating-kind : (ys : List ℤ) → OneKind repeat (claimed net k ys) (repeatingChecks st (numbersOf (claimOf k) ys) (length net)) (repeatingAll st (numbersOf (claimOf k) ys) (length net))
     unfolding repeatingAll
     repeating-kind ys = record {
-      kept = λ f. afterRefusal (certifying net k ys f);
+      kept = λ f. afterRefusal (claimed net k ys f);
       moves = λ f b. refl;
       says = λ f b. refl;
       rules-none = λ i. refl;
@@ -106,7 +106,7 @@ module _ (agree : List Arc → List Arc → Bool) (st : Setting) where
       outcome-annotation : outcome (heard (hasRead net) (claim k ∷ numberSteps ys f)) ≡ settle refused (annotationRules st (length net) k ys f) (settle refused final result)
       unfolding replies
       outcome-annotation =
-          outcome-step (λ x. heard x (numberSteps ys f)) (λ why. hasRead net) (claimingChecks st k) (certifying net k [] [])
+          outcome-step (λ x. heard x (numberSteps ys f)) (λ why. hasRead net) (claimingChecks st k) (claimed net k [] [])
           ∙ ap (settle refused (claimingChecks st k))
           (outcome-each numbering-kind ys [] (repeatSteps f)
           ∙ ap (settle refused (numberingAll st (claimOf k) 0 ys)) (outcome-each (repeating-kind ys) f [] (finish ∷ []) ∙ ap (settle refused (repeatingAll st (numbersOf (claimOf k) ys) (length net) 0 f)) (outcome-alone _))
@@ -140,29 +140,29 @@ module _ (agree : List Arc → List Arc → Bool) (st : Setting) where
 
   module _ (net : List Arc) (k : ℕ) where
     -- where node numbers are missing
-    ends-short : (ys : List ℤ) (f g : List Load) → ¬ (T (eqb (length ys) (st .n))) → LastSays (heard (certifying net k ys f) (repeatSteps g)) (refused 5)
+    ends-short : (ys : List ℤ) (f g : List Load) → ¬ (T (eqb (length ys) (st .n))) → LastSays (heard (claimed net k ys f) (repeatSteps g)) (refused 5)
     unfolding replies
     ends-short ys f g h =
-        ends-each repeat (certifying net k ys f) (finish ∷ []) 5 (λ b. rw (fails (eqb (length ys) (st .n)) h) refl)
+        ends-each repeat (claimed net k ys f) (finish ∷ []) 5 (λ b. rw (fails (eqb (length ys) (st .n)) h) refl)
         (rw (fails (eqb (length ys) (st .n)) h) refusing) g
 
-    ends-repeats : (ys : List ℤ) (g f : List Load) → LastSays (heard (certifying net k ys f) (repeatSteps g)) (outcome (heard (certifying net k ys f) (repeatSteps g)))
+    ends-repeats : (ys : List ℤ) (g f : List Load) → LastSays (heard (claimed net k ys f) (repeatSteps g)) (outcome (heard (claimed net k ys f) (repeatSteps g)))
     unfolding replies
     ends-repeats ys [] f = rw outcome-alone alone
     ends-repeats ys (b ∷ g) f =
-        ends-step (λ x. heard x (repeatSteps g)) (λ x. heard x (repeatSteps g)) (afterRefusal (certifying net k ys f)) (repeatingChecks st (numbersOf (claimOf k) ys) (length net) (length f) b) (certifying net k ys (f ++ b ∷ []))
+        ends-step (λ x. heard x (repeatSteps g)) (λ x. heard x (repeatSteps g)) (afterRefusal (claimed net k ys f)) (repeatingChecks st (numbersOf (claimOf k) ys) (length net) (length f) b) (claimed net k ys (f ++ b ∷ []))
         (ends-short ys f g, (λ h. ends-over 6 [] g, (λ h. ends-over 7 [] g, (λ h. ends-over 8 [] g, (λ h. ends-over 11 [] g, (λ h. ends-over 12 [] g, tt))))))
         (ends-repeats ys g (f ++ b ∷ []))
 
     -- numbers are taken while there is room for them; what comes after that is refused and changes nothing
     ends-numbers : (f : List Load) (zs ys : List ℤ) (room : ℕ) → length ys + room ≡ st .n
-        → LastSays (heard (certifying net k ys []) (numberSteps zs f)) (outcome (heard (certifying net k ys []) (numberSteps (take room zs) f)))
+        → LastSays (heard (claimed net k ys []) (numberSteps zs f)) (outcome (heard (claimed net k ys []) (numberSteps (take room zs) f)))
     unfolding replies
     ends-numbers f [] ys zero e = ends-repeats ys f []
     ends-numbers f [] ys (suc room) e = ends-repeats ys f []
     ends-numbers f (z ∷ zs) ys zero e = rw (le-ltb (length ys) (st .n) (omega arith)) (on (ends-numbers f zs ys zero e))
     ends-numbers f (z ∷ zs) ys (suc room) e =
-        ends-step (λ x. heard x (numberSteps zs f)) (λ x. heard x (numberSteps (take room zs) f)) (afterRefusal (certifying net k ys [])) (numberingChecks st (claimOf k) (length ys) z) (certifying net k (ys ++ z ∷ []) [])
+        ends-step (λ x. heard x (numberSteps zs f)) (λ x. heard x (numberSteps (take room zs) f)) (afterRefusal (claimed net k ys [])) (numberingChecks st (claimOf k) (length ys) z) (claimed net k (ys ++ z ∷ []) [])
         (λ h. absurd (h (lt→ltb (length ys) (st .n) (omega arith))), (λ h. ends-over 10 zs f, tt))
         (ends-numbers f zs (ys ++ z ∷ []) room (omega (arith, snoc-length ys z)))
 
@@ -170,7 +170,7 @@ module _ (agree : List Arc → List Arc → Bool) (st : Setting) where
       → LastSays (heard (reading l) (exchange net k ys f)) (outcome (heard (reading l) (exchange net k (take (st .n) ys) f)))
   unfolding readingAll replies
   ends-exchange k ys f [] l h =
-      on (ends-step (λ x. heard x (numberSteps ys f)) (λ x. heard x (numberSteps (take (st .n) ys) f)) (λ why. hasRead l) (claimingChecks st k) (certifying l k [] [])
+      on (ends-step (λ x. heard x (numberSteps ys f)) (λ x. heard x (numberSteps (take (st .n) ys) f)) (λ why. hasRead l) (claimingChecks st k) (claimed l k [] [])
       (λ h. ends-still (hasRead l) 9 (λ z. refl) (λ b. refl) refusing ys f, tt)
       (ends-numbers l k f ys [] (st .n) (omega arith)))
   ends-exchange k ys f (e ∷ net) l h =

@@ -26,7 +26,7 @@ use Rattle.points.proofs.Promises.{few-mislead}
 use Rattle.state.specs.Answers.{Said, accepted, gives, refused}
 use Rattle.runs.specs.Run.{Step, read, end, claim, number, repeat, finish, run, withArc, listFrom, listRead, Wrong, WrongAt}
 use Rattle.runs.specs.Promises.{FewWrong}
-use Rattle.runs.specs.AcceptedLists.{AcceptedLists, over, reading, hasRead, certifying, numbersOf, sumsAt, agreeAt, stepChecks, next, reply, replies, openedLists}
+use Rattle.runs.specs.AcceptedLists.{AcceptedLists, over, reading, hasRead, claimed, numbersOf, sumsAt, agreeAt, stepChecks, next, reply, replies, openedLists}
 use Rattle.runs.proofs.Invariant.{AnnotationPassed, Invariant, settle-keeps, invariant-next}
 use Rattle.runs.proofs.RunsAgree.{by-opening, over-stays, runs-agree, answers-of-lists, finish-leaves, WillRead, will-read-next}
 use Rattle.runs.proofs.TrueAnswers.{again, same-size, true-answer}
@@ -137,13 +137,13 @@ module _ {P : Type 0} (agrees : P → List Arc → List Arc → Bool) (st : Sett
   blame (finish ∷ steps) over g fit = later (λ r w. w) (blame steps (next uncompared st over finish) (invariant-next st uncompared over g finish) (will-read-next st net uncompared steps over finish fit))
   blame (finish ∷ steps) (reading l) g fit = later (λ r w. w) (blame steps (next uncompared st (reading l) finish) (invariant-next st uncompared (reading l) g finish) (will-read-next st net uncompared steps (reading l) finish fit))
   blame (finish ∷ steps) (hasRead l) g fit = later (λ r w. w) (blame steps (next uncompared st (hasRead l) finish) (invariant-next st uncompared (hasRead l) g finish) (will-read-next st net uncompared steps (hasRead l) finish fit))
-  blame (finish ∷ steps) (certifying l k ys f) g fit =
+  blame (finish ∷ steps) (claimed l k ys f) g fit =
       blame-part left
-      (finish-blame (certifying l k ys f) steps (answerOf st (claimOf k) (sumsAt st ys f)) (eqb (length ys) (st .n)) (λ r. tail (finishRules l k ys f r))
-      (untrue l k ys f g fit) (blame steps (certifying l k ys f) g fit))
+      (finish-blame (claimed l k ys f) steps (answerOf st (claimOf k) (sumsAt st ys f)) (eqb (length ys) (st .n)) (λ r. tail (finishRules l k ys f r))
+      (untrue l k ys f g fit) (blame steps (claimed l k ys f) g fit))
     where
-      left : (r : P) → WrongIn (certifying l k ys f) (finish ∷ steps) r
-          → Wrong st net (settle refused (finishRules l k ys f r) (gives (answerOf st (claimOf k) (sumsAt st ys f)))) ⊎ WrongIn (pick (eqb (length ys) (st .n)) over (certifying l k ys f)) steps r
+      left : (r : P) → WrongIn (claimed l k ys f) (finish ∷ steps) r
+          → Wrong st net (settle refused (finishRules l k ys f r) (gives (answerOf st (claimOf k) (sumsAt st ys f)))) ⊎ WrongIn (pick (eqb (length ys) (st .n)) over (claimed l k ys f)) steps r
       left r (inl w) = inl w
       left r (inr w) = inr (subst (λ (x : AcceptedLists). WrongIn x steps r) (finish-leaves (agrees r) st l k ys f) w)
 

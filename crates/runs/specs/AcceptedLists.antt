@@ -21,57 +21,62 @@ use Rattle.state.specs.Answers.{Said, accepted, gives, refused}
 use Rattle.state.specs.State.{openChecks}
 use Rattle.runs.specs.Run.{Step, read, end, claim, number, repeat, finish}
 
--- The phases of a session with what it has accepted in each (PANEL 6): nothing counts once it is over; the arcs while they are read; the arcs once reading has ended;
--- and where a claim stands the arcs read, the claim's number, the node numbers and the repeated arcs with their amounts.
+-- The phases of a session with what it has accepted in each (PANEL 6): over, nothing counts any more; reading, the arcs so far; read, the arcs; claimed, the arcs read,
+-- the number of the claim, the node numbers and the repeated arcs with their amounts.
 pub data AcceptedLists : Type 0 where
   over : AcceptedLists
   reading : List Arc → AcceptedLists
   hasRead : List Arc → AcceptedLists
-  certifying : List Arc → ℕ → List ℤ → List Load → AcceptedLists
+  claimed : List Arc → ℕ → List ℤ → List Load → AcceptedLists
 
--- Is reading under way? Has it just ended? Does a claim stand?
+-- Is reading under way?
 abbrev pub isReading : AcceptedLists → Bool
 isReading over = false
 isReading (reading l) = true
 isReading (hasRead l) = false
-isReading (certifying l k ys f) = false
+isReading (claimed l k ys f) = false
 
+-- Has reading just ended, with no claim yet?
 abbrev pub hasJustRead : AcceptedLists → Bool
 hasJustRead over = false
 hasJustRead (reading l) = false
 hasJustRead (hasRead l) = true
-hasJustRead (certifying l k ys f) = false
+hasJustRead (claimed l k ys f) = false
 
+-- Does a claim stand?
 abbrev pub isClaimed : AcceptedLists → Bool
 isClaimed over = false
 isClaimed (reading l) = false
 isClaimed (hasRead l) = false
-isClaimed (certifying l k ys f) = true
+isClaimed (claimed l k ys f) = true
 
--- The arcs read, the claim's number, the node numbers, and the repeated arcs; where there are none yet, 0 and empty lists.
+-- The arcs read.
 abbrev pub readIn : AcceptedLists → List Arc
 readIn over = []
 readIn (reading l) = l
 readIn (hasRead l) = l
-readIn (certifying l k ys f) = l
+readIn (claimed l k ys f) = l
 
+-- The number of the claim, 0 before there is one.
 abbrev pub claimedIn : AcceptedLists → ℕ
 claimedIn over = 0
 claimedIn (reading l) = 0
 claimedIn (hasRead l) = 0
-claimedIn (certifying l k ys f) = k
+claimedIn (claimed l k ys f) = k
 
+-- The node numbers given.
 abbrev pub numberedIn : AcceptedLists → List ℤ
 numberedIn over = []
 numberedIn (reading l) = []
 numberedIn (hasRead l) = []
-numberedIn (certifying l k ys f) = ys
+numberedIn (claimed l k ys f) = ys
 
+-- The arcs repeated, with their amounts.
 abbrev pub repeatedIn : AcceptedLists → List Load
 repeatedIn over = []
 repeatedIn (reading l) = []
 repeatedIn (hasRead l) = []
-repeatedIn (certifying l k ys f) = f
+repeatedIn (claimed l k ys f) = f
 
 -- The claim c with the node numbers ys.
 abbrev pub numbersOf : Claim → List ℤ → Numbers
@@ -81,10 +86,11 @@ numbersOf c ys = record { claim = c; given = length ys; number = at ys; mark = m
 abbrev pub sumsAt : Setting → List ℤ → List Load → Sums
 sumsAt st ys f = sumsOf (asks st) (marked (at ys)) f
 
--- The claim with the node numbers of what is accepted, and its sums.
+-- The claim and the node numbers of what is accepted.
 abbrev pub numbersAccepted : AcceptedLists → Numbers
 numbersAccepted x = numbersOf (claimOf (claimedIn x)) (numberedIn x)
 
+-- The sums over the repeated arcs of what is accepted.
 abbrev pub sumsAccepted : Setting → AcceptedLists → Sums
 sumsAccepted st x = sumsAt st (numberedIn x) (repeatedIn x)
 
@@ -92,7 +98,7 @@ sumsAccepted st x = sumsAt st (numberedIn x) (repeatedIn x)
 abbrev pub agreeAt : Point → List Arc → List Arc → Bool
 agreeAt r l m = samePrint (printOf r l) (printOf r m)
 
--- ---- a step
+-- ---- a step (PANEL 6)
 
 -- The checks of a step in their order, 5 first: is it the step's turn? `agree` compares two lists of arcs.
 abbrev pub stepChecks : (List Arc → List Arc → Bool) → Setting → AcceptedLists → Step → List Check
@@ -109,9 +115,9 @@ stepChecks agree st x finish =
 abbrev pub withStep : AcceptedLists → Step → AcceptedLists
 withStep x (read e) = reading (readIn x ++ e ∷ [])
 withStep x end = hasRead (readIn x)
-withStep x (claim k) = certifying (readIn x) k [] []
-withStep x (number z) = certifying (readIn x) (claimedIn x) (numberedIn x ++ z ∷ []) (repeatedIn x)
-withStep x (repeat b) = certifying (readIn x) (claimedIn x) (numberedIn x) (repeatedIn x ++ b ∷ [])
+withStep x (claim k) = claimed (readIn x) k [] []
+withStep x (number z) = claimed (readIn x) (claimedIn x) (numberedIn x ++ z ∷ []) (repeatedIn x)
+withStep x (repeat b) = claimed (readIn x) (claimedIn x) (numberedIn x) (repeatedIn x ++ b ∷ [])
 withStep x finish = over
 
 -- What an accepted step answers: finishing gives a value or none.
@@ -127,23 +133,25 @@ acceptedSays st x finish = gives (answerOf st (claimOf (claimedIn x)) (sumsAccep
 abbrev pub afterRefusal : AcceptedLists → ℕ → AcceptedLists
 afterRefusal x why = pick (isClaimed x) (pick (eqb why 5) x over) x
 
--- What a step leaves, and what it answers: the first check that does not hold decides.
+-- What a step leaves: the first check that does not hold decides.
 abbrev pub next : (List Arc → List Arc → Bool) → Setting → AcceptedLists → Step → AcceptedLists
 next agree st x a = settle (afterRefusal x) (stepChecks agree st x a) (withStep x a)
 
+-- What a step answers: the first check that does not hold decides.
 abbrev pub reply : (List Arc → List Arc → Bool) → Setting → AcceptedLists → Step → Said
 reply agree st x a = settle refused (stepChecks agree st x a) (acceptedSays st x a)
 
--- What a list of steps answers, and what is accepted after it.
+-- What a list of steps answers.
 unfoldable pub replies : (List Arc → List Arc → Bool) → Setting → AcceptedLists → List Step → List Said
 replies agree st x [] = []
 replies agree st x (a ∷ steps) = reply agree st x a ∷ replies agree st (next agree st x a) steps
 
+-- What is accepted after a list of steps.
 unfoldable pub acceptedAfter : (List Arc → List Arc → Bool) → Setting → AcceptedLists → List Step → AcceptedLists
 acceptedAfter agree st x [] = x
 acceptedAfter agree st x (a ∷ steps) = acceptedAfter agree st (next agree st x a) steps
 
--- What is accepted by opening (PANEL 6, checks 1 to 4): nothing yet; a refused opening is over.
+-- What opening leaves (PANEL 6, checks 1 to 4): no arc read yet; a refused one is over.
 abbrev pub openedLists : Setting → Point → AcceptedLists
 openedLists st r = settle (λ why. over) (openChecks st r) (reading [])
 
@@ -156,4 +164,4 @@ abbrev pub ReadIs : List Arc → AcceptedLists → Type 0
 ReadIs net over = Unit {0}
 ReadIs net (reading l) = l ≡ net
 ReadIs net (hasRead l) = l ≡ net
-ReadIs net (certifying l k ys f) = l ≡ net
+ReadIs net (claimed l k ys f) = l ≡ net

@@ -16,7 +16,7 @@ use Rattle.points.specs.Points.{IsPoint, printOf}
 use Rattle.points.specs.declared.Point.{Point}
 use Rattle.state.specs.Answers.{Said, accepted, gives, refused}
 use Rattle.runs.specs.Run.{Step, read, end, claim, number, repeat, finish}
-use Rattle.runs.specs.AcceptedLists.{numbersOf, sumsAt, agreeAt, AcceptedLists, over, reading, hasRead, certifying}
+use Rattle.runs.specs.AcceptedLists.{numbersOf, sumsAt, agreeAt, AcceptedLists, over, reading, hasRead, claimed}
 
 -- The steps of an exchange in order: k is the number of the claim.
 abbrev pub exchange : List Arc → ℕ → List ℤ → List Load → List Step
@@ -37,11 +37,12 @@ last (a ∷ b ∷ rest) = last (b ∷ rest)
 
 -- ---- the rules, in the order of the checks
 
--- The rules of all the node numbers, where i are given already, and of all the arcs repeated, where m are read and i repeated already.
+-- The rules of all the node numbers, where i are given already.
 unfoldable pub numberingAll : Setting → Claim → ℕ → List ℤ → List Check
 numberingAll st c i [] = []
 numberingAll st c i (z ∷ ys) = numberingChecks st c i z ++ numberingAll st c (suc i) ys
 
+-- The rules of all the arcs repeated, where m are read and i repeated already.
 unfoldable pub repeatingAll : Setting → Numbers → ℕ → ℕ → List Load → List Check
 repeatingAll st a m i [] = []
 repeatingAll st a m i (l ∷ f) = repeatingChecks st a m i l ++ repeatingAll st a m (suc i) f
@@ -89,4 +90,4 @@ abbrev pub MeetsAll : Setting → Point → AcceptedLists → Answer → Type 0
 MeetsAll st r over a = ⊥
 MeetsAll st r (reading l) a = ⊥
 MeetsAll st r (hasRead l) a = ⊥
-MeetsAll st r (certifying l k ys f) a = Meets st r l k ys f a
+MeetsAll st r (claimed l k ys f) a = Meets st r l k ys f a

@@ -16,7 +16,7 @@ use Rattle.points.specs.declared.Stream.{Stream}
 use Rattle.state.specs.State.{phaseReading, phaseRead, phaseClaimed, marksAfter, stateOf, held}
 use Rattle.session.specs.Session.{joined, holding, void}
 use Rattle.session.specs.declared.Session.{Session}
-use Rattle.runs.specs.AcceptedLists.{AcceptedLists, over, reading, hasRead, certifying}
+use Rattle.runs.specs.AcceptedLists.{AcceptedLists, over, reading, hasRead, claimed}
 
 -- A list of arcs: its length and its fingerprint.
 abbrev pub streamOf : Point → List Arc → Stream
@@ -27,6 +27,7 @@ abbrev pub marksFrom : ℕ → List ℕ → List ℤ → List ℕ
 marksFrom i ms [] = ms
 marksFrom i ms (z ∷ zs) = marksFrom (suc i) (marksAfter ms i z) zs
 
+-- The words of marks of a list of node numbers.
 abbrev pub marksOf : List ℤ → List ℕ
 marksOf ys = marksFrom 0 (replicate 4 0) ys
 
@@ -35,7 +36,7 @@ abbrev pub sessionOf : Setting → Point → AcceptedLists → Session
 sessionOf st r over = void
 sessionOf st r (reading l) = holding phaseReading (held st) r (streamOf r l)
 sessionOf st r (hasRead l) = holding phaseRead (held st) r (streamOf r l)
-sessionOf st r (certifying l k ys f) = joined (listTo mostVertices (at ys)) (listTo mostVertices (λ v. balance v f))
+sessionOf st r (claimed l k ys f) = joined (listTo mostVertices (at ys)) (listTo mostVertices (λ v. balance v f))
     (stateOf phaseClaimed (record { setting = held st; point = r; list = streamOf r l })
     (record { claim = k; given = length ys; marks = marksOf ys })
     (record {

@@ -68,6 +68,7 @@ listFrom st l (number z ∷ steps) = listFrom st l steps
 listFrom st l (repeat b ∷ steps) = listFrom st l steps
 listFrom st l (finish ∷ steps) = listFrom st l steps
 
+-- The list read, empty at opening.
 abbrev pub listRead : Setting → List Step → List Arc
 listRead st steps = listFrom st [] steps
 
