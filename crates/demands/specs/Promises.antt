@@ -13,7 +13,7 @@ use Rattle.acceptance.specs.Acceptance.{AcceptedFile}
 use Rattle.judging.specs.Judging.{judged, judgedBySteps}
 use Rattle.helper.specs.Helper.{HelperSaid, wrote, annotated, sizeFor, Annotation, BufferAfter}
 
--- Judging the file with the annotation gives the true answer at every point, and so do the steps of a session: every one is accepted, and finishing gives that answer.
+-- At every point the file and the annotation come out as the true answer, by judging and by the steps of a session.
 pub record JudgedTruly (net ann : List ℕ) : Type 0 where
   pub answer : Answer
   pub is-true : TrueAnswer (settingIn net) (arcsIn net) answer

@@ -50,15 +50,15 @@ RefusalLeaves = (x : Session) (a : Step) (why : ℕ) → step x a .answer ≡ Re
 abbrev pub FiveChangesNothing : Type 0
 FiveChangesNothing = (x : Session) (a : Step) → step x a .answer ≡ Refused 5 → step x a .session ≡ x
 
--- Finishing ends the session unless it gave 5.
+-- After finishing the session is over, but for refusal 5.
 abbrev pub FinishEnds : Type 0
 FinishEnds = (x : Session) → ¬ (finishStep x .answer ≡ Refused 5) → finishStep x .session ≡ void
 
--- A refused opening hands back a void session.
+-- Where opening is refused, the session is void.
 abbrev pub RefusedOpeningVoid : Type 0
 RefusedOpeningVoid = (st : Setting) (r : Point) (why : ℕ) → opening st r .answer ≡ Refused why → opening st r .session ≡ void
 
--- After a refused opening there are only refusals (PANEL 12, demand 3).
+-- Where opening is refused, so is every step (PANEL 12, demand 3).
 abbrev pub OnlyRefusals : Type 0
 OnlyRefusals =
     (st : Setting) (r : Point) (why : ℕ) (steps : List Step)

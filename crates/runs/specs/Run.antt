@@ -34,7 +34,7 @@ step x (number z) = numberStep x z
 step x (repeat l) = repeatStep x l
 step x finish = finishStep x
 
--- What a list of steps answers: each gets the session that the one before it handed back, accepted or refused.
+-- What a list of steps answers: the session goes from each step to the next, whether the step was refused or not.
 unfoldable pub run : Session → List Step → List Said
 run x [] = []
 run x (a ∷ steps) = said ((step x a) .answer) ∷ run ((step x a) .session) steps
@@ -44,7 +44,7 @@ unfoldable pub sessionAfter : Session → List Step → Session
 sessionAfter x [] = x
 sessionAfter x (a ∷ steps) = sessionAfter ((step x a) .session) steps
 
--- The list starts from the session that opening handed back for a setting and a point.
+-- The same from a fresh opening, for a setting and a point.
 abbrev pub runFrom : Setting → Point → List Step → List Said
 runFrom st r steps = run (opening st r .session) steps
 
@@ -72,12 +72,12 @@ listFrom st l (finish ∷ steps) = listFrom st l steps
 abbrev pub listRead : Setting → List Step → List Arc
 listRead st steps = listFrom st [] steps
 
--- A wrong answer is a value or none that is not the true answer; a refusal is never one.
+-- An answer is wrong where it is given and differs from the true one; acceptances and refusals never are.
 abbrev pub Wrong : Setting → List Arc → Said → Type 0
 Wrong st net accepted = ⊥
 Wrong st net (gives a) = ¬ (TrueAnswer st net a)
 Wrong st net (refused k) = ⊥
 
--- A point counts where at least one step gives a wrong answer.
+-- The points that are counted: some step answers wrongly there.
 abbrev pub WrongAt : Setting → List Step → Point → Type 0
 WrongAt st steps r = IsPoint r × Some (Wrong st (listRead st steps)) (runFrom st r steps)
