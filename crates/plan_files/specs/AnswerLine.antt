@@ -10,8 +10,10 @@ use Rattle.points.specs.declared.Point.{Point}
 use Rattle.state.specs.Answers.{Said, accepted, gives, refused}
 use Rattle.file_fields.specs.Bytes.{read32}
 use Rattle.judging.specs.Judging.{judged}
-use Rattle.program_io.specs.Line.{numberLine, refusedLine}
+use Rattle.io.specs.Counts.{Counts}
+use Rattle.program_io.specs.Line.{numberLine, refusedLine, LineIn}
 use Rattle.plan_files.specs.Counted.{counted}
+use Rattle.plan_files.specs.declared.answer_line.Judged.{Judged}
 
 -- The point in the first four bytes, most significant first.
 abbrev pub pointIn : List ℕ → Point
@@ -31,3 +33,11 @@ answerLine accepted = []
 -- The line for the bytes of point.bin, plan.drn and plan.dra.
 abbrev pub programLine : List ℕ → List ℕ → List ℕ → List ℕ
 programLine point net ann = answerLine (programAnswer point net ann)
+
+-- The three files were read into buffers, so many bytes of each, and the line for what was read stands at the front of the text's buffer.
+pub record JudgedFiles (point net ann before : List ℕ) (r : Judged) (after : List ℕ) : Type 0 where
+  pub point-read : Counts (r .point) point
+  pub net-read : Counts (r .net) net
+  pub ann-read : Counts (r .ann) ann
+  pub line-made : Counts (r .line) after
+  pub line-is : LineIn (programLine (take (r .point) point) (take (r .net) net) (take (r .ann) ann)) before (r .line) after

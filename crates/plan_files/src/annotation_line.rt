@@ -1,12 +1,12 @@
 // The line of the annotating program: the bytes of a network are annotated, and the annotation is saved.
 ghost use mathlib.Core.Path.{_≡_};
 ghost use Prim.Native.Nat.{_≤_};
-ghost use lib.ListN.{length, take};
+ghost use lib.ListN.{length};
 ghost use Rattle.io.specs.Counts.{Counts};
 ghost use Rattle.program_io.specs.Line.{LineIn};
 ghost use Rattle.helper.specs.Helper.{helperSaid, BufferAfter};
 ghost use Rattle.plan_files.specs.Counted.{counted as inRoom};
-ghost use Rattle.plan_files.specs.AnnotationLine.{fileReply, sizeOf, replyLine, annotationLine};
+ghost use Rattle.plan_files.specs.AnnotationLine.{fileReply, sizeOf, replyLine, AnnotatedFiles};
 use super::counted::counted;
 use helper::Written;
 use program_io::front::read_front;
@@ -53,18 +53,15 @@ pub struct Annotated {
     pub line: usize,
 }
 
-// Reads the named network file into a lent buffer, annotates what was read in the other, saves that and makes the line.
-pub fn annotate_files(
+// Reads the named network file into a buffer, annotates what was read in the other, saves that and makes the line.
+fn annotate_read(
     net_name: &[u8],
     ann_name: &[u8],
     net: &mut [u8],
     ann: &mut [u8],
     text: &mut [u8; 32],
 ) -> Annotated
-    ensures { λ r. ⌜ Counts (r .line) (now (text .exit)) ⌝ }
-    ensures { λ r. ⌜ Counts (r .net) (now (net .exit)) ⌝ }
-    ensures { λ r. ⌜ LineIn (annotationLine (take (r .net) (now (net .exit))) (length (now (ann .entry))) (r .saved)) (now (text .entry)) (r .line) (now (text .exit)) ⌝ }
-    ensures { λ r. ⌜ BufferAfter (fileReply (take (r .net) (now (net .exit))) (length (now (ann .entry)))) (inRoom (take (r .net) (now (net .exit)))) (now (ann .entry)) (now (ann .exit)) ⌝ }
+    ensures { λ r. ⌜ AnnotatedFiles (length (now (ann .entry))) (now (net .exit)) (now (ann .entry)) (now (ann .exit)) (now (text .entry)) r (now (text .exit)) ⌝ }
 {
     let n = read_front(net_name, net);
     let reply = annotation(&net[..n], ann);
@@ -75,4 +72,17 @@ pub fn annotate_files(
         saved: saved,
         line: k,
     }
+}
+
+// The same in buffers that hold as many bytes as count, which is enough for every annotation.
+pub fn annotate_files(
+    net_name: &[u8],
+    ann_name: &[u8],
+    net: &mut [u8; 32768],
+    ann: &mut [u8; 32768],
+    text: &mut [u8; 32],
+) -> Annotated
+    ensures { λ r. ⌜ AnnotatedFiles 32768 (now (net .exit)) (now (ann .entry)) (now (ann .exit)) (now (text .entry)) r (now (text .exit)) ⌝ }
+{
+    annotate_read(net_name, ann_name, net, ann, text)
 }

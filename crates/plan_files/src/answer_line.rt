@@ -1,10 +1,9 @@
 // The line of the judging program: what the bytes of a point, a network and an annotation come out as.
 ghost use mathlib.Core.Path.{_≡_};
-ghost use lib.ListN.{take};
 ghost use Rattle.io.specs.Counts.{Counts};
 ghost use Rattle.program_io.specs.Line.{LineIn};
 ghost use Rattle.state.specs.Answers.{said};
-ghost use Rattle.plan_files.specs.AnswerLine.{pointIn, programAnswer, answerLine, programLine};
+ghost use Rattle.plan_files.specs.AnswerLine.{pointIn, programAnswer, answerLine, programLine, JudgedFiles};
 use super::counted::counted;
 use file_fields::bytes::bits32;
 use points::Point;
@@ -63,9 +62,9 @@ pub struct Judged {
     pub line: usize,
 }
 
-// Reads the three named files into the lent buffers and makes the line for what was read. The other two files are not opened where the
-// point has fewer than four bytes.
-pub fn judge_files(
+// Reads the three named files into the buffers and makes the line for what was read. The other two files are not opened where the point
+// has fewer than four bytes.
+fn judge_read(
     point_name: &[u8],
     net_name: &[u8],
     ann_name: &[u8],
@@ -74,9 +73,7 @@ pub fn judge_files(
     ann: &mut [u8],
     text: &mut [u8; 32],
 ) -> Judged
-    ensures { λ r. ⌜ Counts (r .line) (now (text .exit)) ⌝ }
-    ensures { λ r. ⌜ Counts (r .point) (now (point .exit)) × Counts (r .net) (now (net .exit)) × Counts (r .ann) (now (ann .exit)) ⌝ }
-    ensures { λ r. ⌜ LineIn (programLine (take (r .point) (now (point .exit))) (take (r .net) (now (net .exit))) (take (r .ann) (now (ann .exit)))) (now (text .entry)) (r .line) (now (text .exit)) ⌝ }
+    ensures { λ r. ⌜ JudgedFiles (now (point .exit)) (now (net .exit)) (now (ann .exit)) (now (text .entry)) r (now (text .exit)) ⌝ }
 {
     let p = read_front(point_name, point);
     let is_whole = 4 <= p;
@@ -89,4 +86,19 @@ pub fn judge_files(
         ann: m,
         line: k,
     }
+}
+
+// The same in buffers that hold as many bytes as count.
+pub fn judge_files(
+    point_name: &[u8],
+    net_name: &[u8],
+    ann_name: &[u8],
+    point: &mut [u8; 4],
+    net: &mut [u8; 32768],
+    ann: &mut [u8; 32768],
+    text: &mut [u8; 32],
+) -> Judged
+    ensures { λ r. ⌜ JudgedFiles (now (point .exit)) (now (net .exit)) (now (ann .exit)) (now (text .entry)) r (now (text .exit)) ⌝ }
+{
+    judge_read(point_name, net_name, ann_name, point, net, ann, text)
 }

@@ -46,4 +46,4 @@ module _ (random : List ℕ) (i w k : ℕ) (t : Bool) (none : firstPoint (listTo
   missed no-point =
       rw add-one
       (skipped (listTo i (wordIn random)) (wordIn random i ∷ []) none
-        ∙ sym (off Drawn Nothing (Point (low31 (wordIn random i))) Nothing (ltb (low31 (wordIn random i)) p) (sym test ∙ no-point) refl))
+      ∙ sym (off Drawn Nothing (Point (low31 (wordIn random i))) Nothing (ltb (low31 (wordIn random i)) p) (sym test ∙ no-point) refl))

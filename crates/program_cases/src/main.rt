@@ -31,7 +31,13 @@ fn print_annotated(net_name: &[u8], ann_name: &[u8]) {
     let mut net = front::room();
     let mut ann = front::room();
     let mut text = [0u8; 32];
-    let annotated = annotation_line::annotate_files(net_name, ann_name, &mut net, &mut ann, &mut text);
+    let annotated = annotation_line::annotate_files(
+        net_name,
+        ann_name,
+        &mut net,
+        &mut ann,
+        &mut text,
+    );
     let n = annotated.line;
     io::write_all(1, &text[..n]);
 }

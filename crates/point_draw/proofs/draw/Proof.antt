@@ -40,10 +40,10 @@ loop-again c =
       refl,
       omega arith,
       missed random (l .i) _ _ _ (l .inv .2)
-      (c .before .before .before .bits32 .ensures)
-      (c .before .before .low31 .ensures)
-      (c .before .is-residue .ensures)
-      (c .if1 .left),
+          (c .before .before .before .bits32 .ensures)
+          (c .before .before .low31 .ensures)
+          (c .before .is-residue .ensures)
+          (c .if1 .left),
     )
 
 returns-2 : tie.Need-returns-2 Inv-loop μ-loop
