@@ -1,4 +1,4 @@
--- The room of 32768 bytes is large enough for the annotation of every accepted file, so check 20 refuses none.
+-- How long an annotation is: it lies in its room, and a room of 32768 bytes is large enough for that of every accepted file, so check 20 refuses none.
 -- Assumes nothing.
 use mathlib.Core.Path.{_≡_, sym, ap, _∙_}
 use mathlib.Core.Bool.{Bool}
@@ -6,22 +6,24 @@ use mathlib.Core.List.{List, [], _∷_}
 use Prim.Native.Nat.{ℕ, _≤_}
 use native.Mathlib.Omega.{arith}
 use lib.Dec.{leb}
-use borrow.Author.Tests.{le-leb}
+use borrow.Author.Tests.{le-leb, leb-true}
 use Rattle.prelude.specs.Checks.{Check, _unless_, settle, Hold}
 use Rattle.prelude.specs.Choice.{pick}
-use Rattle.prelude.proofs.Settle.{settled-back, settle-append, settle-when}
+use Rattle.prelude.proofs.Booleans.{T→true}
+use Rattle.prelude.proofs.Settle.{settled-back, settle-append, settle-when, hold-right}
 use Rattle.format.specs.Files.{countIn, arcIn}
 use Rattle.prelude.proofs.Lists.{listTo-length}
 use Rattle.acceptance.specs.Acceptance.{acceptanceChecks, AcceptedFile}
 use Rattle.acceptance.proofs.AcceptedFiles.{file-opened, file-few}
-use Rattle.helper.specs.Helper.{wrote, declined, annotated, sizeFor}
-use Rattle.plan_files.specs.AnnotationLine.{annotatedInRoom}
+use Rattle.helper.specs.Helper.{HelperSaid, wrote, declined, annotateChecks, annotated, sizeFor}
+use Rattle.plan_files.specs.Counted.{counted}
+use Rattle.plan_files.specs.AnnotationLine.{sizeOf, fileReply}
 
 -- at most 8 + 4 * 255 + 6 * 4096 bytes
 small : (net : List ℕ) → AcceptedFile net → sizeFor net ≤ 25604
 small net h = omega (arith, file-opened net h .sized .at-most, file-few net h, listTo-length (countIn net) (arcIn net))
 
-pub in-room : (net : List ℕ) → annotated net 32768 ≡ annotatedInRoom net
+pub in-room : (net : List ℕ) → annotated net 32768 ≡ settle declined (acceptanceChecks net) (wrote (sizeFor net))
 in-room net =
     settle-append declined (acceptanceChecks net) (20 unless leb (sizeFor net) 32768 ∷ []) (wrote (sizeFor net))
     ∙ settle-when declined (acceptanceChecks net) (pick (leb (sizeFor net) 32768) (wrote (sizeFor net)) (declined 20)) (wrote (sizeFor net))
@@ -33,8 +35,14 @@ wrote-held cs s k e =
     let same = u .1 in
     (u .0, cc)
 
--- the bytes that are written lie in the room
-pub within : (net : List ℕ) (k : ℕ) → wrote k ≡ annotatedInRoom net → k ≤ 32768
-within net k e =
-    let u = wrote-held (acceptanceChecks net) (sizeFor net) k e in
-    omega (arith, u .1, small net (u .0))
+-- the bytes that are to be saved lie in the room
+within : (net : List ℕ) (room : ℕ) (reply : HelperSaid) → reply ≡ annotated net room → sizeOf reply ≤ room
+within net room (declined k) e = omega arith
+within net room (wrote k) e =
+    let u = wrote-held (annotateChecks net room) (sizeFor net) k e in
+    let h : sizeFor net ≤ room = leb-true (sizeFor net) room (T→true _ (hold-right (acceptanceChecks net) (20 unless leb (sizeFor net) room ∷ []) (u .0) .0)) in
+    omega (arith, u .1)
+
+pub within-reply : (net : List ℕ) (room : ℕ) (reply : HelperSaid) → reply ≡ fileReply net room → sizeOf reply ≤ room
+unfolding fileReply
+within-reply net room reply e = within (counted net) room reply e

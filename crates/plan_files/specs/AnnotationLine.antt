@@ -1,37 +1,37 @@
--- What the annotating program prints.
+-- What the annotating program prints, as a function of the bytes of the network file, of the room for the annotation and of whether it was saved (PANEL 10).
 -- Assumes nothing.
-use mathlib.Core.Path.{_≡_}
-use mathlib.Core.List.{List, [], _∷_}
-use mathlib.Core.Logic.{_⊎_}
-use Prim.Native.Nat.{ℕ, _≤_}
-use lib.ListN.{length}
-use Rattle.prelude.specs.Checks.{settle}
-use Rattle.acceptance.specs.Acceptance.{acceptanceChecks}
-use Rattle.program_io.specs.Line.{Numbered, RefusedLine}
-use Rattle.helper.specs.Helper.{HelperSaid, wrote, declined, sizeFor}
+use mathlib.Core.Bool.{Bool}
+use mathlib.Core.List.{List}
+use Prim.Native.Nat.{ℕ}
+use lib.ListN.{take}
+use Rattle.io.specs.Counts.{Counts}
+use Rattle.program_io.specs.Line.{savedLine, refusedLine, LineIn}
+use Rattle.helper.specs.Helper.{HelperSaid, wrote, declined, annotated, BufferAfter}
+use Rattle.plan_files.specs.Counted.{counted}
+use Rattle.plan_files.specs.declared.annotation_line.Annotated.{Annotated}
 
--- What the helper replies in a buffer that is large enough: no check but those that it makes before 20 refuses.
-abbrev pub annotatedInRoom : List ℕ → HelperSaid
-annotatedInRoom net = settle declined (acceptanceChecks net) (wrote (sizeFor net))
+-- The helper's reply for what counts of a network file, in a buffer of so many bytes.
+unfoldable pub fileReply : List ℕ → ℕ → HelperSaid
+fileReply net room = annotated (counted net) room
 
--- The word `written` with a blank, and `not written` with a line end.
-abbrev pub writtenWord : List ℕ
-writtenWord = 119 ∷ 114 ∷ 105 ∷ 116 ∷ 116 ∷ 101 ∷ 110 ∷ 32 ∷ []
+-- How many bytes are to be saved: none after a refusal.
+abbrev pub sizeOf : HelperSaid → ℕ
+sizeOf (wrote k) = k
+sizeOf (declined k) = 0
 
-abbrev pub notWrittenLine : List ℕ
-notWrittenLine = 110 ∷ 111 ∷ 116 ∷ 32 ∷ 119 ∷ 114 ∷ 105 ∷ 116 ∷ 116 ∷ 101 ∷ 110 ∷ 10 ∷ []
+-- The line of a reply: how many bytes were written, that they could not be written, or the refusal.
+abbrev pub replyLine : HelperSaid → Bool → List ℕ
+replyLine (wrote k) done = savedLine k done
+replyLine (declined k) done = refusedLine k
 
--- The line says `written` and how many bytes plan.dra has, or that it cannot be written.
-abbrev pub SavedLine : ℕ → List ℕ → Type 0
-SavedLine k text = Numbered writtenWord k text ⊎ (text ≡ notWrittenLine)
+-- The line for the bytes of plan.drn.
+abbrev pub annotationLine : List ℕ → ℕ → Bool → List ℕ
+annotationLine net room done = replyLine (fileReply net room) done
 
--- The line of a reply.
-abbrev pub LineOfReply : HelperSaid → List ℕ → Type 0
-LineOfReply (wrote k) text = SavedLine k text
-LineOfReply (declined k) text = RefusedLine k text
-
--- The line that is printed is that of the reply for what the network file held.
-pub record PrintsReply (text : List ℕ) : Type 0 where
-  pub net : List ℕ
-  pub counts : length net ≤ 32768
-  pub line : LineOfReply (annotatedInRoom net) text
+-- The network file was read into a buffer, so many bytes of it; the annotation for what was read stands in its buffer of `room` bytes, and the
+-- line at the front of the text's buffer.
+pub record AnnotatedFiles (room : ℕ) (net annBefore annAfter before : List ℕ) (r : Annotated) (after : List ℕ) : Type 0 where
+  pub net-read : Counts (r .net) net
+  pub annotation-is : BufferAfter (fileReply (take (r .net) net) room) (counted (take (r .net) net)) annBefore annAfter
+  pub line-made : Counts (r .line) after
+  pub line-is : LineIn (annotationLine (take (r .net) net) room (r .saved)) before (r .line) after

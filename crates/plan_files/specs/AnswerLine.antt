@@ -1,51 +1,43 @@
--- What the judging program answers and what it prints, for files of any names (document 01, Files and the helper).
+-- What the judging program prints, as a function of the bytes of its three files (PANEL 10).
 -- Assumes nothing.
-use mathlib.Core.Path.{_≡_}
 use mathlib.Core.List.{List, [], _∷_}
-use Prim.Native.Nat.{ℕ, _≤_, _<_}
-use lib.ListN.{length}
+use Prim.Native.Nat.{ℕ}
+use lib.Dec.{leb}
+use lib.ListN.{length, take}
+use Rattle.prelude.specs.Choice.{pick}
 use Rattle.network.specs.Question.{value, none}
 use Rattle.points.specs.declared.Point.{Point}
 use Rattle.state.specs.Answers.{Said, accepted, gives, refused}
 use Rattle.file_fields.specs.Bytes.{read32}
 use Rattle.judging.specs.Judging.{judged}
-use Rattle.program_io.specs.Line.{Numbered, RefusedLine}
+use Rattle.io.specs.Counts.{Counts}
+use Rattle.program_io.specs.Line.{numberLine, refusedLine, LineIn}
+use Rattle.plan_files.specs.Counted.{counted}
+use Rattle.plan_files.specs.declared.answer_line.Judged.{Judged}
 
--- The point in four bytes, most significant first.
+-- The point in the first four bytes, most significant first.
 abbrev pub pointIn : List ℕ → Point
-pointIn file = record { r = read32 file 0 }
+pointIn point = record { r = read32 (take 4 point) 0 }
 
--- The answer is judging's, of two files of which no more than 32768 bytes count, at the point r.
-pub record JudgedAt (r : Point) (answer : Said) : Type 0 where
-  pub net : List ℕ
-  pub ann : List ℕ
-  pub net-counts : length net ≤ 32768
-  pub ann-counts : length ann ≤ 32768
-  pub judges : answer ≡ judged net ann r
+-- The answer: refusal 4 where the point has fewer than four bytes, whatever the other two files hold; else that of judging what counts of them, at the point.
+unfoldable pub programAnswer : List ℕ → List ℕ → List ℕ → Said
+programAnswer point net ann = pick (leb 4 (length point)) (judged (counted net) (counted ann) (pointIn point)) (refused 4)
 
--- Refusal 4 where the point has fewer than four bytes, whatever the other two files hold.
-pub record Answered (file : List ℕ) (answer : Said) : Type 0 where
-  pub short : length file < 4 → answer ≡ refused 4
-  pub whole : 4 ≤ length file → JudgedAt (pointIn file) answer
+-- The line of an answer: `value` and the number, `none`, or `refused` and the number. An acceptance has none.
+abbrev pub answerLine : Said → List ℕ
+answerLine (gives (value v)) = numberLine (118 ∷ 97 ∷ 108 ∷ 117 ∷ 101 ∷ 32 ∷ []) v
+answerLine (gives none) = 110 ∷ 111 ∷ 110 ∷ 101 ∷ 10 ∷ []
+answerLine (refused k) = refusedLine k
+answerLine accepted = []
 
--- The word `value` with a blank, and `none` with a line end.
-abbrev pub valueWord : List ℕ
-valueWord = 118 ∷ 97 ∷ 108 ∷ 117 ∷ 101 ∷ 32 ∷ []
+-- The line for the bytes of point.bin, plan.drn and plan.dra.
+abbrev pub programLine : List ℕ → List ℕ → List ℕ → List ℕ
+programLine point net ann = answerLine (programAnswer point net ann)
 
-abbrev pub noneLine : List ℕ
-noneLine = 110 ∷ 111 ∷ 110 ∷ 101 ∷ 10 ∷ []
-
--- The line of an answer. An acceptance has none.
-abbrev pub LineOfAnswer : Said → List ℕ → Type 0
-LineOfAnswer (gives (value v)) text = Numbered valueWord v text
-LineOfAnswer (gives none) text = text ≡ noneLine
-LineOfAnswer (refused k) text = RefusedLine k text
-LineOfAnswer accepted text = ⊥
-
--- The line that is printed is that of the answer for what the point's file held, of which four bytes count.
-pub record PrintsAnswer (text : List ℕ) : Type 0 where
-  pub file : List ℕ
-  pub answer : Said
-  pub counts : length file ≤ 4
-  pub answered : Answered file answer
-  pub line : LineOfAnswer answer text
+-- The three files were read into buffers, so many bytes of each, and the line for what was read stands at the front of the text's buffer.
+pub record JudgedFiles (point net ann before : List ℕ) (r : Judged) (after : List ℕ) : Type 0 where
+  pub point-read : Counts (r .point) point
+  pub net-read : Counts (r .net) net
+  pub ann-read : Counts (r .ann) ann
+  pub line-made : Counts (r .line) after
+  pub line-is : LineIn (programLine (take (r .point) point) (take (r .net) net) (take (r .ann) ann)) before (r .line) after

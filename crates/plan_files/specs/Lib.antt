@@ -1,2 +1,4 @@
+pub mod Counted
 pub mod AnswerLine
 pub mod AnnotationLine
+pub mod Promises

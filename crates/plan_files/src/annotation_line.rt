@@ -1,58 +1,88 @@
-// The line of the annotating program: a network in one file is annotated in another.
+// The line of the annotating program: the bytes of a network are annotated, and the annotation is saved.
+ghost use mathlib.Core.Path.{_≡_};
 ghost use Prim.Native.Nat.{_≤_};
-ghost use lib.ListN.{length, take};
+ghost use lib.ListN.{length};
 ghost use Rattle.io.specs.Counts.{Counts};
-ghost use Rattle.plan_files.specs.AnnotationLine.{SavedLine, LineOfReply, annotatedInRoom, PrintsReply};
+ghost use Rattle.program_io.specs.Line.{LineIn};
+ghost use Rattle.helper.specs.Helper.{helperSaid, BufferAfter};
+ghost use Rattle.plan_files.specs.Counted.{counted as inRoom};
+ghost use Rattle.plan_files.specs.AnnotationLine.{fileReply, sizeOf, replyLine, AnnotatedFiles};
+use super::counted::counted;
 use helper::Written;
 use program_io::front::read_front;
-use program_io::front::room;
 use program_io::line;
+use program_io::saving;
 
-// Makes the file of these bytes, in place of any of that name, and answers whether all were written.
-fn save(name: &[u8], bytes: &[u8]) -> bool {
-    let fd = os::open_overwrite(name);
-    if fd < 0 {
-        return false;
-    }
-    let is_written = io::write_all(fd, bytes);
-    if libc::close(fd) != 0 {
-        return false;
-    }
-    is_written
+// The annotation for what counts of a network file, in the buffer.
+fn annotation(net: &[u8], ann: &mut [u8]) -> Written
+    ensures { λ r. ⌜ helperSaid r ≡ fileReply (now (net .entry)) (length (now (ann .entry))) ⌝ }
+    ensures { λ r. ⌜ BufferAfter (helperSaid r) (inRoom (now (net .entry))) (now (ann .entry)) (now (ann .exit)) ⌝ }
+{
+    let n = counted(net);
+    helper::annotate(&net[..n], ann)
 }
 
-// Saves the annotation at the front of the buffer, and makes the line: whether it is in its file.
-fn line_when_saved(name: &[u8], buffer: &[u8], size: u32, text: &mut [u8; 32]) -> usize
-    requires { ⌜ size ≤ length (now buffer) ⌝ }
-    ensures { λ r. ⌜ Counts r (now (text .exit)) ⌝ }
-    ensures { λ r. ⌜ SavedLine size (take r (now (text .exit))) ⌝ }
+// Saves the annotation that the reply tells of, at the front of the buffer, and answers whether it is in its file. A refusal touches no file.
+fn save_reply(name: &[u8], reply: Written, ann: &[u8]) -> bool
+    requires { ⌜ sizeOf (helperSaid reply) ≤ length (now ann) ⌝ }
 {
-    let n = size as usize;
-    if save(name, &buffer[..n]) {
-        return line::numbered(b"written ", size as u64, text);
+    match reply {
+        Written::Length(size) => {
+            let n = size as usize;
+            saving::save(name, &ann[..n], 0o644)
+        }
+        Written::Refused(_) => false,
     }
-    line::plain(b"not written\n", text)
 }
 
-// Annotates the network file, and makes the line. A refusal writes no file.
-fn line_for(net: &[u8], name: &[u8], text: &mut [u8; 32]) -> usize
+// The line for a reply whose annotation was saved or not, and how long it is.
+fn line_for(reply: Written, done: bool, text: &mut [u8; 32]) -> usize
     ensures { λ r. ⌜ Counts r (now (text .exit)) ⌝ }
-    ensures { λ r. ⌜ LineOfReply (annotatedInRoom (now (net .entry))) (take r (now (text .exit))) ⌝ }
+    ensures { λ r. ⌜ LineIn (replyLine (helperSaid reply) done) (now (text .entry)) r (now (text .exit)) ⌝ }
 {
-    let mut buffer = room();
-    let written = helper::annotate(net, &mut buffer);
-    match written {
-        Written::Length(size) => line_when_saved(name, &buffer, size, text),
+    match reply {
+        Written::Length(size) => line::saved(size, done, text),
         Written::Refused(k) => line::refused(k, text),
     }
 }
 
-// The line for the two files, and how long it is.
-pub fn annotate_line(net_name: &[u8], ann_name: &[u8], text: &mut [u8; 32]) -> usize
-    ensures { λ r. ⌜ Counts r (now (text .exit)) ⌝ }
-    ensures { λ r. ⌜ PrintsReply (take r (now (text .exit))) ⌝ }
+// How many bytes of the network file were read into its buffer, whether the annotation is in its file, and how long the line is.
+pub struct Annotated {
+    pub net: usize,
+    pub saved: bool,
+    pub line: usize,
+}
+
+// Reads the named network file into a buffer, annotates what was read in the other, saves that and makes the line.
+fn annotate_read(
+    net_name: &[u8],
+    ann_name: &[u8],
+    net: &mut [u8],
+    ann: &mut [u8],
+    text: &mut [u8; 32],
+) -> Annotated
+    ensures { λ r. ⌜ AnnotatedFiles (length (now (ann .entry))) (now (net .exit)) (now (ann .entry)) (now (ann .exit)) (now (text .entry)) r (now (text .exit)) ⌝ }
 {
-    let mut net = room();
-    let n = read_front(net_name, &mut net);
-    line_for(&net[..n], ann_name, text)
+    let n = read_front(net_name, net);
+    let reply = annotation(&net[..n], ann);
+    let saved = save_reply(ann_name, reply, ann);
+    let k = line_for(reply, saved, text);
+    Annotated {
+        net: n,
+        saved: saved,
+        line: k,
+    }
+}
+
+// The same in buffers that hold as many bytes as count, which is enough for every annotation.
+pub fn annotate_files(
+    net_name: &[u8],
+    ann_name: &[u8],
+    net: &mut [u8; 32768],
+    ann: &mut [u8; 32768],
+    text: &mut [u8; 32],
+) -> Annotated
+    ensures { λ r. ⌜ AnnotatedFiles 32768 (now (net .exit)) (now (ann .entry)) (now (ann .exit)) (now (text .entry)) r (now (text .exit)) ⌝ }
+{
+    annotate_read(net_name, ann_name, net, ann, text)
 }

@@ -1,49 +1,42 @@
-// The line of the judging program: what a network, an annotation and a point in three files come out as.
+// The line of the judging program: what the bytes of a point, a network and an annotation come out as.
 ghost use mathlib.Core.Path.{_≡_};
-ghost use lib.ListN.{take};
 ghost use Rattle.io.specs.Counts.{Counts};
-ghost use Rattle.state.specs.Answers.{said, accepted};
-ghost use Rattle.plan_files.specs.AnswerLine.{pointIn, JudgedAt, Answered, LineOfAnswer, PrintsAnswer};
+ghost use Rattle.program_io.specs.Line.{LineIn};
+ghost use Rattle.state.specs.Answers.{said};
+ghost use Rattle.plan_files.specs.AnswerLine.{pointIn, programAnswer, answerLine, programLine, JudgedFiles};
+use super::counted::counted;
 use file_fields::bytes::bits32;
 use points::Point;
 use program_io::front::read_front;
-use program_io::front::room;
+use program_io::front::read_if;
 use program_io::line;
 use state::Answer;
 
-// The point in the first four bytes of a file.
-fn point(file: &[u8]) -> Point
-    ensures { λ r. ⌜ r ≡ pointIn (now (file .entry)) ⌝ }
+// The point in the first four bytes.
+fn point_in(point: &[u8]) -> Point
+    ensures { λ r. ⌜ r ≡ pointIn (now (point .entry)) ⌝ }
 {
-    Point { r: bits32(file, 0) }
+    Point {
+        r: bits32(point, 0),
+    }
 }
 
-// What the two files come out as at the point.
-fn answer_at(point: Point, net_name: &[u8], ann_name: &[u8]) -> Answer
-    ensures { λ r. ⌜ JudgedAt point (said r) ⌝ }
+// What the three files come out as, given their bytes.
+fn answer(point: &[u8], net: &[u8], ann: &[u8]) -> Answer
+    ensures { λ r. ⌜ said r ≡ programAnswer (now (point .entry)) (now (net .entry)) (now (ann .entry)) ⌝ }
 {
-    let mut net = room();
-    let n = read_front(net_name, &mut net);
-    let mut ann = room();
-    let m = read_front(ann_name, &mut ann);
-    judging::judge(&net[..n], &ann[..m], point)
-}
-
-// The answer, given the front of the point's file. The other two files are not looked at if that is short.
-fn answer(file: &[u8], net_name: &[u8], ann_name: &[u8]) -> Answer
-    ensures { λ r. ⌜ Answered (now (file .entry)) (said r) ⌝ }
-{
-    if file.len() < 4 {
+    if point.len() < 4 {
         return Answer::Refused(4);
     }
-    answer_at(point(file), net_name, ann_name)
+    let n = counted(net);
+    let m = counted(ann);
+    judging::judge(&net[..n], &ann[..m], point_in(point))
 }
 
-// The line for an answer, and how long it is. Judging accepts nothing: it gives an answer or refuses.
+// The line for an answer, and how long it is.
 fn line_for(answer: Answer, text: &mut [u8; 32]) -> usize
-    requires { ⌜ (said answer ≡ accepted → ⊥) ⌝ }
     ensures { λ r. ⌜ Counts r (now (text .exit)) ⌝ }
-    ensures { λ r. ⌜ LineOfAnswer (said answer) (take r (now (text .exit))) ⌝ }
+    ensures { λ r. ⌜ LineIn (answerLine (said answer)) (now (text .entry)) r (now (text .exit)) ⌝ }
 {
     match answer {
         Answer::Value(v) => line::numbered(b"value ", v, text),
@@ -53,12 +46,59 @@ fn line_for(answer: Answer, text: &mut [u8; 32]) -> usize
     }
 }
 
-// The line for the three files, and how long it is.
-pub fn judge_line(point_name: &[u8], net_name: &[u8], ann_name: &[u8], text: &mut [u8; 32]) -> usize
+// The line for the bytes of the three files, and how long it is.
+pub fn judge_line(point: &[u8], net: &[u8], ann: &[u8], text: &mut [u8; 32]) -> usize
     ensures { λ r. ⌜ Counts r (now (text .exit)) ⌝ }
-    ensures { λ r. ⌜ PrintsAnswer (take r (now (text .exit))) ⌝ }
+    ensures { λ r. ⌜ LineIn (programLine (now (point .entry)) (now (net .entry)) (now (ann .entry))) (now (text .entry)) r (now (text .exit)) ⌝ }
 {
-    let mut four = [0u8; 4];
-    let n = read_front(point_name, &mut four);
-    line_for(answer(&four[..n], net_name, ann_name), text)
+    line_for(answer(point, net, ann), text)
+}
+
+// How many bytes of each file were read into its buffer, and how long the line is.
+pub struct Judged {
+    pub point: usize,
+    pub net: usize,
+    pub ann: usize,
+    pub line: usize,
+}
+
+// Reads the three named files into the buffers and makes the line for what was read. The other two files are not opened where the point
+// has fewer than four bytes.
+fn judge_read(
+    point_name: &[u8],
+    net_name: &[u8],
+    ann_name: &[u8],
+    point: &mut [u8],
+    net: &mut [u8],
+    ann: &mut [u8],
+    text: &mut [u8; 32],
+) -> Judged
+    ensures { λ r. ⌜ JudgedFiles (now (point .exit)) (now (net .exit)) (now (ann .exit)) (now (text .entry)) r (now (text .exit)) ⌝ }
+{
+    let p = read_front(point_name, point);
+    let is_whole = 4 <= p;
+    let n = read_if(is_whole, net_name, net);
+    let m = read_if(is_whole, ann_name, ann);
+    let k = judge_line(&point[..p], &net[..n], &ann[..m], text);
+    Judged {
+        point: p,
+        net: n,
+        ann: m,
+        line: k,
+    }
+}
+
+// The same in buffers that hold as many bytes as count.
+pub fn judge_files(
+    point_name: &[u8],
+    net_name: &[u8],
+    ann_name: &[u8],
+    point: &mut [u8; 4],
+    net: &mut [u8; 32768],
+    ann: &mut [u8; 32768],
+    text: &mut [u8; 32],
+) -> Judged
+    ensures { λ r. ⌜ JudgedFiles (now (point .exit)) (now (net .exit)) (now (ann .exit)) (now (text .entry)) r (now (text .exit)) ⌝ }
+{
+    judge_read(point_name, net_name, ann_name, point, net, ann, text)
 }

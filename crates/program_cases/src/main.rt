@@ -1,12 +1,55 @@
-// The lines of the judging and the annotating program, for files that are there, short, long, missing or no files.
+// The lines of the judging, the annotating and the drawing program, for files that are there, short, long, missing or no files.
 // The cases are lines of standard input, which says at its top how it is written.
 use file_fields::bytes::byte;
 use plan_files::annotation_line;
 use plan_files::answer_line;
+use program_io::front;
 use testing::numbers::plus;
 use testing::print;
 use testing::script::find;
 use testing::script::starts_line;
+
+fn print_judged(point_name: &[u8], net_name: &[u8], ann_name: &[u8]) {
+    let mut point = [0u8; 4];
+    let mut net = front::room();
+    let mut ann = front::room();
+    let mut text = [0u8; 32];
+    let judged = answer_line::judge_files(
+        point_name,
+        net_name,
+        ann_name,
+        &mut point,
+        &mut net,
+        &mut ann,
+        &mut text,
+    );
+    let n = judged.line;
+    io::write_all(1, &text[..n]);
+}
+
+fn print_annotated(net_name: &[u8], ann_name: &[u8]) {
+    let mut net = front::room();
+    let mut ann = front::room();
+    let mut text = [0u8; 32];
+    let annotated = annotation_line::annotate_files(
+        net_name,
+        ann_name,
+        &mut net,
+        &mut ann,
+        &mut text,
+    );
+    let n = annotated.line;
+    io::write_all(1, &text[..n]);
+}
+
+fn print_drawn(name: &[u8]) {
+    let mut random = [0u8; 64];
+    let mut file = [0u8; 4];
+    let mut text = [0u8; 32];
+    let made = point_draw::make_point(name, &mut random, &mut file, &mut text);
+    let n = made.line;
+    io::write_all(1, &text[..n]);
+}
 
 // Prints what the judging program does for the three names that start at a place.
 fn judged(script: &[u8], point: usize) {
@@ -21,14 +64,7 @@ fn judged(script: &[u8], point: usize) {
     if script.len() < a || script.len() < b || script.len() < c {
         return;
     }
-    let mut text = [0u8; 32];
-    let n = answer_line::judge_line(
-        &script[point..a],
-        &script[net..b],
-        &script[ann..c],
-        &mut text,
-    );
-    io::write_all(1, &text[..n]);
+    print_judged(&script[point..a], &script[net..b], &script[ann..c]);
 }
 
 // The same for the annotating program and two names.
@@ -42,9 +78,16 @@ fn annotated(script: &[u8], net: usize) {
     if script.len() < b || script.len() < c {
         return;
     }
-    let mut text = [0u8; 32];
-    let n = annotation_line::annotate_line(&script[net..b], &script[ann..c], &mut text);
-    io::write_all(1, &text[..n]);
+    print_annotated(&script[net..b], &script[ann..c]);
+}
+
+// The same for the drawing program and one name.
+fn drawn(script: &[u8], point: usize) {
+    let a = find(script, point, b'\n');
+    if a < point || script.len() < a {
+        return;
+    }
+    print_drawn(&script[point..a]);
 }
 
 // One case: a label, and what a program prints.
@@ -52,11 +95,11 @@ fn case(script: &[u8], at: usize) {
     let colon = find(script, at, b':');
     let names = plus(colon, 4);
     print::part(script, at, plus(colon, 2));
-    if byte(script, plus(colon, 2)) == b'j' {
-        judged(script, names);
-        return;
+    match byte(script, plus(colon, 2)) {
+        b'j' => judged(script, names),
+        b'a' => annotated(script, names),
+        _ => drawn(script, names),
     }
-    annotated(script, names);
 }
 
 // The case that starts at a place, if one does.

@@ -41,3 +41,13 @@ pub fn read_front(name: &[u8], buffer: &mut [u8]) -> usize
     libc::close(fd);
     n
 }
+
+// The same where the file is wanted, else nothing: it is not opened.
+pub fn read_if(is_wanted: bool, name: &[u8], buffer: &mut [u8]) -> usize
+    ensures { λ r. ⌜ Counts r (now (buffer .exit)) ⌝ }
+{
+    if is_wanted {
+        return read_front(name, buffer);
+    }
+    0
+}

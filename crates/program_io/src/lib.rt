@@ -1,3 +1,4 @@
-// What the programs share: the front of a file, and a line of text.
+// What the programs share: the front of a file, a line of text, and saving bytes in a file.
 pub mod front;
 pub mod line;
+pub mod saving;

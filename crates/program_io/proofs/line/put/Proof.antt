@@ -1,12 +1,12 @@
 -- `line::put` meets its contract. The loop's invariant: so many bytes of the text are pasted into the buffer.
 -- Assumes nothing.
 use mathlib.Core.Path.{_≡_, refl, sym, ap, _∙_}
-use mathlib.Core.List.{List, _++_}
+use mathlib.Core.List.{List}
 use Prim.Native.Nat.{ℕ, _+_, _-_, _≤_, zero-le}
 use native.Mathlib.Numerals.{add-one}
 use native.Mathlib.Omega.{arith}
-use lib.ListN.{length, take, set, getD, length-set}
-use lib.Seq.{paste, paste-zero, paste-suc, take-paste, take-all}
+use lib.ListN.{length, set, getD, length-set}
+use lib.Seq.{paste, paste-zero, paste-suc}
 use Rattle.program_io.proofs.line.put.Statement.{statement}
 use Rattle.program_io.proofs.line.put.Tie as tie
 
@@ -36,9 +36,7 @@ returns c =
     let a = c .before .before .args in
     let all : l .i ≡ length (a .text .now) = omega arith in (
       ap (λ (k : ℕ). a .at + k) all,
-      ap (take (a .at + l .i)) (l .inv .2)
-          ∙ take-paste (a .buffer .now) (a .at) (a .text .now) (l .i) (omega arith) (omega arith)
-          ∙ ap (λ (t : List ℕ). take (a .at) (a .buffer .now) ++ t) (take-all (l .i) (a .text .now) (omega arith)),
+      l .inv .2 ∙ ap (paste (a .buffer .now) (a .at) (a .text .now)) all,
     )
 
 pub put-spec : {M : Type 1} → statement M

@@ -1,13 +1,16 @@
 -- `line::spelled` meets its contract: three texts, one after the other, of at most 11, 20 and 1 bytes.
 -- Assumes nothing.
-use mathlib.Core.Path.{ap, _∙_}
+use mathlib.Core.Path.{_≡_, ap, _∙_}
 use mathlib.Core.List.{List, [], _∷_, _++_}
 use Prim.Native.Nat.{ℕ, _-_, _^_, _≤_, _<_}
 use native.Mathlib.Nat.{le-of-suc-le-suc, lt-of-not-le, pow-le-pow-right}
 use native.Mathlib.Omega.{arith}
 use borrow.Author.Needs.{needs}
+use lib.ListN.{take}
 use Rattle.io.specs.Digits.{Fewest}
 use Rattle.io.proofs.Counting.{counts}
+use Rattle.program_io.specs.Line.{decimal}
+use Rattle.program_io.proofs.Lines.{none-in, same-in, more-in, decimal-digits}
 use Rattle.program_io.proofs.line.spelled.Statement.{statement}
 use Rattle.program_io.proofs.line.spelled.Tie as tie
 
@@ -43,15 +46,18 @@ put-requires-3 c κs = omega (arith, digits-end (c .before .before))
 
 returns : tie.Need-returns
 returns c =
-    let word = c .before .before .before .before .before .before .put in
+    let args = c .before .before .before .before .before .before .before .before .before .before .before .args in
     let digits = c .before .before .before .before .before .before .before .before .decimal in
-    let both = c .before .before .before .put2 in (
+    let word = c .before .before .before .before .before .before .put in
+    let both = c .before .before .before .put2 in
+    let text : List ℕ = args .word .now in
+    let spelled : List ℕ = take (digits .result) (digits .last .1 .0) in
+    let is : spelled ≡ decimal (args .n) = digits .ensures .1 .1 ∙ decimal-digits (args .n) (digits .result) (digits .ensures .1 .0) in
+    let at-word = more-in [] text _ _ _ _ _ (none-in _) (word .ensures .0) (word .ensures .1) in
+    let at-digits = more-in text spelled _ _ _ _ _ at-word (both .ensures .0) (both .ensures .1) in
+    let whole = more-in (text ++ spelled) (10 ∷ []) _ _ _ _ _ at-digits (c .put3 .ensures .0) (c .put3 .ensures .1) in (
       counts _ _ (omega (arith, c .put3 .ensures .0, digits-end (c .before .before .before))),
-      record {
-        places = digits .result;
-        fewest = digits .ensures .1 .0;
-        spelled = c .put3 .ensures .1 ∙ ap (λ (t : List ℕ). t ++ (10 ∷ [])) (both .ensures .1 ∙ (λ i. ((word .ensures .1) i) ++ ((digits .ensures .1 .1) i)));
-      },
+      same-in _ _ _ (ap (λ (d : List ℕ). text ++ d ++ (10 ∷ [])) is) whole,
     )
 
 pub spelled-spec : {M : Type 1} → statement M

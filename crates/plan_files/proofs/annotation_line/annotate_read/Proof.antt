@@ -1,0 +1,48 @@
+-- `annotation_line::annotate_read` meets its contract: the list of bytes is what was read.
+-- Assumes nothing.
+use mathlib.Core.Path.{ap, subst}
+use mathlib.Core.List.{List}
+use Prim.Native.Nat.{ℕ}
+use native.Mathlib.Omega.{arith}
+use borrow.Author.Needs.{needs}
+use lib.ListN.{length, take}
+use Rattle.program_io.proofs.Lines.{same-in}
+use Rattle.helper.specs.Helper.{HelperSaid, helperSaid, BufferAfter}
+use Rattle.plan_files.specs.Counted.{counted}
+use Rattle.plan_files.specs.AnnotationLine.{replyLine}
+use Rattle.plan_files.proofs.Room.{within-reply}
+use Rattle.plan_files.proofs.annotation_line.annotate_read.Statement.{statement}
+use Rattle.plan_files.proofs.annotation_line.annotate_read.Tie as tie
+
+save-reply-requires : tie.Need-save-reply-requires
+save-reply-requires c κs =
+    let args = c .before .before .before .before .before .before .before .before .before .before .before .before .before .before .args in
+    let reply = c .before .before .before .annotation in
+    omega (arith, within-reply _ (length (args .ann .now)) (helperSaid (reply .result)) (reply .ensures .0), reply .kept .1 .0)
+
+returns : tie.Need-returns
+returns c =
+    let read = c .before .before .before .before .before .before .before .before .before .before .before .read-front in
+    let args = c .before .before .before .before .before .before .before .before .before .before .before .before .before .before .before .before .before .args in
+    let reply = c .before .before .before .before .before .before .annotation in
+    let net : List ℕ = take (read .result) (read .last .1 .0) in
+    record {
+      net-read = read .ensures;
+      annotation-is = subst (λ (s : HelperSaid). BufferAfter s (counted net) (args .ann .now) (reply .last .1 .0)) (reply .ensures .0) (reply .ensures .1);
+      line-made = c .line-for .ensures .0;
+      line-is = same-in _ _ _ (ap (λ (s : HelperSaid). replyLine s (c .before .before .save-reply .result)) (reply .ensures .0)) (c .line-for .ensures .1);
+    }
+
+pub annotate-read-spec : {M : Type 1} → statement M
+annotate-read-spec =
+    tie.close
+    (tie.spec
+    (λ c κs. search needs)
+    (λ c. search needs)
+    (λ c. search needs)
+    (λ c κs. search needs)
+    save-reply-requires
+    (λ c κs. search needs)
+    (λ c. search needs)
+    (λ c. search needs)
+    returns)
