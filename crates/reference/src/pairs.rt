@@ -1,5 +1,5 @@
 // The ends of the records of a pairing of h pumps with h sites, 256 × pump + site.
-use super::array::pair;
+use super::rows::pair;
 use super::random::below;
 use testing::numbers::modulo;
 use testing::numbers::plus;

@@ -1,48 +1,61 @@
 // Least lengths by Bellman and Ford: every arc again and again, until nothing changes.
-use super::array::get;
-use super::array::head;
-use super::array::lower;
-use super::array::put;
-use super::array::record;
-use super::array::tail;
-use super::array::weight;
 use super::instances::Net;
+use super::rows::Rows;
+use super::rows::WORK;
+use super::rows::get;
+use super::rows::head;
+use super::rows::put;
+use super::rows::record;
+use super::rows::tail;
+use super::rows::weight;
 use testing::answers::NONE;
 use testing::numbers::plus;
 
+// The least length to each vertex that is known so far.
+pub const LENGTH: usize = WORK;
+
+// No vertex but the source is reached yet.
+fn begin(a: &mut Rows, s: usize) {
+    let mut v: usize = 0;
+    while v < 256 {
+        put(a, LENGTH, v, NONE);
+        v += 1;
+    }
+    put(a, LENGTH, s, 0);
+}
+
 // Tries one arc; 1 where it shortens a chain.
-fn try_arc(r: usize, lengths: &mut [usize; 256]) -> usize {
-    let d = get(lengths, tail(r));
-    if d == NONE {
+fn try_arc(a: &mut Rows, r: usize) -> usize {
+    let d = plus(get(a, LENGTH, tail(r)), weight(r));
+    if get(a, LENGTH, head(r)) <= d || NONE <= d {
         return 0;
     }
-    lower(lengths, head(r), plus(d, weight(r)))
+    put(a, LENGTH, head(r), d);
+    1
 }
 
 // Tries every arc; how many chains became shorter.
-fn pass(m: usize, records: &[u32; 4096], lengths: &mut [usize; 256]) -> usize {
+fn pass(a: &mut Rows, m: usize) -> usize {
     let mut changes: usize = 0;
     let mut i: usize = 0;
     while i < m {
-        let c = try_arc(record(records, i), lengths);
+        let c = try_arc(a, record(a, i));
         changes = plus(changes, c);
         i += 1;
     }
     changes
 }
 
-// Fills in the least lengths from the source. `lengths` comes with NONE everywhere.
-pub fn measure(net: Net, records: &[u32; 4096], lengths: &mut [usize; 256]) -> usize {
+// The least length of a chain from the source to the sink, or NONE; leaves the least lengths of all.
+pub fn least(net: Net, a: &mut Rows) -> usize {
+    begin(a, net.s);
     let n = net.n;
-    let m = net.m;
-    put(lengths, net.s, 0);
     let mut i: usize = 0;
     while i < n {
-        let changes = pass(m, records, lengths);
-        if changes == 0 {
-            return get(lengths, net.t);
+        if pass(a, net.m) == 0 {
+            return get(a, LENGTH, net.t);
         }
         i += 1;
     }
-    get(lengths, net.t)
+    get(a, LENGTH, net.t)
 }

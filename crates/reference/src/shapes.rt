@@ -1,5 +1,5 @@
 // The ends of the records of a route or a discharge, 256 × tail + head, for n vertices, a seed and the record's place.
-use super::array::pair;
+use super::rows::pair;
 use super::random::below;
 use testing::numbers::minus;
 use testing::numbers::modulo;

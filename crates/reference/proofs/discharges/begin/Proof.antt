@@ -1,0 +1,28 @@
+-- `reference::discharges::begin` is safe and ends: it goes through the vertices.
+-- Assumes nothing.
+use Prim.Native.Nat.{_-_}
+use native.Mathlib.Omega.{arith}
+use borrow.Author.Needs.{needs}
+use Rattle.reference.proofs.discharges.begin.Statement.{statement}
+use Rattle.reference.proofs.discharges.begin.Tie as tie
+
+abbrev Inv-loop : tie.InvT-loop
+Inv-loop a₀ s v₀ a v = Unit {0}
+
+abbrev μ-loop : tie.MeasureT-loop
+μ-loop a₀ s v₀ a v = 256 - v
+
+pub begin-spec : {M : Type 1} → statement M
+begin-spec =
+    tie.close
+    (tie.spec
+    Inv-loop
+    μ-loop
+    (λ c. tt)
+    (λ c κs. search needs)
+    (λ c. omega arith)
+    (λ c. omega arith)
+    (λ c. tt)
+    (λ c κs. search needs)
+    (λ c κs. search needs)
+    (λ c. search needs))
