@@ -7,6 +7,7 @@ use testing::answers::NONE;
 use testing::answers::code;
 use testing::files::Files;
 use testing::files::START;
+use testing::files::copy_front;
 use testing::files::get;
 use testing::files::put;
 use testing::numbers::low_word;
@@ -67,19 +68,10 @@ fn written(net: &[u8], f: &mut [u8], room: usize) -> usize {
     helper_code(helper::annotate(net, &mut f[START..end]))
 }
 
-// The part of the array before the annotation.
-fn copy_network(f: &Files, file: &mut [u8]) {
-    let mut i: usize = 0;
-    while i < file.len() {
-        file[i] = get(f, i);
-        i += 1;
-    }
-}
-
 // Calls the helper on the network, with the annotation's part filled before.
 pub fn helped(f: &mut Files, size: usize, room: usize) -> usize {
     let mut net = [0u8; 32768];
-    copy_network(f, &mut net);
+    copy_front(f, &mut net);
     fill(f);
     let end = size % START;
     written(&net[0..end], f, room)

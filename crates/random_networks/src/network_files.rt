@@ -7,7 +7,7 @@ use reference::rows::Rows;
 use reference::rows::record;
 use testing::files::Files;
 use testing::files::START;
-use testing::files::get;
+use testing::files::copy_front;
 use testing::files::put_number;
 
 // Where the longest annotation ends.
@@ -44,15 +44,6 @@ fn written(w: Written) -> usize {
     }
 }
 
-// The part of the array before the annotation.
-fn copy_network(f: &Files, file: &mut [u8]) {
-    let mut i: usize = 0;
-    while i < file.len() {
-        file[i] = get(f, i);
-        i += 1;
-    }
-}
-
 // Has the helper write the annotation; its length.
 fn help(file: &[u8], f: &mut [u8]) -> usize {
     if f.len() < END {
@@ -64,7 +55,7 @@ fn help(file: &[u8], f: &mut [u8]) -> usize {
 // Has the helper write the annotation; is that as long as it has to be?
 pub fn annotate(net: Net, f: &mut Files) -> bool {
     let mut file = [0u8; 32768];
-    copy_network(f, &mut file);
+    copy_front(f, &mut file);
     let size = network_size(net.m) % START;
     help(&file[0..size], f) == annotation_size(net.n, net.m)
 }

@@ -10,7 +10,6 @@ use testing::files::get;
 use testing::files::number;
 use testing::files::put;
 use testing::files::put_number;
-use testing::numbers::low_byte;
 use testing::numbers::minus;
 use testing::numbers::modulo;
 use testing::numbers::plus;
@@ -40,12 +39,12 @@ fn place(kind: usize, round: usize, c: Case) -> usize {
     }
 }
 
-// The bits to change there: of a claim those that make the other one of it.
-fn bits(kind: usize, round: usize) -> u8 {
+// The bits to change there: the last, of a claim those that make it the other one.
+fn bits(kind: usize) -> u8 {
     if kind == 4 {
         return 3;
     }
-    low_byte(round % 3 + 1)
+    1
 }
 
 fn flip(f: &mut Files, at: usize, bits: u8) {
@@ -116,6 +115,6 @@ pub fn twist(kind: usize, round: usize, c: Case, f: &mut Files) -> bool {
             record_at(c.n, another(c, e, round)),
         );
     }
-    flip(f, place(kind, round, c), bits(kind, round));
+    flip(f, place(kind, round, c), bits(kind));
     kind == 1
 }

@@ -3,6 +3,7 @@
 use super::instances::Net;
 use super::rows::Rows;
 use super::rows::WORK;
+use super::rows::fill_row;
 use super::rows::get;
 use super::rows::grow;
 use super::rows::head;
@@ -71,11 +72,7 @@ fn scan(a: &mut Rows, n: usize, u: usize) {
 
 // No vertex but the source is reached yet.
 fn begin(a: &mut Rows, s: usize) {
-    let mut v: usize = 0;
-    while v < 256 {
-        put(a, AMOUNT, v, 0);
-        v += 1;
-    }
+    fill_row(a, AMOUNT, 0);
     put(a, COUNT, 0, 0);
     reach(a, s, s, NONE);
 }

@@ -4,6 +4,7 @@
 use super::instances::Net;
 use super::rows::Rows;
 use super::rows::WORK;
+use super::rows::fill_row;
 use super::rows::get;
 use super::rows::grow;
 use super::rows::head;
@@ -25,8 +26,10 @@ const SITE_PRICE: usize = WORK + 1;
 // The pump that has each site, 0 for none.
 const PUMP: usize = WORK + 2;
 
-// How much dearer a path to each site is than the paths taken so far.
+// What the cheapest path known to each site costs above its prices. No site has the number FAR, which no path leads to.
 const EXTRA: usize = WORK + 3;
+
+const FAR: usize = 255;
 
 // The site before it on that path.
 const BEFORE: usize = WORK + 4;
@@ -60,7 +63,7 @@ fn above(a: &Rows, p: usize, q: usize) -> usize {
 
 // Tries to reach site q from site `from`, whose pump would go over to it.
 fn try_pair(a: &mut Rows, from: usize, q: usize) {
-    let x = above(a, get(a, PUMP, from), q);
+    let x = plus(get(a, EXTRA, from), above(a, get(a, PUMP, from), q));
     if x < get(a, EXTRA, q) {
         put(a, EXTRA, q, x);
         put(a, BEFORE, q, from);
@@ -82,7 +85,7 @@ fn nearer(a: &mut Rows, i: usize, from: usize, q: usize, best: usize) -> usize {
 // Takes the paths to site `from`, and tries to reach each other from it; the nearest.
 fn scan(a: &mut Rows, n: usize, i: usize, from: usize) -> usize {
     put(a, TAKEN, from, i);
-    let mut best: usize = 0;
+    let mut best = FAR;
     let mut q: usize = 1;
     while q < n {
         best = nearer(a, i, from, q, best);
@@ -91,15 +94,27 @@ fn scan(a: &mut Rows, n: usize, i: usize, from: usize) -> usize {
     best
 }
 
-// Raises the prices of a site whose paths are taken and of its pump; another is so much nearer then.
+// Finds the cheapest path for pump i to a site that no pump has.
+fn search(a: &mut Rows, n: usize, i: usize) -> usize {
+    let mut q: usize = 0;
+    let mut k: usize = 0;
+    while k < n {
+        q = scan(a, n, i, q);
+        if get(a, PUMP, q) == 0 {
+            return q;
+        }
+        k += 1;
+    }
+    q
+}
+
+// Raises the prices of a site that pump i's paths were taken as far as, and of its pump, by what its path costs less than x.
 fn raise(a: &mut Rows, i: usize, q: usize, x: usize) {
     if get(a, TAKEN, q) == i {
-        grow(a, SITE_PRICE, q, x);
-        grow(a, PUMP_PRICE, get(a, PUMP, q), x);
-        return;
+        let d = minus(x, get(a, EXTRA, q));
+        grow(a, SITE_PRICE, q, d);
+        grow(a, PUMP_PRICE, get(a, PUMP, q), d);
     }
-    let old = get(a, EXTRA, q);
-    put(a, EXTRA, q, minus(old, x));
 }
 
 fn raise_all(a: &mut Rows, n: usize, i: usize, x: usize) {
@@ -108,32 +123,6 @@ fn raise_all(a: &mut Rows, n: usize, i: usize, x: usize) {
         raise(a, i, q, x);
         q += 1;
     }
-}
-
-// No path is known yet for pump i.
-fn begin(a: &mut Rows, i: usize) {
-    let mut q: usize = 0;
-    while q < 256 {
-        put(a, EXTRA, q, NONE);
-        q += 1;
-    }
-    put(a, PUMP, 0, i);
-}
-
-// Finds the cheapest path for pump i to a site that no pump has.
-fn search(a: &mut Rows, n: usize, i: usize) -> usize {
-    begin(a, i);
-    let mut q: usize = 0;
-    let mut k: usize = 0;
-    while k < n {
-        q = scan(a, n, i, q);
-        raise_all(a, n, i, get(a, EXTRA, q));
-        if get(a, PUMP, q) == 0 {
-            return q;
-        }
-        k += 1;
-    }
-    q
 }
 
 // Each site on the path to the last gets the pump of the one before it.
@@ -151,12 +140,20 @@ fn change(a: &mut Rows, last: usize) {
     }
 }
 
-// Takes all pumps in.
-fn pair_all(a: &mut Rows, n: usize) {
+// Takes pump i in: its path starts at site 0.
+fn take_in(a: &mut Rows, n: usize, i: usize) {
+    fill_row(a, EXTRA, NONE);
+    put(a, EXTRA, 0, 0);
+    put(a, PUMP, 0, i);
+    let last = search(a, n, i);
+    raise_all(a, n, i, get(a, EXTRA, last));
+    change(a, last);
+}
+
+fn take_all_in(a: &mut Rows, n: usize) {
     let mut i: usize = 1;
     while i < n {
-        let last = search(a, n, i);
-        change(a, last);
+        take_in(a, n, i);
         i += 1;
     }
 }
@@ -165,7 +162,7 @@ fn pair_all(a: &mut Rows, n: usize) {
 pub fn least(net: Net, a: &mut Rows) -> usize {
     let h = net.n / 2;
     fill(a, h, net.m);
-    pair_all(a, plus(h, 1));
+    take_all_in(a, plus(h, 1));
     let cost = get(a, SITE_PRICE, 0);
     if cost < ABSENT {
         return cost;

@@ -1,7 +1,8 @@
-// Least lengths by Bellman and Ford: every arc again and again, until nothing changes.
+// Least lengths by Bellman and Ford: every arc as often as there are vertices.
 use super::instances::Net;
 use super::rows::Rows;
 use super::rows::WORK;
+use super::rows::fill_row;
 use super::rows::get;
 use super::rows::head;
 use super::rows::put;
@@ -14,48 +15,35 @@ use testing::numbers::plus;
 // The least length to each vertex that is known so far.
 pub const LENGTH: usize = WORK;
 
-// No vertex but the source is reached yet.
-fn begin(a: &mut Rows, s: usize) {
-    let mut v: usize = 0;
-    while v < 256 {
-        put(a, LENGTH, v, NONE);
-        v += 1;
-    }
-    put(a, LENGTH, s, 0);
-}
-
-// Tries one arc; 1 where it shortens a chain.
-fn try_arc(a: &mut Rows, r: usize) -> usize {
+// Tries one arc.
+fn try_arc(a: &mut Rows, r: usize) {
     let d = plus(get(a, LENGTH, tail(r)), weight(r));
-    if get(a, LENGTH, head(r)) <= d || NONE <= d {
-        return 0;
+    if d < get(a, LENGTH, head(r)) {
+        put(a, LENGTH, head(r), d);
     }
-    put(a, LENGTH, head(r), d);
-    1
 }
 
-// Tries every arc; how many chains became shorter.
-fn pass(a: &mut Rows, m: usize) -> usize {
-    let mut changes: usize = 0;
+// Tries every arc.
+fn pass(a: &mut Rows, m: usize) {
     let mut i: usize = 0;
     while i < m {
-        let c = try_arc(a, record(a, i));
-        changes = plus(changes, c);
+        try_arc(a, record(a, i));
         i += 1;
     }
-    changes
+}
+
+fn passes(a: &mut Rows, n: usize, m: usize) {
+    let mut i: usize = 0;
+    while i < n {
+        pass(a, m);
+        i += 1;
+    }
 }
 
 // The least length of a chain from the source to the sink, or NONE; leaves the least lengths of all.
 pub fn least(net: Net, a: &mut Rows) -> usize {
-    begin(a, net.s);
-    let n = net.n;
-    let mut i: usize = 0;
-    while i < n {
-        if pass(a, net.m) == 0 {
-            return get(a, LENGTH, net.t);
-        }
-        i += 1;
-    }
+    fill_row(a, LENGTH, NONE);
+    put(a, LENGTH, net.s, 0);
+    passes(a, net.n, net.m);
     get(a, LENGTH, net.t)
 }

@@ -23,6 +23,15 @@ pub fn grow(a: &mut Rows, row: usize, i: usize, v: usize) {
     put(a, row, i, plus(get(a, row, i), v));
 }
 
+// The same number in all of a row.
+pub fn fill_row(a: &mut Rows, row: usize, v: usize) {
+    let mut i: usize = 0;
+    while i < 256 {
+        put(a, row, i, v);
+        i += 1;
+    }
+}
+
 // Record i.
 pub fn record(a: &Rows, i: usize) -> usize {
     get(a, RECORDS + i / 256 % 16, i)

@@ -16,6 +16,15 @@ pub fn put(f: &mut Files, at: usize, x: u8) {
     f[at % 65536] = x;
 }
 
+// The first bytes of the array, as many as `to` has.
+pub fn copy_front(f: &Files, to: &mut [u8]) {
+    let mut i: usize = 0;
+    while i < to.len() {
+        to[i] = get(f, i);
+        i += 1;
+    }
+}
+
 fn wide(x: u8) -> usize {
     x as usize
 }

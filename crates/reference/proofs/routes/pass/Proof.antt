@@ -7,10 +7,10 @@ use Rattle.reference.proofs.routes.pass.Statement.{statement}
 use Rattle.reference.proofs.routes.pass.Tie as tie
 
 abbrev Inv-loop : tie.InvT-loop
-Inv-loop a₀ m changes₀ i₀ a changes i = Unit {0}
+Inv-loop a₀ m i₀ a i = Unit {0}
 
 abbrev μ-loop : tie.MeasureT-loop
-μ-loop a₀ m changes₀ i₀ a changes i = m - i
+μ-loop a₀ m i₀ a i = m - i
 
 pub pass-spec : {M : Type 1} → statement M
 pass-spec =
@@ -19,7 +19,6 @@ pass-spec =
     Inv-loop
     μ-loop
     (λ c. tt)
-    (λ c κs. search needs)
     (λ c κs. search needs)
     (λ c κs. search needs)
     (λ c. omega arith)

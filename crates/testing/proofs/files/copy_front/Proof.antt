@@ -1,21 +1,21 @@
--- `random_networks::network_files::copy_network` is safe and ends: it goes through the bytes.
+-- `testing::files::copy_front` is safe and ends: it goes through the bytes.
 -- Assumes nothing.
 use Prim.Native.Nat.{_-_}
 use mathlib.Core.Path.{_≡_}
 use native.Mathlib.Omega.{arith}
 use lib.ListN.{length}
 use borrow.Author.Needs.{needs}
-use Rattle.random_networks.proofs.network_files.copy_network.Statement.{statement}
-use Rattle.random_networks.proofs.network_files.copy_network.Tie as tie
+use Rattle.testing.proofs.files.copy_front.Statement.{statement}
+use Rattle.testing.proofs.files.copy_front.Tie as tie
 
 abbrev Inv-loop : tie.InvT-loop
-Inv-loop f file₀ i₀ file i = length file ≡ length file₀
+Inv-loop f to₀ i₀ to i = length to ≡ length to₀
 
 abbrev μ-loop : tie.MeasureT-loop
-μ-loop f file₀ i₀ file i = length file₀ - i
+μ-loop f to₀ i₀ to i = length to₀ - i
 
-pub copy-network-spec : {M : Type 1} → statement M
-copy-network-spec =
+pub copy-front-spec : {M : Type 1} → statement M
+copy-front-spec =
     tie.close
     (tie.spec
     Inv-loop

@@ -1,10 +1,10 @@
--- `reference::pairings::pair_all` is safe and ends: it goes through the pumps.
+-- `reference::pairings::take_all_in` is safe and ends: it goes through the pumps.
 -- Assumes nothing.
 use Prim.Native.Nat.{_-_}
 use native.Mathlib.Omega.{arith}
 use borrow.Author.Needs.{needs}
-use Rattle.reference.proofs.pairings.pair_all.Statement.{statement}
-use Rattle.reference.proofs.pairings.pair_all.Tie as tie
+use Rattle.reference.proofs.pairings.take_all_in.Statement.{statement}
+use Rattle.reference.proofs.pairings.take_all_in.Tie as tie
 
 abbrev Inv-loop : tie.InvT-loop
 Inv-loop a₀ n i₀ a i = Unit {0}
@@ -12,14 +12,13 @@ Inv-loop a₀ n i₀ a i = Unit {0}
 abbrev μ-loop : tie.MeasureT-loop
 μ-loop a₀ n i₀ a i = n - i
 
-pub pair-all-spec : {M : Type 1} → statement M
-pair-all-spec =
+pub take-all-in-spec : {M : Type 1} → statement M
+take-all-in-spec =
     tie.close
     (tie.spec
     Inv-loop
     μ-loop
     (λ c. tt)
-    (λ c κs. search needs)
     (λ c κs. search needs)
     (λ c. omega arith)
     (λ c. omega arith)
