@@ -5,8 +5,10 @@ use rows::Rows;
 pub mod arcs;
 pub mod discharges;
 pub mod instances;
+pub mod matrix;
 pub mod pairings;
 pub mod pairs;
+pub mod paths;
 pub mod random;
 pub mod routes;
 pub mod rows;
@@ -15,9 +17,10 @@ pub mod shapes;
 // The true answer, or NONE. The rows come with the records and 0 everywhere else.
 pub fn truth(net: Net, a: &mut Rows) -> usize {
     let question = net.question;
+    matrix::fill(a, question, net.m);
     match question {
-        1 => routes::least(net, a),
-        2 => discharges::greatest(net, a),
-        _ => pairings::least(net, a),
+        1 => routes::least(a, net.n, net.m, net.s, net.t),
+        2 => discharges::greatest(a, net.n, net.s, net.t),
+        _ => pairings::least(a, net.n),
     }
 }

@@ -1,5 +1,4 @@
 // Least lengths by Bellman and Ford: every arc as often as there are vertices.
-use super::instances::Net;
 use super::rows::Rows;
 use super::rows::WORK;
 use super::rows::fill_row;
@@ -40,10 +39,10 @@ fn passes(a: &mut Rows, n: usize, m: usize) {
     }
 }
 
-// The least length of a chain from the source to the sink, or NONE; leaves the least lengths of all.
-pub fn least(net: Net, a: &mut Rows) -> usize {
+// The least length of a chain from s to t over m records, or NONE; leaves the least lengths of all.
+pub fn least(a: &mut Rows, n: usize, m: usize, s: usize, t: usize) -> usize {
     fill_row(a, LENGTH, NONE);
-    put(a, LENGTH, net.s, 0);
-    passes(a, net.n, net.m);
-    get(a, LENGTH, net.t)
+    put(a, LENGTH, s, 0);
+    passes(a, n, m);
+    get(a, LENGTH, t)
 }

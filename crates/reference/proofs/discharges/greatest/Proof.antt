@@ -7,10 +7,10 @@ use Rattle.reference.proofs.discharges.greatest.Statement.{statement}
 use Rattle.reference.proofs.discharges.greatest.Tie as tie
 
 abbrev Inv-loop : tie.InvT-loop
-Inv-loop net a₀ sum₀ i₀ a sum i = Unit {0}
+Inv-loop a₀ n s t sum₀ i₀ a sum i = Unit {0}
 
 abbrev μ-loop : tie.MeasureT-loop
-μ-loop net a₀ sum₀ i₀ a sum i = 1000000 - i
+μ-loop a₀ n s t sum₀ i₀ a sum i = 1000000 - i
 
 pub greatest-spec : {M : Type 1} → statement M
 greatest-spec =
@@ -18,12 +18,9 @@ greatest-spec =
     (tie.spec
     Inv-loop
     μ-loop
-    (λ c κs. search needs)
     (λ c. tt)
     (λ c κs. search needs)
-    (λ c κs. search needs)
     (λ c. search needs)
-    (λ c κs. search needs)
     (λ c κs. search needs)
     (λ c. omega arith)
     (λ c. omega arith)

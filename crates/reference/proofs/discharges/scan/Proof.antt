@@ -20,6 +20,9 @@ scan-spec =
     μ-loop
     (λ c. tt)
     (λ c κs. search needs)
+    (λ c κs. search needs)
+    (λ c κs. search needs)
+    (λ c κs. search needs)
     (λ c. omega arith)
     (λ c. omega arith)
     (λ c. tt)

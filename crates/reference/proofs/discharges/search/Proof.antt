@@ -1,4 +1,4 @@
--- `reference::discharges::search` is safe and ends: it goes through the vertices reached, 256 at most.
+-- `reference::discharges::search` is safe and ends: it continues from 256 vertices at most.
 -- Assumes nothing.
 use Prim.Native.Nat.{_-_}
 use native.Mathlib.Omega.{arith}
@@ -22,7 +22,6 @@ search-spec =
     (λ c. tt)
     (λ c κs. search needs)
     (λ c. search needs)
-    (λ c κs. search needs)
     (λ c κs. search needs)
     (λ c. omega arith)
     (λ c. omega arith)

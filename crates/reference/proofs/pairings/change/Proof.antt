@@ -7,10 +7,10 @@ use Rattle.reference.proofs.pairings.change.Statement.{statement}
 use Rattle.reference.proofs.pairings.change.Tie as tie
 
 abbrev Inv-loop : tie.InvT-loop
-Inv-loop a₀ last q₀ k₀ a q k = Unit {0}
+Inv-loop a₀ last q₀ i₀ a q i = Unit {0}
 
 abbrev μ-loop : tie.MeasureT-loop
-μ-loop a₀ last q₀ k₀ a q k = 256 - k
+μ-loop a₀ last q₀ i₀ a q i = 256 - i
 
 pub change-spec : {M : Type 1} → statement M
 change-spec =

@@ -7,10 +7,10 @@ use Rattle.reference.proofs.pairings.raise_all.Statement.{statement}
 use Rattle.reference.proofs.pairings.raise_all.Tie as tie
 
 abbrev Inv-loop : tie.InvT-loop
-Inv-loop a₀ n i x q₀ a q = Unit {0}
+Inv-loop a₀ value q₀ a q = Unit {0}
 
 abbrev μ-loop : tie.MeasureT-loop
-μ-loop a₀ n i x q₀ a q = n - q
+μ-loop a₀ value q₀ a q = 255 - q
 
 pub raise-all-spec : {M : Type 1} → statement M
 raise-all-spec =

@@ -7,10 +7,10 @@ use Rattle.reference.proofs.pairings.scan.Statement.{statement}
 use Rattle.reference.proofs.pairings.scan.Tie as tie
 
 abbrev Inv-loop : tie.InvT-loop
-Inv-loop a₀ n i from best₀ q₀ a best q = Unit {0}
+Inv-loop a₀ h n from q₀ a q = Unit {0}
 
 abbrev μ-loop : tie.MeasureT-loop
-μ-loop a₀ n i from best₀ q₀ a best q = n - q
+μ-loop a₀ h n from q₀ a q = n - q
 
 pub scan-spec : {M : Type 1} → statement M
 scan-spec =
@@ -18,8 +18,8 @@ scan-spec =
     (tie.spec
     Inv-loop
     μ-loop
-    (λ c κs. search needs)
     (λ c. tt)
+    (λ c κs. search needs)
     (λ c κs. search needs)
     (λ c. omega arith)
     (λ c. omega arith)

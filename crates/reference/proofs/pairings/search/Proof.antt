@@ -1,4 +1,4 @@
--- `reference::pairings::search` is safe and ends: it takes the paths to n sites at most.
+-- `reference::pairings::search` is safe and ends: it continues from 256 sites at most.
 -- Assumes nothing.
 use Prim.Native.Nat.{_-_}
 use native.Mathlib.Omega.{arith}
@@ -7,10 +7,10 @@ use Rattle.reference.proofs.pairings.search.Statement.{statement}
 use Rattle.reference.proofs.pairings.search.Tie as tie
 
 abbrev Inv-loop : tie.InvT-loop
-Inv-loop a₀ n i q₀ k₀ a q k = Unit {0}
+Inv-loop a₀ h n i₀ a i = Unit {0}
 
 abbrev μ-loop : tie.MeasureT-loop
-μ-loop a₀ n i q₀ k₀ a q k = n - k
+μ-loop a₀ h n i₀ a i = 256 - i
 
 pub search-spec : {M : Type 1} → statement M
 search-spec =
@@ -18,10 +18,12 @@ search-spec =
     (tie.spec
     Inv-loop
     μ-loop
+    (λ c κs. search needs)
     (λ c. tt)
     (λ c κs. search needs)
     (λ c κs. search needs)
     (λ c. search needs)
+    (λ c κs. search needs)
     (λ c. omega arith)
     (λ c. omega arith)
     (λ c. tt)

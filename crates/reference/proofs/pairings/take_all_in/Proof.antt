@@ -7,10 +7,10 @@ use Rattle.reference.proofs.pairings.take_all_in.Statement.{statement}
 use Rattle.reference.proofs.pairings.take_all_in.Tie as tie
 
 abbrev Inv-loop : tie.InvT-loop
-Inv-loop a₀ n i₀ a i = Unit {0}
+Inv-loop a₀ h n p₀ a p = Unit {0}
 
 abbrev μ-loop : tie.MeasureT-loop
-μ-loop a₀ n i₀ a i = n - i
+μ-loop a₀ h n p₀ a p = h - p
 
 pub take-all-in-spec : {M : Type 1} → statement M
 take-all-in-spec =
