@@ -85,12 +85,6 @@ pub fn change(script: &[u8], at: usize, kind: u8, f: &mut Files, size: usize) ->
     if c == b'*' {
         return repeat(kind, decimal(script, plus(at, 1)), f, size);
     }
-    write(
-        script,
-        find(script, at, b'='),
-        kind,
-        f,
-        decimal(script, at),
-    );
+    write(script, find(script, at, b'='), kind, f, decimal(script, at));
     size
 }

@@ -10,6 +10,7 @@ use testing::files::get;
 use testing::files::number;
 use testing::files::put;
 use testing::files::put_number;
+use testing::numbers::low_byte;
 use testing::numbers::minus;
 use testing::numbers::modulo;
 use testing::numbers::plus;
@@ -39,12 +40,12 @@ fn place(kind: usize, round: usize, c: Case) -> usize {
     }
 }
 
-// The bits to change there: the last, of a claim those that make it the other one.
-fn bits(kind: usize) -> u8 {
+// The bits to change there, by turns; of a claim those that make it the other one.
+fn bits(kind: usize, round: usize) -> u8 {
     if kind == 4 {
         return 3;
     }
-    1
+    low_byte(round % 3 + 1)
 }
 
 fn flip(f: &mut Files, at: usize, bits: u8) {
@@ -115,6 +116,6 @@ pub fn twist(kind: usize, round: usize, c: Case, f: &mut Files) -> bool {
             record_at(c.n, another(c, e, round)),
         );
     }
-    flip(f, place(kind, round, c), bits(kind));
+    flip(f, place(kind, round, c), bits(kind, round));
     kind == 1
 }

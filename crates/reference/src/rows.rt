@@ -9,7 +9,6 @@ pub const WORK: usize = 256;
 
 const RECORDS: usize = 264;
 
-
 pub fn get(a: &Rows, row: usize, i: usize) -> usize {
     a[row % 280 * 256 + i % 256]
 }
