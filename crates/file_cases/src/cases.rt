@@ -1,6 +1,5 @@
 // The lines of the script, and the words of a line.
-use super::files::Files;
-use super::files::START;
+use super::files::Sizes;
 use super::files::change;
 use super::files::size;
 use super::files::sized;
@@ -10,6 +9,8 @@ use super::outcomes::rest_kept;
 use super::sweeps::sweep;
 use file_fields::bytes::byte;
 use testing::answers::NONE;
+use testing::files::Files;
+use testing::files::START;
 use testing::numbers::minus;
 use testing::numbers::plus;
 use testing::print;
@@ -35,9 +36,9 @@ fn show_help(code: usize, kept: bool) {
 }
 
 // Has the helper write the annotation into so many bytes; its length.
-fn help(room: usize, files: &mut [u8], size: usize) -> usize {
-    let code = helped(files, size, room);
-    show_help(code, rest_kept(files, code));
+fn help(room: usize, f: &mut Files, size: usize) -> usize {
+    let code = helped(f, size, room);
+    show_help(code, rest_kept(f, code));
     if code < NONE {
         return code;
     }
@@ -45,74 +46,81 @@ fn help(room: usize, files: &mut [u8], size: usize) -> usize {
 }
 
 // Varies the file that the word at a place names: as often as it has bytes, or 256 times for each byte that the word says.
-fn vary(script: &[u8], at: usize, how: u8, files: &mut [u8], f: Files) {
+fn vary(script: &[u8], at: usize, how: u8, f: &mut Files, s: Sizes) {
     let kind = byte(script, at);
-    let mut end = size(kind, f);
+    let mut end = size(kind, s);
     if how == b'!' {
         end = decimal(script, plus(at, 1)) % 256 * 256;
     }
-    sweep(how, kind, end, files, f);
+    sweep(how, kind, end, f, s);
 }
 
 // Shows the result that the word before a place asks for; the length of the annotation then.
-fn result(script: &[u8], at: usize, c: u8, files: &mut [u8], f: Files) -> usize {
-    print::before(f.shown);
+fn result(script: &[u8], at: usize, c: u8, f: &mut Files, s: Sizes) -> usize {
+    print::before(s.shown);
     if c == b'@' {
-        print::answer(judged(files, f, decimal(script, at)));
-        return f.ann;
+        print::answer(judged(f, s, decimal(script, at)));
+        return s.ann;
     }
     if c == b'h' {
-        return help(decimal(script, at), files, f.net);
+        return help(decimal(script, at), f, s.net);
     }
-    vary(script, at, c, files, f);
-    f.ann
+    vary(script, at, c, f, s);
+    s.ann
 }
 
 // Does what the word at a place says.
-fn word(script: &[u8], at: usize, files: &mut [u8], f: Files) -> Files {
+fn word(script: &[u8], at: usize, f: &mut Files, s: Sizes) -> Sizes {
     let next = plus(at, 1);
     let c = byte(script, at);
     if c == b'n' || c == b'a' {
-        return sized(c, f, change(script, next, c, files, size(c, f)));
+        return sized(c, s, change(script, next, c, f, size(c, s)));
     }
-    let ann = result(script, next, c, files, f);
-    Files {
-        net: f.net,
+    let ann = result(script, next, c, f, s);
+    Sizes {
+        net: s.net,
         ann: ann,
-        shown: plus(f.shown, 1),
+        shown: plus(s.shown, 1),
     }
 }
 
 // The word after a space.
-fn word_at(script: &[u8], at: usize, files: &mut [u8], f: Files) -> Files {
+fn word_at(script: &[u8], at: usize, f: &mut Files, s: Sizes) -> Sizes {
     if byte(script, at) == b' ' {
-        return word(script, plus(at, 1), files, f);
+        return word(script, plus(at, 1), f, s);
     }
-    f
+    s
 }
 
 // All words of a line, from its colon on.
-fn words(script: &[u8], from: usize, files: &mut [u8], at_first: Files) {
+fn words(script: &[u8], from: usize, f: &mut Files, at_first: Sizes) {
     let end = find(script, from, b'\n');
-    let mut f = at_first;
+    let mut s = at_first;
     let mut i = from;
     while i < end {
-        f = word_at(script, i, files, f);
+        s = word_at(script, i, f, s);
         i += 1;
+    }
+}
+
+// Writes the two files that a case starts from.
+fn start(script: &[u8], from: Sources, f: &mut Files) -> Sizes {
+    let net = write_hex(script, from.net, b'\n', f, 0);
+    let end = write_hex(script, from.ann, b'\n', f, START);
+    Sizes {
+        net: net,
+        ann: minus(end, START),
+        shown: 0,
     }
 }
 
 // One case: a label, a colon, and words.
 fn case(script: &[u8], at: usize, from: Sources) {
-    let mut files = [0u8; 65536];
-    let f = Files {
-        net: write_hex(script, from.net, b'\n', &mut files, 0),
-        ann: minus(write_hex(script, from.ann, b'\n', &mut files, START), START),
-        shown: 0,
-    };
+    let mut f = [0u8; 65536];
+    let s = start(script, from, &mut f);
     let colon = find(script, at, b':');
     print::part(script, at, colon);
-    words(script, colon, &mut files, f);
+    words(script, colon, &mut f, s);
     print::text(b"\n");
 }
 

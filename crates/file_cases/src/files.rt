@@ -1,17 +1,17 @@
-// The two files in one array: the network from its front on, the annotation from START on. A kind names a file as the script does:
-// `n` the network, `a` the annotation, `h` the network for the helper.
+// The two files changed. A kind names a file as the script does: `n` the network, `a` the annotation, `h` the network for the helper.
 use file_fields::bytes::byte;
-use file_fields::bytes::put_byte;
+use testing::files::Files;
+use testing::files::START;
+use testing::files::get;
+use testing::files::put;
 use testing::numbers::minus;
 use testing::numbers::plus;
 use testing::script::decimal;
 use testing::script::find;
 use testing::script::write_hex;
 
-pub const START: usize = 32768;
-
 // How many bytes the network and the annotation have, and how many results the line has shown.
-pub struct Files {
+pub struct Sizes {
     pub net: usize,
     pub ann: usize,
     pub shown: usize,
@@ -25,22 +25,22 @@ pub fn start(kind: u8) -> usize {
     0
 }
 
-pub fn size(kind: u8, f: Files) -> usize {
+pub fn size(kind: u8, s: Sizes) -> usize {
     if kind == b'a' {
-        return f.ann;
+        return s.ann;
     }
-    f.net
+    s.net
 }
 
 // The same with another length of one file.
-pub fn sized(kind: u8, f: Files, size: usize) -> Files {
-    let mut g = f;
+pub fn sized(kind: u8, s: Sizes, size: usize) -> Sizes {
+    let mut t = s;
     if kind == b'a' {
-        g.ann = size;
-        return g;
+        t.ann = size;
+        return t;
     }
-    g.net = size;
-    g
+    t.net = size;
+    t
 }
 
 // How many bytes so many records of a file have.
@@ -51,44 +51,40 @@ fn bytes(kind: u8, records: usize) -> usize {
     records % 8192 * 4
 }
 
-// The last record of a file that ends at an index again, so many times; how many bytes that is.
-fn repeat(kind: u8, times: usize, files: &mut [u8], end: usize) -> usize {
+// The last record of a file of a length again, so many times; its length then.
+fn repeat(kind: u8, times: usize, f: &mut Files, size: usize) -> usize {
+    let end = plus(start(kind), size);
     let width = bytes(kind, 1);
     let more = bytes(kind, times);
     let mut i: usize = 0;
     while i < more {
         let to = plus(end, i);
-        let c = byte(files, minus(to, width));
-        put_byte(files, to, c);
+        put(f, to, get(f, minus(to, width)));
         i += 1;
     }
-    more
+    plus(size, more)
+}
+
+// Writes the bytes of the word at a place into a file from an index on; the index after the last.
+fn write(script: &[u8], at: usize, kind: u8, f: &mut Files, to: usize) -> usize {
+    let from = start(kind);
+    let end = write_hex(script, at, b' ', f, plus(from, to));
+    minus(end, from)
 }
 
 // Changes a file by the word at a place; its length then. `<9` cuts it to 9 bytes, `+00` adds a byte, `*9` repeats the last record 9
 // times, `9=00` puts a byte at index 9.
-pub fn change(script: &[u8], at: usize, kind: u8, files: &mut [u8], size: usize) -> usize {
-    let next = plus(at, 1);
-    let from = start(kind);
+pub fn change(script: &[u8], at: usize, kind: u8, f: &mut Files, size: usize) -> usize {
     let c = byte(script, at);
     if c == b'<' {
-        return decimal(script, next);
+        return decimal(script, plus(at, 1));
     }
     if c == b'+' {
-        return minus(write_hex(script, next, b' ', files, plus(from, size)), from);
+        return write(script, at, kind, f, size);
     }
     if c == b'*' {
-        return plus(
-            size,
-            repeat(kind, decimal(script, next), files, plus(from, size)),
-        );
+        return repeat(kind, decimal(script, plus(at, 1)), f, size);
     }
-    write_hex(
-        script,
-        find(script, at, b'='),
-        b' ',
-        files,
-        plus(from, decimal(script, at)),
-    );
+    write(script, find(script, at, b'='), kind, f, decimal(script, at));
     size
 }

@@ -1,12 +1,13 @@
 // A file cut to every shorter length, or with every byte of its front changed in every way: how often each outcome comes.
-use super::files::Files;
+use super::files::Sizes;
 use super::files::sized;
 use super::files::start;
 use super::outcomes::outcome;
 use super::print::counts;
-use file_fields::bytes::byte;
-use file_fields::bytes::put_byte;
 use testing::answers::NONE;
+use testing::files::Files;
+use testing::files::get;
+use testing::files::put;
 use testing::numbers::low_byte;
 use testing::numbers::minus;
 use testing::numbers::plus;
@@ -36,34 +37,34 @@ fn count(counts: &mut [usize; 32], at: usize) {
 }
 
 // The outcome with the byte k / 256 of a file changed to k % 256 for this once.
-fn changed(kind: u8, k: usize, files: &mut [u8], f: Files) -> usize {
+fn changed(kind: u8, k: usize, f: &mut Files, s: Sizes) -> usize {
     let at = plus(start(kind), k / 256);
     let c = low_byte(k);
-    let old = byte(files, at);
+    let old = get(f, at);
     if old == c {
         return NOTHING;
     }
-    put_byte(files, at, c);
-    let o = outcome(kind, files, f);
-    put_byte(files, at, old);
+    put(f, at, c);
+    let o = outcome(kind, f, s);
+    put(f, at, old);
     o
 }
 
 // The outcome of variation k: `<` cuts a file to k bytes, `!` changes a byte.
-fn varied(how: u8, kind: u8, k: usize, files: &mut [u8], f: Files) -> usize {
+fn varied(how: u8, kind: u8, k: usize, f: &mut Files, s: Sizes) -> usize {
     if how == b'<' {
-        return outcome(kind, files, sized(kind, f, k));
+        return outcome(kind, f, sized(kind, s, k));
     }
-    changed(kind, k, files, f)
+    changed(kind, k, f, s)
 }
 
 // So many variations.
-pub fn sweep(how: u8, kind: u8, end: usize, files: &mut [u8], f: Files) {
+pub fn sweep(how: u8, kind: u8, end: usize, f: &mut Files, s: Sizes) {
     let mut outcomes = [0usize; 32];
-    let usual = outcome(kind, files, f);
+    let usual = outcome(kind, f, s);
     let mut k: usize = 0;
     while k < end {
-        let o = varied(how, kind, k, files, f);
+        let o = varied(how, kind, k, f, s);
         count(&mut outcomes, place(usual, o));
         k += 1;
     }

@@ -1,29 +1,30 @@
 // Has the helper annotate random networks, judges its annotations at several points, in another order and twisted, and compares every answer
 // with another implementation. A network is wrong that gets any answer but the true one.
 mod annotations;
+mod network_files;
 mod places;
 mod tally;
 mod trial;
 mod twists;
 
-use reference::array::get;
 use reference::instances::network;
+use testing::numbers::at;
 use testing::print;
 
 // How many networks there are for each question; of every 64 two have all 4096 records.
 const COUNT: usize = 1920;
 
 // One network; names its seed if it is wrong.
-fn turn(question: usize, seed: usize, tally: &mut [usize; 256]) {
-    let before = get(tally, tally::WRONG);
+fn turn(question: usize, seed: usize, tally: &mut [usize; 64]) {
+    let before = at(tally, tally::WRONG);
     trial::run(network(question, seed), tally);
-    if before < get(tally, tally::WRONG) {
+    if before < at(tally, tally::WRONG) {
         print::number(b"wrong: ", seed);
     }
 }
 
 // All networks of one question.
-fn all(question: usize, tally: &mut [usize; 256]) {
+fn all(question: usize, tally: &mut [usize; 64]) {
     let mut seed: usize = 0;
     while seed < COUNT {
         turn(question, seed, tally);
@@ -32,7 +33,7 @@ fn all(question: usize, tally: &mut [usize; 256]) {
 }
 
 fn question(names: &[u8], number: u32) {
-    let mut tally = [0usize; 256];
+    let mut tally = [0usize; 64];
     all(number as usize, &mut tally);
     tally::show(names, number, &tally);
 }

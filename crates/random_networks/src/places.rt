@@ -1,19 +1,55 @@
-// The points to judge at, and what judging says there as one number.
-use format::network_file;
+// What is known of a network besides its files, the points to judge at, and what judging says there as one number.
+use super::annotations::record_at;
 use points::Point;
+use reference::instances::Net;
 use reference::random::below;
 use testing::answers::code;
+use testing::files::Files;
+use testing::files::START;
 use testing::numbers::low_word;
+use testing::numbers::minus;
 
-// What the points depend on, and the twists: how many vertices and records a network has, and its seed.
-pub struct Shape {
+// How many vertices and records it has, its seed, the key of one of its records, and its true answer.
+pub struct Case {
     pub n: usize,
     pub m: usize,
     pub seed: usize,
+    pub key: usize,
+    pub answer: usize,
 }
 
-pub fn judged(file: &[u8], ann: &[u8], point: usize) -> usize {
-    code(judging::judge(file, ann, Point { r: low_word(point) }))
+pub fn known(net: Net, key: usize, answer: usize) -> Case {
+    Case {
+        n: net.n,
+        m: net.m,
+        seed: net.seed,
+        key: key,
+        answer: answer,
+    }
+}
+
+// The lengths of the two files.
+pub fn network_size(m: usize) -> usize {
+    11 + 4 * (m % 5000)
+}
+
+pub fn annotation_size(n: usize, m: usize) -> usize {
+    minus(record_at(n, m), START)
+}
+
+// What comes of judging the two files, of so many bytes, at a point.
+fn judged_parts(f: &[u8], net: usize, ann: usize, point: usize) -> usize {
+    let a = net % START;
+    let b = START + ann % START;
+    if f.len() < 2 * START {
+        return 0;
+    }
+    code(judging::judge(&f[0..a], &f[START..b], Point { r: low_word(point) }))
+}
+
+// What comes of judging, with an annotation of m records.
+pub fn judged(c: Case, f: &Files, m: usize, point: usize) -> usize {
+    judged_parts(f, network_size(c.m), annotation_size(c.n, m), point)
 }
 
 // A point that looks random.
@@ -21,19 +57,13 @@ pub fn any_point(seed: usize, place: usize) -> usize {
     below(2147483647, seed, place, 5)
 }
 
-// The key of a record of the network file, at which the fingerprints are 0.
-pub fn key(s: Shape, file: &[u8]) -> usize {
-    let r = network_file::arc(file, below(s.m, s.seed, 0, 6));
-    (r.tail as usize) * 8388608 + (r.head as usize) * 32768 + r.weight as usize
-}
-
-// 0, 1, p - 1, the key of a record, and any.
-pub fn point(s: Shape, file: &[u8], i: usize) -> usize {
+// 0, 1, p - 1, the key of a record, at which the fingerprints are 0, and any.
+pub fn point(c: Case, i: usize) -> usize {
     match i {
         0 => 0,
         1 => 1,
         2 => 2147483646,
-        3 => key(s, file),
-        _ => any_point(s.seed, i),
+        3 => c.key,
+        _ => any_point(c.seed, i),
     }
 }

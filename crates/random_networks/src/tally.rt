@@ -1,7 +1,7 @@
 // Where each thing is counted in an array of counts, and how it is shown. The names are a list on standard input: the three questions,
 // what is counted of the networks, what is counted of twists, and the kinds of twists.
 use super::twists::KINDS;
-use reference::array::grow;
+use testing::numbers::plus;
 use testing::print;
 
 pub const NETWORKS: usize = 0;
@@ -10,28 +10,26 @@ pub const VALUES: usize = 1;
 
 pub const ANSWERED_NONE: usize = 2;
 
-pub const COMPARED: usize = 3;
+pub const JUDGED: usize = 3;
 
-pub const JUDGED: usize = 4;
-
-pub const WRONG: usize = 5;
+pub const WRONG: usize = 4;
 
 // Twisted annotations, at 3 × kind from here: those refused, those that are still right, those with another answer.
 pub const TWISTED: usize = 16;
 
-// One more.
-pub fn count(tally: &mut [usize; 256], place: usize) {
-    grow(tally, place, 1);
+pub fn grow(tally: &mut [usize; 64], place: usize, more: usize) {
+    let i = place % 64;
+    tally[i] = plus(tally[i], more);
 }
 
 // What came of one kind of twist.
-fn kind(names: &[u8], k: u32, tally: &[usize; 256]) {
+fn kind(names: &[u8], k: u32, tally: &[usize; 64]) {
     print::text(b"  ");
-    print::name(names, std::num::wrapping_add_u32(12, k));
-    print::counts(names, 9, 3, tally, TWISTED + 3 * (k as usize));
+    print::name(names, std::num::wrapping_add_u32(11, k));
+    print::counts(names, 8, 3, tally, TWISTED + 3 * (k as usize));
 }
 
-fn kinds(names: &[u8], tally: &[usize; 256]) {
+fn kinds(names: &[u8], tally: &[usize; 64]) {
     let mut k: u32 = 0;
     while k < KINDS {
         kind(names, k, tally);
@@ -40,8 +38,8 @@ fn kinds(names: &[u8], tally: &[usize; 256]) {
 }
 
 // Sums up the networks of one question.
-pub fn show(names: &[u8], question: u32, tally: &[usize; 256]) {
+pub fn show(names: &[u8], question: u32, tally: &[usize; 64]) {
     print::name(names, std::num::wrapping_sub_u32(question, 1));
-    print::counts(names, 3, 6, tally, NETWORKS);
+    print::counts(names, 3, 5, tally, NETWORKS);
     kinds(names, tally);
 }

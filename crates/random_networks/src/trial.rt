@@ -1,31 +1,32 @@
-// One network: the helper annotates it, its annotation is judged, shuffled and twisted, and the answers are compared.
+// One network: the helper annotates it, its annotation is judged, shuffled and twisted, and every answer is compared with the true one.
 use super::annotations::exchange;
+use super::annotations::number_at;
 use super::annotations::record_at;
-use super::places::Shape;
+use super::network_files;
+use super::places::Case;
 use super::places::any_point;
 use super::places::judged;
-use super::places::key;
+use super::places::known;
 use super::places::point;
 use super::tally;
-use super::tally::count;
+use super::tally::grow;
 use super::twists::LEFT_OUT;
 use super::twists::applies;
 use super::twists::twist;
-use format::annotation_file;
-use helper::Written;
-use reference::UNKNOWN;
 use reference::arcs::write;
-use reference::array::get;
-use reference::array::grow;
-use reference::array::record;
 use reference::instances::Net;
 use reference::random::below;
+use reference::routes::LENGTH;
+use reference::rows::Rows;
+use reference::rows::get;
+use reference::rows::head;
+use reference::rows::record;
+use reference::rows::tail;
+use reference::rows::weight;
 use reference::truth;
 use testing::answers::NONE;
-use testing::bytes::copy;
-use testing::network_files;
-use testing::numbers::as_signed;
-use testing::numbers::low_word;
+use testing::files::Files;
+use testing::files::number;
 use testing::numbers::minus;
 use testing::numbers::plus;
 use testing::numbers::smaller;
@@ -46,55 +47,50 @@ fn different(a: usize, b: usize) -> usize {
     1
 }
 
-// Judges at five points: how many answers are not the wanted one.
-fn everywhere(s: Shape, file: &[u8], ann: &[u8], wanted: usize) -> usize {
+// Judges at five points: how many answers are not the true one.
+fn everywhere(c: Case, f: &Files) -> usize {
     let mut wrong: usize = 0;
     let mut i: usize = 0;
     while i < 5 {
-        let said = judged(file, ann, point(s, file, i));
-        wrong = plus(wrong, different(said, wanted));
+        let said = judged(c, f, c.m, point(c, i));
+        wrong = plus(wrong, different(said, c.answer));
         i += 1;
     }
     wrong
 }
 
 // Exchanges each record with any.
-fn shuffle(s: Shape, ann: &mut [u8]) {
-    let m = s.m;
+fn shuffle(c: Case, f: &mut Files) {
+    let m = c.m;
     let mut i: usize = 0;
     while i < m {
-        let j = below(m, s.seed, i, 7);
-        exchange(ann, record_at(s.n, i), record_at(s.n, j));
+        let j = below(m, c.seed, i, 7);
+        exchange(f, record_at(c.n, i), record_at(c.n, j));
         i += 1;
     }
 }
 
-// Where a twist is judged: with a record left out at the key of one, where the fingerprints may agree; else anywhere.
-fn twist_point(kind: usize, s: Shape, file: &[u8], t: usize) -> usize {
-    if kind == LEFT_OUT {
-        return key(s, file);
-    }
-    any_point(s.seed, plus(t, 8))
+// Judges at five points, and in another order of the records: how many answers are not the true one.
+fn wrong_answers(c: Case, f: &mut Files) -> usize {
+    let wrong = everywhere(c, f);
+    shuffle(c, f);
+    let said = judged(c, f, c.m, any_point(c.seed, 7));
+    plus(wrong, different(said, c.answer))
 }
 
-// How many bytes an annotation has then.
-fn twisted_size(kind: usize, size: usize) -> usize {
-    if kind == LEFT_OUT {
-        return minus(size, 6);
+// What judging says of a twisted annotation: with a record left out at the key of one, where the fingerprints may agree; else anywhere.
+fn said_of(c: Case, f: &Files, t: usize) -> usize {
+    if t % 7 == LEFT_OUT {
+        return judged(c, f, minus(c.m, 1), c.key);
     }
-    size
+    judged(c, f, c.m, any_point(c.seed, plus(t, 8)))
 }
 
 // What judging says of twist number t, or ACCEPTED where it had to refuse.
-fn twisted(s: Shape, file: &[u8], ann: &[u8], t: usize) -> usize {
-    let mut other = [0u8; 25604];
-    copy(ann, &mut other, ann.len());
-    let free = twist(t % 7, t / 7, s, &mut other);
-    let size = twisted_size(t % 7, ann.len());
-    if 25604 < size {
-        return ACCEPTED;
-    }
-    let said = judged(file, &other[0..size], twist_point(t % 7, s, file, t));
+fn twisted(c: Case, f: &Files, t: usize) -> usize {
+    let mut other = *f;
+    let free = twist(t % 7, t / 7, c, &mut other);
+    let said = said_of(c, &other, t);
     if free || NONE < said {
         return said;
     }
@@ -102,183 +98,97 @@ fn twisted(s: Shape, file: &[u8], ann: &[u8], t: usize) -> usize {
 }
 
 // What was said of a twisted annotation: 0 a refusal, 1 the true answer still, 2 another.
-fn weighed(said: usize, wanted: usize) -> usize {
+fn weighed(said: usize, answer: usize) -> usize {
     if NONE < said {
         return 0;
     }
-    if said == wanted {
-        return 1;
-    }
-    2
+    plus(1, different(said, answer))
 }
 
 // Twists the annotation once.
-fn twist_once(
-    s: Shape,
-    file: &[u8],
-    ann: &[u8],
-    t: usize,
-    wanted: usize,
-    tally: &mut [usize; 256],
-) {
-    if applies(t % 7, s.m) {
-        let k = weighed(twisted(s, file, ann, t), wanted);
-        count(tally, plus(tally::TWISTED + 3 * (t % 7), k));
-        if k == 2 {
-            count(tally, tally::WRONG);
-        }
+fn twist_once(c: Case, f: &Files, t: usize, tally: &mut [usize; 64]) {
+    if applies(t % 7, c.m) {
+        let k = weighed(twisted(c, f, t), c.answer);
+        grow(tally, plus(tally::TWISTED + 3 * (t % 7), k), 1);
+        grow(tally, tally::WRONG, k / 2);
     }
 }
 
-fn twist_all(s: Shape, file: &[u8], ann: &[u8], wanted: usize, tally: &mut [usize; 256]) {
+fn twist_all(c: Case, f: &Files, tally: &mut [usize; 64]) {
     let mut t: usize = 0;
     while t < TWISTS {
-        twist_once(s, file, ann, t, wanted, tally);
+        twist_once(c, f, t, tally);
         t += 1;
     }
 }
 
-// Judges in another order of the records: 1 where the answer is not the wanted one.
-fn shuffled(s: Shape, file: &[u8], ann: &mut [u8], wanted: usize) -> usize {
-    shuffle(s, ann);
-    different(judged(file, ann, any_point(s.seed, 7)), wanted)
-}
-
-// All that is done with an annotation whose answer is known.
-fn try_all(s: Shape, file: &[u8], ann: &mut [u8], wanted: usize, tally: &mut [usize; 256]) {
+// All that is done with an annotation.
+fn try_all(c: Case, f: &mut Files, tally: &mut [usize; 64]) {
     grow(tally, tally::JUDGED, 6);
-    grow(tally, tally::WRONG, everywhere(s, file, ann, wanted));
-    grow(tally, tally::WRONG, shuffled(s, file, ann, wanted));
-    if s.seed < TWISTED_NETWORKS {
-        twist_all(s, file, ann, wanted, tally);
+    grow(tally, tally::WRONG, wrong_answers(c, f));
+    if c.seed < TWISTED_NETWORKS {
+        twist_all(c, f, tally);
     }
-}
-
-// Where a network is counted by its answer.
-fn class(wanted: usize) -> usize {
-    if wanted < NONE {
-        return tally::VALUES;
-    }
-    if wanted == NONE {
-        return tally::ANSWERED_NONE;
-    }
-    tally::WRONG
-}
-
-// Counts a network, whose true answer may be unknown.
-fn classify(answer: usize, wanted: usize, tally: &mut [usize; 256]) {
-    count(tally, tally::NETWORKS);
-    count(tally, class(wanted));
-    if answer != UNKNOWN {
-        count(tally, tally::COMPARED);
-    }
-}
-
-// The answer to expect: the true one, or where it is not known what the annotation comes out as at the point 0.
-fn expected(answer: usize, file: &[u8], ann: &[u8]) -> usize {
-    if answer == UNKNOWN {
-        return judged(file, ann, 0);
-    }
-    answer
 }
 
 // The node number that a route's vertex has to have: its least length, the highest where it is not reached; with none its mark.
-fn number(answer: usize, length: usize) -> usize {
+fn wanted(answer: usize, length: usize) -> usize {
     if answer == NONE {
         return different(length, NONE);
     }
     smaller(length, 8322818)
 }
 
-// 1 where the node number v is not what its least length asks for.
-fn strays(ann: &[u8], v: usize, y: usize) -> usize {
-    if annotation_file::number(ann, v) == as_signed(low_word(y)) {
-        return 0;
-    }
-    1
-}
-
 // How many node numbers of a route are not what the least lengths ask for.
-fn all_strays(n: usize, answer: usize, lengths: &[usize; 256], ann: &[u8]) -> usize {
+fn strays(n: usize, answer: usize, a: &Rows, f: &Files) -> usize {
     let mut wrong: usize = 0;
     let mut v: usize = 0;
     while v < n {
-        wrong = plus(wrong, strays(ann, v, number(answer, get(lengths, v))));
+        let y = wanted(answer, get(a, LENGTH, v));
+        wrong = plus(wrong, different(number(f, number_at(v), 4), y));
         v += 1;
     }
     wrong
 }
 
-// All that is done with an annotation.
-fn try_annotation(net: Net, answer: usize, file: &[u8], ann: &mut [u8], tally: &mut [usize; 256]) {
-    let wanted = expected(answer, file, ann);
-    classify(answer, wanted, tally);
-    let s = Shape {
-        n: net.n,
-        m: net.m,
-        seed: net.seed,
-    };
-    try_all(s, file, ann, wanted, tally);
+// The key of a record.
+fn key(r: usize) -> usize {
+    plus(tail(r) % 256 * 8388608 + head(r) % 256 * 32768, weight(r))
 }
 
-// How many bytes the helper wrote; too many where it refused.
-fn written(w: Written) -> usize {
-    match w {
-        Written::Length(k) => k as usize,
-        Written::Refused(_) => 100000,
-    }
+// Makes the network and its file; what is known of it then, with the true answer.
+fn make(net: Net, a: &mut Rows, f: &mut Files) -> Case {
+    write(net, a);
+    network_files::write(net, a, f);
+    let answer = truth(net, a);
+    known(net, key(record(a, below(net.m, net.seed, 0, 6))), answer)
 }
 
-// Has the helper write, over what no annotation has, and tries what it wrote.
-fn annotate(
-    net: Net,
-    answer: usize,
-    file: &[u8],
-    lengths: &[usize; 256],
-    tally: &mut [usize; 256],
-) {
-    let mut buffer = [255u8; 25604];
-    let size = written(helper::annotate(file, &mut buffer));
-    if 25604 < size {
-        count(tally, tally::WRONG);
-        return;
+// Has the helper annotate the network: how many node numbers stray, or 1 for another length.
+fn annotate(net: Net, answer: usize, a: &Rows, f: &mut Files) -> usize {
+    if !network_files::annotate(net, f) {
+        return 1;
     }
     if net.question == 1 {
-        grow(
-            tally,
-            tally::WRONG,
-            all_strays(net.n, answer, lengths, &buffer),
-        );
+        return strays(net.n, answer, a, f);
     }
-    try_annotation(net, answer, file, &mut buffer[0..size], tally);
+    0
 }
 
-// Writes the file of a network.
-fn write_file(net: Net, records: &[u32; 4096], file: &mut [u8]) {
-    let m = net.m;
-    network_files::write_header(net.question, net.n, net.s, net.t, m, file);
-    let mut i: usize = 0;
-    while i < m {
-        network_files::write_record(file, i, record(records, i));
-        i += 1;
+// Where a network is counted by its answer.
+fn class(answer: usize) -> usize {
+    if answer < NONE {
+        return tally::VALUES;
     }
+    tally::ANSWERED_NONE
 }
 
-// Makes the network and its file; the true answer.
-fn make(net: Net, file: &mut [u8], lengths: &mut [usize; 256]) -> usize {
-    let mut records = [0u32; 4096];
-    write(net, &mut records);
-    write_file(net, &records, file);
-    truth(net, &records, lengths)
-}
-
-pub fn run(net: Net, tally: &mut [usize; 256]) {
-    let mut lengths = [NONE; 256];
-    let mut file = [0u8; 16395];
-    let answer = make(net, &mut file, &mut lengths);
-    let size = network_files::size(net.m);
-    if 16395 < size {
-        return;
-    }
-    annotate(net, answer, &file[0..size], &lengths, tally);
+pub fn run(net: Net, tally: &mut [usize; 64]) {
+    let mut a = [0usize; 71680];
+    let mut f = [255u8; 65536];
+    let c = make(net, &mut a, &mut f);
+    grow(tally, tally::NETWORKS, 1);
+    grow(tally, class(c.answer), 1);
+    grow(tally, tally::WRONG, annotate(net, c.answer, &a, &mut f));
+    try_all(c, &mut f, tally);
 }

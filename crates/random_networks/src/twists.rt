@@ -1,15 +1,16 @@
 // One thing changed in an annotation.
-use super::annotations::move_amount;
-use super::annotations::move_arc;
+use super::annotations::exchange;
 use super::annotations::number_at;
 use super::annotations::record_at;
-use super::places::Shape;
-use file_fields::bytes::byte;
-use file_fields::bytes::number16;
-use file_fields::bytes::number32;
-use file_fields::bytes::put_byte;
-use file_fields::bytes::put16;
+use super::places::Case;
 use reference::random::below;
+use testing::files::Files;
+use testing::files::START;
+use testing::files::get;
+use testing::files::number;
+use testing::files::put;
+use testing::files::put_number;
+use testing::numbers::low_byte;
 use testing::numbers::minus;
 use testing::numbers::modulo;
 use testing::numbers::plus;
@@ -24,114 +25,97 @@ pub fn applies(kind: usize, m: usize) -> bool {
     kind == 1 || kind == 4 || m != 0
 }
 
-// Another number: of an amount, at kind 0, one less, or 1 for 0; of a weight one more, or one less than the highest.
-fn other(kind: usize, x: u16) -> u16 {
-    if kind == 0 && x == 0 || kind != 0 && x < 32767 {
-        return std::num::wrapping_add_u16(x, 1);
+// The record to change, by the round.
+fn chosen(c: Case, round: usize) -> usize {
+    below(c.m, c.seed, round, 6)
+}
+
+// The byte to change: the last of an amount, a node number or a weight, or the claim.
+fn place(kind: usize, round: usize, c: Case) -> usize {
+    match kind {
+        0 => plus(record_at(c.n, chosen(c, round)), 5),
+        1 => plus(number_at(below(c.n, c.seed, round, 7)), 3),
+        2 => plus(record_at(c.n, chosen(c, round)), 3),
+        _ => START + 5,
     }
-    std::num::wrapping_sub_u16(x, 1)
 }
 
-// The last byte of a node number one more or one less, by turns.
-fn other_byte(c: u8, round: usize) -> u8 {
-    if round % 2 == 0 {
-        return std::num::wrapping_add_u8(c, 1);
+// The bits to change there, by turns; of a claim those that make it the other one.
+fn bits(kind: usize, round: usize) -> u8 {
+    if kind == 4 {
+        return 3;
     }
-    std::num::wrapping_sub_u8(c, 1)
+    low_byte(round % 3 + 1)
 }
 
-// Changes a node number.
-fn node(s: Shape, round: usize, ann: &mut [u8]) {
-    let last = plus(number_at(below(s.n, s.seed, round, 7)), 3);
-    put_byte(ann, last, other_byte(byte(ann, last), round));
+fn flip(f: &mut Files, at: usize, bits: u8) {
+    let old = get(f, at);
+    put(f, at, old ^ bits);
 }
 
-// The other of the claims 1 and 2.
-fn claim(ann: &mut [u8]) {
-    put_byte(ann, 5, std::num::wrapping_sub_u8(3, byte(ann, 5)));
-}
-
-// Changes the amount of a record at kind 0, its weight at kind 2.
-fn number(kind: usize, ann: &mut [u8], record: usize) {
-    let at = plus(record, minus(4, kind));
-    put16(ann, at, other(kind, number16(ann, at)));
-}
-
-// The last record in place of one, and the count one less.
-fn leave_out(ann: &mut [u8], at: usize, last: usize) {
-    move_arc(ann, at, last);
-    move_amount(ann, at, last);
-    put16(ann, 6, std::num::wrapping_sub_u16(number16(ann, 6), 1));
+// Record e goes to the end, and the count is one less.
+fn leave_out(f: &mut Files, c: Case, e: usize) {
+    let last = minus(c.m, 1);
+    exchange(f, record_at(c.n, e), record_at(c.n, last));
+    put_number(f, START + 6, 2, last);
 }
 
 // The ends and the weight of another record; are the records the same then?
-fn replace(ann: &mut [u8], at: usize, from: usize) -> bool {
-    let old = move_arc(ann, at, from);
-    old == number32(ann, from)
+fn replace(f: &mut Files, at: usize, from: usize) -> bool {
+    let old = number(f, at, 4);
+    let new = number(f, from, 4);
+    put_number(f, at, 4, new);
+    old == new
 }
 
 // Adds to the weight of a record.
-fn add(ann: &mut [u8], record: usize, d: u16) {
+fn add(f: &mut Files, record: usize, d: usize) {
     let at = plus(record, 2);
-    put16(ann, at, std::num::wrapping_add_u16(number16(ann, at), d));
+    let w = number(f, at, 2);
+    put_number(f, at, 2, plus(w, d));
 }
 
 // One weight one more and another one less, so that the sum of the keys stays; are the records the same then, in another order?
 // Of one record alone the weight is one less.
-fn two_weights(ann: &mut [u8], at: usize, from: usize) -> bool {
-    let old = number32(ann, from);
-    add(ann, from, 65535);
+fn two_weights(f: &mut Files, at: usize, from: usize) -> bool {
+    let old = number(f, from, 4);
+    add(f, from, 65535);
     if at == from {
         return false;
     }
-    add(ann, at, 1);
-    number32(ann, at) == old
+    add(f, at, 1);
+    number(f, at, 4) == old
 }
 
 // A record other than e, if there is one.
-fn another(s: Shape, e: usize, round: usize) -> usize {
-    if s.m < 2 {
-        return e;
-    }
-    modulo(
-        plus(plus(e, 1), below(minus(s.m, 1), s.seed, round, 4)),
-        s.m,
-    )
+fn another(c: Case, e: usize, round: usize) -> usize {
+    let steps = plus(1, below(minus(c.m, 1), c.seed, round, 4));
+    modulo(plus(e, steps), c.m)
 }
 
 // Changes one record with another; may the annotation be right still?
-fn with_other(kind: usize, round: usize, s: Shape, ann: &mut [u8]) -> bool {
-    let e = below(s.m, s.seed, round, 6);
-    let other = record_at(s.n, another(s, e, round));
+fn with_other(kind: usize, f: &mut Files, at: usize, from: usize) -> bool {
     if kind == 5 {
-        return replace(ann, record_at(s.n, e), other);
+        return replace(f, at, from);
     }
-    two_weights(ann, record_at(s.n, e), other)
-}
-
-// Changes one record by itself.
-fn alone(kind: usize, round: usize, s: Shape, ann: &mut [u8]) {
-    let at = record_at(s.n, below(s.m, s.seed, round, 6));
-    if kind == LEFT_OUT {
-        leave_out(ann, at, record_at(s.n, minus(s.m, 1)));
-        return;
-    }
-    number(kind, ann, at);
+    two_weights(f, at, from)
 }
 
 // Changes one thing of a kind somewhere; may the annotation be right still?
-pub fn twist(kind: usize, round: usize, s: Shape, ann: &mut [u8]) -> bool {
-    if kind == 1 {
-        node(s, round, ann);
-        return true;
-    }
-    if kind == 4 {
-        claim(ann);
+pub fn twist(kind: usize, round: usize, c: Case, f: &mut Files) -> bool {
+    let e = chosen(c, round);
+    if kind == LEFT_OUT {
+        leave_out(f, c, e);
         return false;
     }
-    if kind < 4 {
-        alone(kind, round, s, ann);
-        return false;
+    if 4 < kind {
+        return with_other(
+            kind,
+            f,
+            record_at(c.n, e),
+            record_at(c.n, another(c, e, round)),
+        );
     }
-    with_other(kind, round, s, ann)
+    flip(f, place(kind, round, c), bits(kind, round));
+    kind == 1
 }

@@ -1,8 +1,10 @@
 // The records of a network, each found from the network's description and the record's place.
-use super::array::joined;
 use super::instances::Net;
 use super::pairs;
 use super::random::below;
+use super::rows::Rows;
+use super::rows::joined;
+use super::rows::put_record;
 use super::shapes;
 
 // Few different weights, any, the highest, 0, small, extremes, and 32767 alone.
@@ -37,20 +39,14 @@ fn ends(net: Net, i: usize) -> usize {
     shapes::ends(net.shape, net.n, net.seed, i, net.s, net.t)
 }
 
-fn store(records: &mut [u32; 4096], i: usize, r: u32) {
-    if i < 4096 {
-        records[i] = r;
-    }
-}
-
 // Writes all records of a network.
-pub fn write(net: Net, records: &mut [u32; 4096]) {
+pub fn write(net: Net, a: &mut Rows) {
     let m = net.m;
     let mut i: usize = 0;
     while i < m {
         let k = place(net.question, net.shape, i);
         let r = joined(ends(net, k), weight(net.kind, net.seed, k));
-        store(records, i, r);
+        put_record(a, i, r);
         i += 1;
     }
 }

@@ -1,32 +1,26 @@
 // For test programs: another implementation of the three questions, and networks that look random to try it on.
 use instances::Net;
+use rows::Rows;
 
 pub mod arcs;
-pub mod array;
-pub mod assignments;
-pub mod cuts;
+pub mod discharges;
 pub mod instances;
+pub mod matrix;
+pub mod pairings;
 pub mod pairs;
+pub mod paths;
 pub mod random;
 pub mod routes;
+pub mod rows;
 pub mod shapes;
 
-// What is the answer where the network is too large to try every cut or every assignment.
-pub const UNKNOWN: usize = 2000000000000;
-
-// The true answer, or NONE, or UNKNOWN where the network is too large to try every cut or every assignment.
-// `lengths` comes with NONE everywhere; for a route it leaves with the least lengths.
-pub fn truth(net: Net, records: &[u32; 4096], lengths: &mut [usize; 256]) -> usize {
+// The true answer, or NONE. The rows come with the records and 0 everywhere else.
+pub fn truth(net: Net, a: &mut Rows) -> usize {
     let question = net.question;
-    let n = net.n;
-    if question == 1 {
-        return routes::measure(net, records, lengths);
+    matrix::fill(a, question, net.m);
+    match question {
+        1 => routes::least(a, net.n, net.m, net.s, net.t),
+        2 => discharges::greatest(a, net.n, net.s, net.t),
+        _ => pairings::least(a, net.n),
     }
-    if question == 2 && n <= 12 {
-        return cuts::least(net, records);
-    }
-    if question == 3 && n <= 16 {
-        return assignments::least(net, records);
-    }
-    UNKNOWN
 }

@@ -1,6 +1,6 @@
 // The ends of the records of a pairing of h pumps with h sites, 256 × pump + site.
-use super::array::pair;
 use super::random::below;
+use super::rows::pair;
 use testing::numbers::modulo;
 use testing::numbers::plus;
 

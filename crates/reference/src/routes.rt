@@ -1,48 +1,48 @@
-// Least lengths by Bellman and Ford: every arc again and again, until nothing changes.
-use super::array::get;
-use super::array::head;
-use super::array::lower;
-use super::array::put;
-use super::array::record;
-use super::array::tail;
-use super::array::weight;
-use super::instances::Net;
+// Least lengths by Bellman and Ford: every arc as often as there are vertices.
+use super::rows::Rows;
+use super::rows::WORK;
+use super::rows::fill_row;
+use super::rows::get;
+use super::rows::head;
+use super::rows::put;
+use super::rows::record;
+use super::rows::tail;
+use super::rows::weight;
 use testing::answers::NONE;
 use testing::numbers::plus;
 
-// Tries one arc; 1 where it shortens a chain.
-fn try_arc(r: usize, lengths: &mut [usize; 256]) -> usize {
-    let d = get(lengths, tail(r));
-    if d == NONE {
-        return 0;
+// The least length to each vertex that is known so far.
+pub const LENGTH: usize = WORK;
+
+// Tries one arc.
+fn try_arc(a: &mut Rows, r: usize) {
+    let d = plus(get(a, LENGTH, tail(r)), weight(r));
+    if d < get(a, LENGTH, head(r)) {
+        put(a, LENGTH, head(r), d);
     }
-    lower(lengths, head(r), plus(d, weight(r)))
 }
 
-// Tries every arc; how many chains became shorter.
-fn pass(m: usize, records: &[u32; 4096], lengths: &mut [usize; 256]) -> usize {
-    let mut changes: usize = 0;
+// Tries every arc.
+fn pass(a: &mut Rows, m: usize) {
     let mut i: usize = 0;
     while i < m {
-        let c = try_arc(record(records, i), lengths);
-        changes = plus(changes, c);
+        try_arc(a, record(a, i));
         i += 1;
     }
-    changes
 }
 
-// Fills in the least lengths from the source. `lengths` comes with NONE everywhere.
-pub fn measure(net: Net, records: &[u32; 4096], lengths: &mut [usize; 256]) -> usize {
-    let n = net.n;
-    let m = net.m;
-    put(lengths, net.s, 0);
+fn passes(a: &mut Rows, n: usize, m: usize) {
     let mut i: usize = 0;
     while i < n {
-        let changes = pass(m, records, lengths);
-        if changes == 0 {
-            return get(lengths, net.t);
-        }
+        pass(a, m);
         i += 1;
     }
-    get(lengths, net.t)
+}
+
+// The least length of a chain from s to t over m records, or NONE; leaves the least lengths of all.
+pub fn least(a: &mut Rows, n: usize, m: usize, s: usize, t: usize) -> usize {
+    fill_row(a, LENGTH, NONE);
+    put(a, LENGTH, s, 0);
+    passes(a, n, m);
+    get(a, LENGTH, t)
 }

@@ -1,6 +1,6 @@
 // The ends of the records of a route or a discharge, 256 × tail + head, for n vertices, a seed and the record's place.
-use super::array::pair;
 use super::random::below;
+use super::rows::pair;
 use testing::numbers::minus;
 use testing::numbers::modulo;
 use testing::numbers::plus;

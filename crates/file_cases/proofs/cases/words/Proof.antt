@@ -1,18 +1,16 @@
 -- `file_cases::cases::words` is safe and ends: it goes through the line.
 -- Assumes nothing.
 use Prim.Native.Nat.{_-_}
-use mathlib.Core.Path.{_≡_}
 use native.Mathlib.Omega.{arith}
-use lib.ListN.{length}
 use borrow.Author.Needs.{needs}
 use Rattle.file_cases.proofs.cases.words.Statement.{statement}
 use Rattle.file_cases.proofs.cases.words.Tie as tie
 
 abbrev Inv-loop : tie.InvT-loop
-Inv-loop script from files₀ end f₀ i₀ files f i = length files ≡ length files₀
+Inv-loop script from f₀ end s₀ i₀ f s i = Unit {0}
 
 abbrev μ-loop : tie.MeasureT-loop
-μ-loop script from files₀ end f₀ i₀ files f i = end - i
+μ-loop script from f₀ end s₀ i₀ f s i = end - i
 
 pub words-spec : {M : Type 1} → statement M
 words-spec =
@@ -21,10 +19,9 @@ words-spec =
     Inv-loop
     μ-loop
     (λ c κs. search needs)
-    (λ c. search needs)
+    (λ c. tt)
     (λ c κs. search needs)
     (λ c. omega arith)
     (λ c. omega arith)
-    (λ c. search needs)
-    (λ c. search needs)
+    (λ c. tt)
     (λ c. search needs))

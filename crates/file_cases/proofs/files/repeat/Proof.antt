@@ -1,18 +1,16 @@
 -- `file_cases::files::repeat` is safe and ends: it goes through the bytes that are added.
 -- Assumes nothing.
-use Prim.Native.Nat.{_-_, _≤_}
-use mathlib.Core.Path.{_≡_}
+use Prim.Native.Nat.{_-_}
 use native.Mathlib.Omega.{arith}
-use lib.ListN.{length}
 use borrow.Author.Needs.{needs}
 use Rattle.file_cases.proofs.files.repeat.Statement.{statement}
 use Rattle.file_cases.proofs.files.repeat.Tie as tie
 
 abbrev Inv-loop : tie.InvT-loop
-Inv-loop kind times files₀ end width more i₀ files i = (i ≤ more) × (length files ≡ length files₀)
+Inv-loop kind times f₀ size end width more i₀ f i = Unit {0}
 
 abbrev μ-loop : tie.MeasureT-loop
-μ-loop kind times files₀ end width more i₀ files i = more - i
+μ-loop kind times f₀ size end width more i₀ f i = more - i
 
 pub repeat-spec : {M : Type 1} → statement M
 repeat-spec =
@@ -22,13 +20,15 @@ repeat-spec =
     μ-loop
     (λ c κs. search needs)
     (λ c κs. search needs)
-    (λ c. search needs)
+    (λ c κs. search needs)
+    (λ c κs. search needs)
+    (λ c. tt)
     (λ c κs. search needs)
     (λ c κs. search needs)
     (λ c κs. search needs)
     (λ c κs. search needs)
     (λ c. omega arith)
     (λ c. omega arith)
-    (λ c. search needs)
-    (λ c. search needs)
+    (λ c. tt)
+    (λ c κs. search needs)
     (λ c. search needs))

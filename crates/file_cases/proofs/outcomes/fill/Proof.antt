@@ -1,18 +1,16 @@
--- `file_cases::outcomes::fill` is safe and ends: it goes through the buffer from an index on.
+-- `file_cases::outcomes::fill` is safe and ends: it goes through the annotation's part.
 -- Assumes nothing.
 use Prim.Native.Nat.{_-_}
-use mathlib.Core.Path.{_≡_}
 use native.Mathlib.Omega.{arith}
-use lib.ListN.{length}
 use borrow.Author.Needs.{needs}
 use Rattle.file_cases.proofs.outcomes.fill.Statement.{statement}
 use Rattle.file_cases.proofs.outcomes.fill.Tie as tie
 
 abbrev Inv-loop : tie.InvT-loop
-Inv-loop buffer₀ from n i₀ buffer i = length buffer ≡ length buffer₀
+Inv-loop f₀ i₀ f i = Unit {0}
 
 abbrev μ-loop : tie.MeasureT-loop
-μ-loop buffer₀ from n i₀ buffer i = n - i
+μ-loop f₀ i₀ f i = 65536 - i
 
 pub fill-spec : {M : Type 1} → statement M
 fill-spec =
@@ -20,10 +18,9 @@ fill-spec =
     (tie.spec
     Inv-loop
     μ-loop
-    (λ c. search needs)
+    (λ c. tt)
     (λ c κs. search needs)
     (λ c. omega arith)
     (λ c. omega arith)
-    (λ c. search needs)
-    (λ c. search needs)
+    (λ c. tt)
     (λ c. search needs))

@@ -1,17 +1,16 @@
--- `file_cases::outcomes::kept` is safe and ends: it goes through the buffer from an index on.
+-- `file_cases::outcomes::kept` is safe and ends: it goes through the annotation's part from an index on.
 -- Assumes nothing.
 use Prim.Native.Nat.{_-_}
 use native.Mathlib.Omega.{arith}
-use lib.ListN.{length}
 use borrow.Author.Needs.{needs}
 use Rattle.file_cases.proofs.outcomes.kept.Statement.{statement}
 use Rattle.file_cases.proofs.outcomes.kept.Tie as tie
 
 abbrev Inv-loop : tie.InvT-loop
-Inv-loop buffer from i₀ i = Unit {0}
+Inv-loop f from i₀ i = Unit {0}
 
 abbrev μ-loop : tie.MeasureT-loop
-μ-loop buffer from i₀ i = length buffer - i
+μ-loop f from i₀ i = 32768 - i
 
 pub kept-spec : {M : Type 1} → statement M
 kept-spec =
@@ -20,7 +19,8 @@ kept-spec =
     Inv-loop
     μ-loop
     (λ c. tt)
-    (λ c. search needs)
+    (λ c. omega arith)
+    (λ c κs. search needs)
     (λ c. search needs)
     (λ c. omega arith)
     (λ c. omega arith)

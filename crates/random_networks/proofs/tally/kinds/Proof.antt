@@ -1,13 +1,13 @@
--- `random_networks::tally::kinds` is safe and ends: it goes through the kinds.
+-- `random_networks::tally::kinds` is safe and ends: it counts to 7.
 -- Assumes nothing.
-use Prim.Native.Nat.{_-_, _≤_}
+use Prim.Native.Nat.{_-_}
 use native.Mathlib.Omega.{arith}
 use borrow.Author.Needs.{needs}
 use Rattle.random_networks.proofs.tally.kinds.Statement.{statement}
 use Rattle.random_networks.proofs.tally.kinds.Tie as tie
 
 abbrev Inv-loop : tie.InvT-loop
-Inv-loop names tally k₀ k = k ≤ 7
+Inv-loop names tally k₀ k = Unit {0}
 
 abbrev μ-loop : tie.MeasureT-loop
 μ-loop names tally k₀ k = 7 - k
@@ -18,9 +18,9 @@ kinds-spec =
     (tie.spec
     Inv-loop
     μ-loop
-    (λ c. search needs)
+    (λ c. tt)
     (λ c κs. search needs)
     (λ c. omega arith)
     (λ c. omega arith)
-    (λ c. search needs)
+    (λ c. tt)
     (λ c. search needs))

@@ -1,16 +1,16 @@
 -- `random_networks::trial::everywhere` is safe and ends: it counts to 5.
 -- Assumes nothing.
-use Prim.Native.Nat.{_-_, _≤_}
+use Prim.Native.Nat.{_-_}
 use native.Mathlib.Omega.{arith}
 use borrow.Author.Needs.{needs}
 use Rattle.random_networks.proofs.trial.everywhere.Statement.{statement}
 use Rattle.random_networks.proofs.trial.everywhere.Tie as tie
 
 abbrev Inv-loop : tie.InvT-loop
-Inv-loop s file ann wanted wrong₀ i₀ wrong i = i ≤ 5
+Inv-loop c f wrong₀ i₀ wrong i = Unit {0}
 
 abbrev μ-loop : tie.MeasureT-loop
-μ-loop s file ann wanted wrong₀ i₀ wrong i = 5 - i
+μ-loop c f wrong₀ i₀ wrong i = 5 - i
 
 pub everywhere-spec : {M : Type 1} → statement M
 everywhere-spec =
@@ -18,12 +18,12 @@ everywhere-spec =
     (tie.spec
     Inv-loop
     μ-loop
-    (λ c. search needs)
+    (λ c. tt)
     (λ c κs. search needs)
     (λ c κs. search needs)
     (λ c κs. search needs)
     (λ c κs. search needs)
     (λ c. omega arith)
     (λ c. omega arith)
-    (λ c. search needs)
+    (λ c. tt)
     (λ c. search needs))

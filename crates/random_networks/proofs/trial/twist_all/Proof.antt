@@ -1,16 +1,16 @@
 -- `random_networks::trial::twist_all` is safe and ends: it counts to 21.
 -- Assumes nothing.
-use Prim.Native.Nat.{_-_, _≤_}
+use Prim.Native.Nat.{_-_}
 use native.Mathlib.Omega.{arith}
 use borrow.Author.Needs.{needs}
 use Rattle.random_networks.proofs.trial.twist_all.Statement.{statement}
 use Rattle.random_networks.proofs.trial.twist_all.Tie as tie
 
 abbrev Inv-loop : tie.InvT-loop
-Inv-loop s file ann wanted tally₀ t₀ tally t = t ≤ 21
+Inv-loop c f tally₀ t₀ tally t = Unit {0}
 
 abbrev μ-loop : tie.MeasureT-loop
-μ-loop s file ann wanted tally₀ t₀ tally t = 21 - t
+μ-loop c f tally₀ t₀ tally t = 21 - t
 
 pub twist-all-spec : {M : Type 1} → statement M
 twist-all-spec =
@@ -18,9 +18,9 @@ twist-all-spec =
     (tie.spec
     Inv-loop
     μ-loop
-    (λ c. search needs)
+    (λ c. tt)
     (λ c κs. search needs)
     (λ c. omega arith)
     (λ c. omega arith)
-    (λ c. search needs)
+    (λ c. tt)
     (λ c. search needs))

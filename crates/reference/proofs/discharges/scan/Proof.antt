@@ -1,0 +1,29 @@
+-- `reference::discharges::scan` is safe and ends: it goes through the vertices.
+-- Assumes nothing.
+use Prim.Native.Nat.{_-_}
+use native.Mathlib.Omega.{arith}
+use borrow.Author.Needs.{needs}
+use Rattle.reference.proofs.discharges.scan.Statement.{statement}
+use Rattle.reference.proofs.discharges.scan.Tie as tie
+
+abbrev Inv-loop : tie.InvT-loop
+Inv-loop a₀ n u v₀ a v = Unit {0}
+
+abbrev μ-loop : tie.MeasureT-loop
+μ-loop a₀ n u v₀ a v = n - v
+
+pub scan-spec : {M : Type 1} → statement M
+scan-spec =
+    tie.close
+    (tie.spec
+    Inv-loop
+    μ-loop
+    (λ c. tt)
+    (λ c κs. search needs)
+    (λ c κs. search needs)
+    (λ c κs. search needs)
+    (λ c κs. search needs)
+    (λ c. omega arith)
+    (λ c. omega arith)
+    (λ c. tt)
+    (λ c. search needs))
