@@ -11,9 +11,9 @@ use borrow.Author.Tests.{lt-ltb, le-ltb}
 use borrow.Author.Count.{below-more}
 use lib.ListN.{length, set, length-set, List·getD-eq-default}
 use Rattle.packed_arcs.specs.Entries.{entry}
-use Rattle.engine.specs.Residual.{unreached, ResidualNetwork, residual, WithinLimits, ParentArc, Converged, RaisedPotentials}
+use Rattle.engine.specs.Residual.{unreached, ResidualNetwork, residual, WithinLimits, ParentArc, LoweredKeys, AllRelaxed, RaisedPotentials}
 use Rattle.prelude.specs.Choice.{indicator}
-use Rattle.engine.specs.Push.{flowAt, ParentLink, PushReady, Augmentable, Moved, Delivered, residualCapacity}
+use Rattle.engine.specs.Push.{flowAt, ParentLink, PushReady, Augmentable, Moved, residualCapacity}
 use Rattle.engine.specs.Phase.{firstKey, Started, SearchResult, NearestSoFar, Nearest, PhaseState, Advanced}
 use Rattle.engine.proofs.FallingKeys.{set-cases, sum-set}
 use Rattle.engine.proofs.PushedAmounts.{left-sub}
@@ -51,6 +51,11 @@ first-far l e = go (decLt 0 l)
     go : Dec (0 < l) → firstKey l ≡ unreached
     go (yes h) = absurd (omega (arith, simp (lt-ltb _ _ h) at e))
     go (no h) = let g : l ≤ 0 = omega arith in simp (le-ltb _ _ g)
+
+-- What passes give back that go on until every arc is relaxed.
+pub record Converged (N : ResidualNetwork) (key par key' par' : List ℕ) : Type 0 where
+  pub keeps : LoweredKeys N key par key' par'
+  pub relaxed : AllRelaxed N key' (length (N .from))
 
 -- a search from the first keys
 pub found : (N : ResidualNetwork) (left key₁ par₁ key par : List ℕ) → Started left key₁ → length par₁ ≡ length left → Converged N key₁ par₁ key par → SearchResult N left key par
@@ -187,14 +192,13 @@ target-ok {need} {key} {t} T h = ⊎-elim
     (λ p. (h, p.1, omega (arith, p.2, p.3), λ j hj hn. omega (arith, p.2, T .best-of .least j hj hn)))
     (T .best-of .which)
 
--- one phase: what a search found, the potentials raised, and what was needed at the nearest vertex delivered
-pub phase : {from to cost cap x pi left need key par x' pi' left' need' : List ℕ} {t : ℕ} → PhaseState from to cost cap x pi left need
+-- one phase: what a search found, the potentials raised, and an amount moved to the nearest vertex with need
+pub phase : {from to cost cap x pi left need key par x' pi' left' : List ℕ} {t g : ℕ} → PhaseState from to cost cap x pi left need
     → SearchResult (residual from to cost cap x pi) left key par → Nearest need key t → t < length key → RaisedPotentials (entry key t) key pi pi'
-    → Delivered from to cap par key x left need x' left' need' t → Advanced from to cost cap x pi left need x' pi' left' need'
-phase {from} {to} {cost} {cap} {x} {pi} {left} {need} {key} {par} {x'} {pi'} {left'} {need'} {t} S F T h R D =
+    → Moved from to cap par key x left x' left' t (entry need t) g → Advanced from to cost cap x pi left need x' pi' left' (set need t (entry need t - g))
+phase {from} {to} {cost} {cap} {x} {pi} {left} {need} {key} {par} {x'} {pi'} {left'} {t} {g} S F T h R M =
     let ok = target-ok T h in
-    subst (λ (z : List ℕ). Advanced from to cost cap x pi left need x' pi' left' z) (sym (D .noted))
-    (advanced S F t (D .amount) pi' x' left' (ok .0) (ok .1) (ok .2) (ok .3) R (D .moved))
+    advanced S F t g pi' x' left' (ok .0) (ok .1) (ok .2) (ok .3) R M
 
 pub target-none : {need key : List ℕ} {t : ℕ} → Nearest need key t → length key ≤ t → (j : ℕ) → j < length key → 0 < entry need j → unreached ≤ entry key j
 target-none {need} {key} {t} T h j hj hn = ⊎-elim

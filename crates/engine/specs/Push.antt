@@ -75,9 +75,3 @@ pub record Moved (from to cap par key x left x' left' : List ℕ) (v want g : �
   pub balance :
       (w : ℕ) → flowAt from x' w + entry left' w + flowAt to x w + indicator (eqb v w) * g ≡ flowAt from x w + entry left w + flowAt to x' w
   pub some : Augmentable cap par key x left → 0 < want → 0 < g
-
--- What was needed at t was moved there, as much as there was room and supply for, and what is still needed there was noted.
-pub record Delivered (from to cap par key x left need x' left' need' : List ℕ) (t : ℕ) : Type 0 where
-  pub amount : ℕ
-  pub moved : Moved from to cap par key x left x' left' t (entry need t) amount
-  pub noted : need' ≡ set need t (entry need t - amount)

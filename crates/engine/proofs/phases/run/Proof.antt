@@ -1,7 +1,9 @@
 -- `engine::phases::run` meets its contract. The loop's invariant: the state, and balances that agree with what was taken and delivered. The need falls.
 -- Assumes nothing.
 use mathlib.Core.Path.{refl, sym, _∙_}
+use Prim.Native.Nat.{_<_}
 use native.Mathlib.Omega.{arith}
+use lib.ListN.{length}
 use borrow.Author.Needs.{needs}
 use Rattle.packed_arcs.specs.PackedArcs.{tailsOf, headsOf, costsOf, capacitiesOf}
 use Rattle.engine.specs.Residual.{sum}
@@ -32,32 +34,39 @@ raise-requires c κs =
     let state = found .before .before .before .before .before .before .loop .inv .state in
     (state .sized .pi-len ∙ sym (found .search .ensures .key-len), state .sized .pis)
 
-deliver-requires : tie.Need-deliver-requires Inv-loop μ-loop
-deliver-requires c κs =
+-- the turn's vertex is among the needs, once its test is passed
+need-at : (c : tie.Then1 Inv-loop μ-loop) → let found = c .before .before .before .before .before .before .before .before in c .before .nearest .result < length (found .before .before .before .before .before .before .loop .need)
+need-at c = let found = c .before .before .before .before .before .before .before .before in omega (arith, c .if1 .taken, found .before .before .before .before .before .before .loop .inv .state .need-len, found .search .ensures .key-len)
+
+mul-want : tie.Need-mul-want Inv-loop μ-loop
+mul-want c = let h = need-at (c .before .before .before .before .before .before) in search needs
+
+push-requires : tie.Need-push-requires Inv-loop μ-loop
+push-requires c κs =
     let test = c .before .before .before .before .before .before .before .before .before .before .before in
     let found = test .before .before .before .before .before .before .before .before in
-    let state = found .before .before .before .before .before .before .loop .inv .state in
     let ok = target-ok (test .before .nearest .ensures) (test .if1 .taken) in
-    ((ok .0, ok .2, state .need-len ∙ sym (found .search .ensures .key-len)), linked state (found .search .ensures))
+    ((ok .0, ok .2), linked (found .before .before .before .before .before .before .loop .inv .state) (found .search .ensures))
+
+mul-need : tie.Need-mul-need Inv-loop μ-loop
+mul-need c = let h = need-at (c .before .before .before .before .before .before .before .before .before .before .before .before .before .before .before .before) in search needs
 
 loop-less : tie.Need-loop-less Inv-loop μ-loop
 loop-less c =
-    let moved = c .before .before .before .before .before .before in
-    let raised = moved .before .before .before .before .before .before .before .before in
+    let raised = c .before .before .before .before .before .before .before .before .before .before .before .before in
     let test = raised .before .before .before .before in
     let found = test .before .before .before .before .before .before .before .before in
     phase (found .before .before .before .before .before .before .loop .inv .state) (found .search .ensures) (test .before .nearest .ensures) (test .if1 .taken)
-    (raised .raise .ensures) (moved .deliver .ensures) .less
+    (raised .raise .ensures) (c .before .before .before .before .push .ensures) .less
 
 loop-again : tie.Need-loop-again Inv-loop μ-loop
 loop-again c =
-    let moved = c .before .before .before .before .before .before in
-    let raised = moved .before .before .before .before .before .before .before .before in
+    let raised = c .before .before .before .before .before .before .before .before .before .before .before .before in
     let test = raised .before .before .before .before in
     let found = test .before .before .before .before .before .before .before .before in
     let i = found .before .before .before .before .before .before .loop .inv in
     running i (found .search .ensures)
-    (phase (i .state) (found .search .ensures) (test .before .nearest .ensures) (test .if1 .taken) (raised .raise .ensures) (moved .deliver .ensures))
+    (phase (i .state) (found .search .ensures) (test .before .nearest .ensures) (test .if1 .taken) (raised .raise .ensures) (c .before .before .before .before .push .ensures))
 
 returns : tie.Need-returns Inv-loop μ-loop
 returns c =
@@ -85,7 +94,12 @@ run-spec =
     (λ c. search needs)
     (λ c. search needs)
     raise-requires
-    deliver-requires
+    mul-want
+    (λ c. need-at (c .before .before .before .before .before .before .before))
+    push-requires
+    (λ c. c .before .before .before .before .push .ensures .most)
+    mul-need
+    (λ c. need-at (c .before .before .before .before .before .before .before .before .before .before .before .before .before .before .before .before))
     loop-less
     loop-again
     (λ c. let l = c .before .before .before .before .before .before .before .before .before .before .before .before .before .before in l .loop .inv .state .sized .x-len ∙ sym (l .before .before .before .before .before .before .before .before .pre .1 .sized .x-len))
