@@ -10,6 +10,8 @@ use lib.Dec.{eqb}
 use borrow.Author.Tests.{lt-ltb, le-ltb}
 use borrow.Author.Count.{below-more}
 use lib.ListN.{length, set, length-set, List·getD-eq-default}
+use mir.Syntax.{w64}
+use mir.Val.{Fits}
 use Rattle.packed_arcs.specs.Entries.{entry}
 use Rattle.engine.specs.Residual.{unreached, ResidualNetwork, residual, WithinLimits, ParentArc, LoweredKeys, AllRelaxed, RaisedPotentials}
 use Rattle.prelude.specs.Choice.{indicator}
@@ -99,6 +101,13 @@ module _ {from to cost cap x pi left need key par : List ℕ} (S : PhaseState fr
 
   pub small-key : length key ≤ 255
   small-key = omega (arith, F .key-len, S .small)
+
+  -- a vertex is among the needs, and its place in an array of numbers of 32 bits
+  pub need-inside : {t : ℕ} → t < length key → t < length need
+  need-inside h = omega (arith, F .key-len, S .need-len)
+
+  pub offset : {t : ℕ} → t < length key → Fits w64 (t * 4)
+  offset h = omega (arith, small-key)
 
   pub roots-zero : (v : ℕ) → v < length key → entry key v ≡ 0 → entry pi v ≡ 0
   roots-zero v hv e = S .zero v (omega (arith, F .key-len)) (F .roots v hv e)
@@ -206,6 +215,13 @@ target-none {need} {key} {t} T h j hj hn = ⊎-elim
     (λ p. absurd (omega (arith, p.0)))
     (T .best-of .which)
 
+-- a vertex by the supply that is left: its place, and its key
+pub sent-offset : {from to cost cap x pi left need : List ℕ} {t : ℕ} → t < length left → PhaseState from to cost cap x pi left need → Fits w64 (t * 4)
+sent-offset h S = omega (arith, S .small)
+
+pub sent-inside : {N : ResidualNetwork} {left key par : List ℕ} {t : ℕ} → t < length left → SearchResult N left key par → t < length key
+sent-inside h F = omega (arith, F .key-len)
+
 -- what holds before each phase
 pub record Running (from to cost cap x₀ left₀ need₀ x pi left need key par : List ℕ) : Type 0 where
   pub state : PhaseState from to cost cap x pi left need
@@ -215,6 +231,18 @@ pub record Running (from to cost cap x₀ left₀ need₀ x pi left need key par
   pub left-less : (w : ℕ) → entry left w ≤ entry left₀ w
   pub need-less : (w : ℕ) → entry need w ≤ entry need₀ w
   pub balance : (w : ℕ) → flowAt from x w + entry left w + entry need₀ w + flowAt to x₀ w ≡ flowAt from x₀ w + entry left₀ w + entry need w + flowAt to x w
+
+pub running-first : {from to cost cap x pi left need key par : List ℕ} → PhaseState from to cost cap x pi left need → (length key ≡ length left) × (length par ≡ length left)
+    → Running from to cost cap x left need x pi left need key par
+running-first S lens = record {
+  state = S;
+  left-len = refl;
+  key-len = lens .0;
+  par-len = lens .1;
+  left-less = λ w. omega arith;
+  need-less = λ w. omega arith;
+  balance = λ w. refl;
+}
 
 pub running : {from to cost cap x₀ left₀ need₀ x pi left need key par x' pi' left' need' key' par' : List ℕ}
     → Running from to cost cap x₀ left₀ need₀ x pi left need key par

@@ -1,13 +1,9 @@
 -- `engine::phases::run` meets its contract. The loop's invariant: the state, and balances that agree with what was taken and delivered. The need falls.
 -- Assumes nothing.
-use mathlib.Core.Path.{refl, sym, _∙_}
-use Prim.Native.Nat.{_<_}
-use native.Mathlib.Omega.{arith}
-use lib.ListN.{length}
-use borrow.Author.Needs.{needs}
+use mathlib.Core.Path.{sym, _∙_}
 use Rattle.packed_arcs.specs.PackedArcs.{tailsOf, headsOf, costsOf, capacitiesOf}
 use Rattle.engine.specs.Residual.{sum}
-use Rattle.engine.proofs.PhaseLaws.{Running, running, linked, phase, target-ok, target-none}
+use Rattle.engine.proofs.PhaseLaws.{Running, running-first, running, linked, need-inside, offset, phase, target-ok, target-none}
 use Rattle.engine.proofs.phases.run.Statement.{statement}
 use Rattle.engine.proofs.phases.run.Tie as tie
 
@@ -19,9 +15,7 @@ abbrev μ-loop : tie.MeasureT-loop
 μ-loop arcs x₀ pi₀ left₀ need₀ key₀ par₀ x pi left need key par = sum need
 
 loop-holds : tie.Need-loop-holds Inv-loop μ-loop
-loop-holds c =
-    let s = c .before .before .before .before .before .before .before in
-    record { state = s .pre .1; left-len = refl; key-len = s .pre .0 .0; par-len = s .pre .0 .1; left-less = λ w. omega arith; need-less = λ w. omega arith; balance = λ w. omega arith }
+loop-holds c = let s = c .before .before .before .before .before .before .before in running-first (s .pre .1) (s .pre .0)
 
 search-requires : tie.Need-search-requires Inv-loop μ-loop
 search-requires c κs =
@@ -34,22 +28,12 @@ raise-requires c κs =
     let state = found .before .before .before .before .before .before .loop .inv .state in
     (state .sized .pi-len ∙ sym (found .search .ensures .key-len), state .sized .pis)
 
--- the turn's vertex is among the needs, once its test is passed
-need-at : (c : tie.Then1 Inv-loop μ-loop) → let found = c .before .before .before .before .before .before .before .before in c .before .nearest .result < length (found .before .before .before .before .before .before .loop .need)
-need-at c = let found = c .before .before .before .before .before .before .before .before in omega (arith, c .if1 .taken, found .before .before .before .before .before .before .loop .inv .state .need-len, found .search .ensures .key-len)
-
-mul-want : tie.Need-mul-want Inv-loop μ-loop
-mul-want c = let h = need-at (c .before .before .before .before .before .before) in search needs
-
 push-requires : tie.Need-push-requires Inv-loop μ-loop
 push-requires c κs =
     let test = c .before .before .before .before .before .before .before .before .before .before .before in
     let found = test .before .before .before .before .before .before .before .before in
     let ok = target-ok (test .before .nearest .ensures) (test .if1 .taken) in
     ((ok .0, ok .2), linked (found .before .before .before .before .before .before .loop .inv .state) (found .search .ensures))
-
-mul-need : tie.Need-mul-need Inv-loop μ-loop
-mul-need c = let h = need-at (c .before .before .before .before .before .before .before .before .before .before .before .before .before .before .before .before) in search needs
 
 loop-less : tie.Need-loop-less Inv-loop μ-loop
 loop-less c =
@@ -91,15 +75,15 @@ run-spec =
     loop-holds
     search-requires
     (λ c κs. let found = c .before .before .before .before .before .before in found .before .before .before .before .before .before .loop .inv .state .need-len ∙ sym (found .search .ensures .key-len))
-    (λ c. search needs)
-    (λ c. search needs)
+    (λ c. let test = c in let found = test .before .before .before .before .before .before .before .before in offset (found .before .before .before .before .before .before .loop .inv .state) (found .search .ensures) (test .if1 .taken))
+    (λ c. c .before .if1 .taken)
     raise-requires
-    mul-want
-    (λ c. need-at (c .before .before .before .before .before .before .before))
+    (λ c. let test = c .before .before .before .before .before .before in let found = test .before .before .before .before .before .before .before .before in offset (found .before .before .before .before .before .before .loop .inv .state) (found .search .ensures) (test .if1 .taken))
+    (λ c. let test = c .before .before .before .before .before .before .before in let found = test .before .before .before .before .before .before .before .before in need-inside (found .before .before .before .before .before .before .loop .inv .state) (found .search .ensures) (test .if1 .taken))
     push-requires
     (λ c. c .before .before .before .before .push .ensures .most)
-    mul-need
-    (λ c. need-at (c .before .before .before .before .before .before .before .before .before .before .before .before .before .before .before .before))
+    (λ c. let test = c .before .before .before .before .before .before .before .before .before .before .before .before .before .before .before .before in let found = test .before .before .before .before .before .before .before .before in offset (found .before .before .before .before .before .before .loop .inv .state) (found .search .ensures) (test .if1 .taken))
+    (λ c. let test = c .before .before .before .before .before .before .before .before .before .before .before .before .before .before .before .before in let found = test .before .before .before .before .before .before .before .before in need-inside (found .before .before .before .before .before .before .loop .inv .state) (found .search .ensures) (test .if1 .taken))
     loop-less
     loop-again
     (λ c. let l = c .before .before .before .before .before .before .before .before .before .before .before .before .before .before in l .loop .inv .state .sized .x-len ∙ sym (l .before .before .before .before .before .before .before .before .pre .1 .sized .x-len))

@@ -1,10 +1,8 @@
 -- `engine::sending::search_and_push` meets its contract.
 -- Assumes nothing.
 use mathlib.Core.Path.{refl}
-use native.Mathlib.Omega.{arith}
-use borrow.Author.Needs.{needs}
 use Rattle.engine.specs.Calls.SearchAndPush.{away, reached}
-use Rattle.engine.proofs.PhaseLaws.{linked}
+use Rattle.engine.proofs.PhaseLaws.{linked, sent-offset, sent-inside}
 use Rattle.engine.proofs.sending.search_and_push.Statement.{statement}
 use Rattle.engine.proofs.sending.search_and_push.Tie as tie
 
@@ -15,7 +13,7 @@ push-requires : tie.Need-push-requires
 push-requires c κs =
     let s = c .before .before .before .before .before .before .before .before .before .before .before .before .before .before .before .before .before .before .before .before .before in
     let found = c .before .before .before .before .before .before .before .before .before .before .search .ensures in
-    ((omega (arith, s .pre .0 .0, found .key-len), c .before .before .before .before .if1 .taken), linked (s .pre .1) found)
+    ((sent-inside (s .pre .0 .0) found, c .before .before .before .before .if1 .taken), linked (s .pre .1) found)
 
 returns : tie.Need-returns
 returns c = reached _ (c .before .before .before .before .before .before .before .before .before .before .before .before .before .before .before .search .ensures) (c .before .before .before .before .before .before .before .before .before .if1 .taken) _ (c .before .before .before .before .push .ensures)
@@ -29,8 +27,8 @@ search-and-push-spec =
     tie.close
     (tie.spec
     search-requires
-    (λ c. search needs)
-    (λ c. search needs)
+    (λ c. let s = c .before .before .before .before .before .before .before .before .before .before .before .before .before .before .before in sent-offset (s .pre .0 .0) (s .pre .1))
+    (λ c. sent-inside (c .before .before .before .before .before .before .before .before .before .before .before .before .before .before .before .before .pre .0 .0) (c .before .before .before .before .before .search .ensures))
     push-requires
     (λ c. c .before .before .before .before .push .kept .1 .1 .1 .1 .1 .0)
     (λ c. c .before .before .before .before .push .kept .1 .1 .1 .1 .1 .1 .0)
