@@ -6,7 +6,7 @@ use mathlib.Core.List.{List}
 use Prim.Native.Nat.{ℕ, _+_, _*_, _-_, _<_, _≤_}
 use native.Mathlib.Omega.{arith}
 use lib.ListN.{length}
-use mir.Syntax.{w16, w32, w64}
+use mir.Syntax.{w32, w64}
 use mir.Val.{Fits}
 use Rattle.packed_arcs.specs.Entries.{entry}
 use Rattle.packed_arcs.specs.PackedArcs.{tailOf, headOf, costOf, capacityOf}
@@ -47,9 +47,7 @@ pub record ArcLimits (key pi par : List ℕ) (e a b w : ℕ) : Type 0 where
   pub sum-fits : Fits w32 (w + entry pi a)
   pub forward-low : w + entry pi a - entry pi b ≤ 8355585
   pub backward-low : entry pi b - (w + entry pi a) ≤ 8355585
-  pub code-fits : Fits w16 e
-  pub place-fits : Fits w64 (4096 + e)
-  pub back-code-fits : Fits w16 (4096 + e)
+  pub few : e < 4096
 
 module _ {arcs x pi key par : List ℕ} {e a b w : ℕ} (R : ArcRead arcs x pi key par e a b w) where
   abbrev N : ResidualNetwork
@@ -86,9 +84,7 @@ module _ {arcs x pi key par : List ℕ} {e a b w : ℕ} (R : ArcRead arcs x pi k
         sum-fits = omega arith;
         forward-low = omega arith;
         backward-low = omega arith;
-        code-fits = omega arith;
-        place-fits = omega arith;
-        back-code-fits = omega arith;
+        few = few;
       }
 
   -- forward, where the arc has room

@@ -50,7 +50,7 @@ relax-forward-spec =
     (λ c. limits (read (c .before)) .head-offset)
     (λ c. limits (read (c .before .before)) .head-inside)
     (λ c. let r = c .before .before in not-negative (read r) (r .before .before .before .if1 .taken) (r .before .before .before .before .capacity-of .ensures))
-    (λ c. limits (read (c .before .before)) .code-fits)
+    (λ c. omega (arith, limits (read (c .before .before)) .few))
     (λ c κs. let l = limits (read (c .before .before .before .before)) in (l .tail-ok, l .head-ok, l .par-len, l .forward-low))
     (λ c. c .before .before .before .before .lower .kept .1 .1 .1 .1 .0)
     (λ c. c .before .before .before .before .lower .kept .1 .1 .1 .1 .1 .0)
