@@ -1,5 +1,6 @@
 pub mod FallingKeys
 pub mod ArcReads
+mod CodedArcs
 pub mod PotentialBounds
 pub mod PushedAmounts
 pub mod PhaseLaws

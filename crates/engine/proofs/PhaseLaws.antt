@@ -10,10 +10,12 @@ use lib.Dec.{eqb}
 use borrow.Author.Tests.{lt-ltb, le-ltb}
 use borrow.Author.Count.{below-more}
 use lib.ListN.{length, set, length-set, List·getD-eq-default}
+use mir.Syntax.{w64}
+use mir.Val.{Fits}
 use Rattle.packed_arcs.specs.Entries.{entry}
-use Rattle.engine.specs.Residual.{unreached, ResidualNetwork, residual, WithinLimits, ParentArc, Converged, RaisedPotentials}
+use Rattle.engine.specs.Residual.{unreached, ResidualNetwork, residual, WithinLimits, ParentArc, LoweredKeys, AllRelaxed, RaisedPotentials}
 use Rattle.prelude.specs.Choice.{indicator}
-use Rattle.engine.specs.Push.{flowAt, ParentLink, PushReady, Augmentable, Moved, Delivered, residualCapacity}
+use Rattle.engine.specs.Push.{flowAt, ParentLink, PushReady, Augmentable, Moved, residualCapacity}
 use Rattle.engine.specs.Phase.{firstKey, Started, SearchResult, NearestSoFar, Nearest, PhaseState, Advanced}
 use Rattle.engine.proofs.FallingKeys.{set-cases, sum-set}
 use Rattle.engine.proofs.PushedAmounts.{left-sub}
@@ -51,6 +53,11 @@ first-far l e = go (decLt 0 l)
     go : Dec (0 < l) → firstKey l ≡ unreached
     go (yes h) = absurd (omega (arith, simp (lt-ltb _ _ h) at e))
     go (no h) = let g : l ≤ 0 = omega arith in simp (le-ltb _ _ g)
+
+-- What passes give back that go on until every arc is relaxed.
+pub record Converged (N : ResidualNetwork) (key par key' par' : List ℕ) : Type 0 where
+  pub keeps : LoweredKeys N key par key' par'
+  pub relaxed : AllRelaxed N key' (length (N .from))
 
 -- a search from the first keys
 pub found : (N : ResidualNetwork) (left key₁ par₁ key par : List ℕ) → Started left key₁ → length par₁ ≡ length left → Converged N key₁ par₁ key par → SearchResult N left key par
@@ -94,6 +101,13 @@ module _ {from to cost cap x pi left need key par : List ℕ} (S : PhaseState fr
 
   pub small-key : length key ≤ 255
   small-key = omega (arith, F .key-len, S .small)
+
+  -- a vertex is among the needs, and its place in an array of numbers of 32 bits
+  pub need-inside : {t : ℕ} → t < length key → t < length need
+  need-inside h = omega (arith, F .key-len, S .need-len)
+
+  pub offset : {t : ℕ} → t < length key → Fits w64 (t * 4)
+  offset h = omega (arith, small-key)
 
   pub roots-zero : (v : ℕ) → v < length key → entry key v ≡ 0 → entry pi v ≡ 0
   roots-zero v hv e = S .zero v (omega (arith, F .key-len)) (F .roots v hv e)
@@ -187,20 +201,26 @@ target-ok {need} {key} {t} T h = ⊎-elim
     (λ p. (h, p.1, omega (arith, p.2, p.3), λ j hj hn. omega (arith, p.2, T .best-of .least j hj hn)))
     (T .best-of .which)
 
--- one phase: what a search found, the potentials raised, and what was needed at the nearest vertex delivered
-pub phase : {from to cost cap x pi left need key par x' pi' left' need' : List ℕ} {t : ℕ} → PhaseState from to cost cap x pi left need
+-- one phase: what a search found, the potentials raised, and an amount moved to the nearest vertex with need
+pub phase : {from to cost cap x pi left need key par x' pi' left' : List ℕ} {t g : ℕ} → PhaseState from to cost cap x pi left need
     → SearchResult (residual from to cost cap x pi) left key par → Nearest need key t → t < length key → RaisedPotentials (entry key t) key pi pi'
-    → Delivered from to cap par key x left need x' left' need' t → Advanced from to cost cap x pi left need x' pi' left' need'
-phase {from} {to} {cost} {cap} {x} {pi} {left} {need} {key} {par} {x'} {pi'} {left'} {need'} {t} S F T h R D =
+    → Moved from to cap par key x left x' left' t (entry need t) g → Advanced from to cost cap x pi left need x' pi' left' (set need t (entry need t - g))
+phase {from} {to} {cost} {cap} {x} {pi} {left} {need} {key} {par} {x'} {pi'} {left'} {t} {g} S F T h R M =
     let ok = target-ok T h in
-    subst (λ (z : List ℕ). Advanced from to cost cap x pi left need x' pi' left' z) (sym (D .noted))
-    (advanced S F t (D .amount) pi' x' left' (ok .0) (ok .1) (ok .2) (ok .3) R (D .moved))
+    advanced S F t g pi' x' left' (ok .0) (ok .1) (ok .2) (ok .3) R M
 
 pub target-none : {need key : List ℕ} {t : ℕ} → Nearest need key t → length key ≤ t → (j : ℕ) → j < length key → 0 < entry need j → unreached ≤ entry key j
 target-none {need} {key} {t} T h j hj hn = ⊎-elim
     (λ p. omega (arith, p.1, T .best-of .least j hj hn))
     (λ p. absurd (omega (arith, p.0)))
     (T .best-of .which)
+
+-- a vertex by the supply that is left: its place, and its key
+pub sent-offset : {from to cost cap x pi left need : List ℕ} {t : ℕ} → t < length left → PhaseState from to cost cap x pi left need → Fits w64 (t * 4)
+sent-offset h S = omega (arith, S .small)
+
+pub sent-inside : {N : ResidualNetwork} {left key par : List ℕ} {t : ℕ} → t < length left → SearchResult N left key par → t < length key
+sent-inside h F = omega (arith, F .key-len)
 
 -- what holds before each phase
 pub record Running (from to cost cap x₀ left₀ need₀ x pi left need key par : List ℕ) : Type 0 where
@@ -211,6 +231,18 @@ pub record Running (from to cost cap x₀ left₀ need₀ x pi left need key par
   pub left-less : (w : ℕ) → entry left w ≤ entry left₀ w
   pub need-less : (w : ℕ) → entry need w ≤ entry need₀ w
   pub balance : (w : ℕ) → flowAt from x w + entry left w + entry need₀ w + flowAt to x₀ w ≡ flowAt from x₀ w + entry left₀ w + entry need w + flowAt to x w
+
+pub running-first : {from to cost cap x pi left need key par : List ℕ} → PhaseState from to cost cap x pi left need → (length key ≡ length left) × (length par ≡ length left)
+    → Running from to cost cap x left need x pi left need key par
+running-first S lens = record {
+  state = S;
+  left-len = refl;
+  key-len = lens .0;
+  par-len = lens .1;
+  left-less = λ w. omega arith;
+  need-less = λ w. omega arith;
+  balance = λ w. refl;
+}
 
 pub running : {from to cost cap x₀ left₀ need₀ x pi left need key par x' pi' left' need' key' par' : List ℕ}
     → Running from to cost cap x₀ left₀ need₀ x pi left need key par

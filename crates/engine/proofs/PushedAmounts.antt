@@ -6,14 +6,22 @@ use mathlib.Core.List.{List, [], _∷_}
 use mathlib.Core.Logic.{_⊎_, inl, inr, ⊎-elim}
 use Prim.Native.Nat.{ℕ, zero, suc, _+_, _*_, _-_, _<_, _≤_, min}
 use native.Mathlib.Omega.{arith}
-use lib.Dec.{eqb}
+use lib.Dec.{eqb, ltb}
 use borrow.Author.Tests.{lt-ltb, le-ltb, eq-eqb, ne-eqb}
 use lib.ListN.{length, set, length-set}
 use Rattle.packed_arcs.specs.Entries.{entry}
 use Rattle.engine.specs.Residual.{unreached}
-use Rattle.prelude.specs.Choice.{indicator}
-use Rattle.engine.specs.Push.{flowAt, ParentLink, PushReady, ParentArcWithin, Augmentable, Moved, codeArc, codeStart, residualCapacity, shifted}
+use Rattle.prelude.specs.Choice.{pick, indicator}
+use Rattle.engine.specs.Push.{flowAt, ParentLink, PushReady, ParentArcWithin, Augmentable, Moved, codeArc, residualCapacity}
 use Rattle.engine.proofs.FallingKeys.{set-cases}
+
+-- the vertex that the residual arc comes from
+abbrev pub codeStart : List ℕ → List ℕ → ℕ → ℕ
+codeStart from to code = pick (ltb code 4096) (entry from code) (entry to (code - 4096))
+
+-- the amounts after g went by the residual arc
+abbrev pub shifted : List ℕ → ℕ → ℕ → List ℕ
+shifted x code g = pick (ltb code 4096) (set x code (entry x code + g)) (set x (code - 4096) (entry x (code - 4096) - g))
 
 -- one arc's amount, raised or lowered by g
 pub flow-add : (l x : List ℕ) (e g w : ℕ) → e < length l → length x ≡ length l → flowAt l (set x e (entry x e + g)) w ≡ flowAt l x w + indicator (eqb (entry l e) w) * g

@@ -4,7 +4,7 @@ use mathlib.Core.List.{List}
 use Prim.Native.Nat.{ℕ}
 use Rattle.packed_arcs.specs.PackedArcs.{tailsOf, headsOf, costsOf, capacitiesOf}
 use Rattle.engine.specs.Residual.{ResidualNetwork, residual}
-use Rattle.engine.specs.Push.{PushReady, Moved, Delivered}
+use Rattle.engine.specs.Push.{PushReady, Moved}
 use Rattle.engine.specs.Phase.{PhaseState, Solved}
 
 -- The residual network of packed arcs with the amounts x and the potentials pi.
@@ -18,11 +18,6 @@ PackedPushReady arcs par key x left = PushReady (tailsOf arcs) (headsOf arcs) (c
 -- An amount moved along the parent arcs of packed arcs.
 abbrev pub PackedMoved : (arcs par key x left x' left' : List ℕ) (v want g : ℕ) → Type 0
 PackedMoved arcs par key x left x' left' v want g = Moved (tailsOf arcs) (headsOf arcs) (capacitiesOf arcs) par key x left x' left' v want g
-
--- A delivery over packed arcs.
-abbrev pub PackedDelivered : (arcs par key x left need x' left' need' : List ℕ) (t : ℕ) → Type 0
-PackedDelivered arcs par key x left need x' left' need' t =
-    Delivered (tailsOf arcs) (headsOf arcs) (capacitiesOf arcs) par key x left need x' left' need' t
 
 -- The state between phases, of packed arcs.
 abbrev pub PackedPhaseState : (arcs x pi left need : List ℕ) → Type 0

@@ -38,17 +38,9 @@ pub record PushReady (from to cap par key x left : List ℕ) : Type 0 where
 abbrev pub codeArc : ℕ → ℕ
 codeArc code = pick (ltb code 4096) code (code - 4096)
 
--- The vertex that the residual arc comes from.
-abbrev pub codeStart : List ℕ → List ℕ → ℕ → ℕ
-codeStart from to code = pick (ltb code 4096) (entry from code) (entry to (code - 4096))
-
 -- How much the residual arc can take.
 abbrev pub residualCapacity : List ℕ → List ℕ → ℕ → ℕ
 residualCapacity cap x code = pick (ltb code 4096) (entry cap code - entry x code) (entry x (code - 4096))
-
--- The amounts after g went by the residual arc.
-abbrev pub shifted : List ℕ → ℕ → ℕ → List ℕ
-shifted x code g = pick (ltb code 4096) (set x code (entry x code + g)) (set x (code - 4096) (entry x (code - 4096) - g))
 
 -- Every root has supply left, and every parent arc can take something.
 pub record Augmentable (cap par key x left : List ℕ) : Type 0 where
@@ -75,9 +67,3 @@ pub record Moved (from to cap par key x left x' left' : List ℕ) (v want g : �
   pub balance :
       (w : ℕ) → flowAt from x' w + entry left' w + flowAt to x w + indicator (eqb v w) * g ≡ flowAt from x w + entry left w + flowAt to x' w
   pub some : Augmentable cap par key x left → 0 < want → 0 < g
-
--- What was needed at t was moved there, as much as there was room and supply for, and what is still needed there was noted.
-pub record Delivered (from to cap par key x left need x' left' need' : List ℕ) (t : ℕ) : Type 0 where
-  pub amount : ℕ
-  pub moved : Moved from to cap par key x left x' left' t (entry need t) amount
-  pub noted : need' ≡ set need t (entry need t - amount)

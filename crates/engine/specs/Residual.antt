@@ -129,11 +129,6 @@ pub record Relaxation (N : ResidualNetwork) (P : Type 0) (key par key' par' : Li
 abbrev pub AllRelaxed : ResidualNetwork → List ℕ → ℕ → Type 0
 AllRelaxed N key n = (e : ℕ) → e < n → RelaxedArc N key e
 
--- What passes give back that go on until every arc is relaxed.
-pub record Converged (N : ResidualNetwork) (key par key' par' : List ℕ) : Type 0 where
-  pub keeps : LoweredKeys N key par key' par'
-  pub relaxed : AllRelaxed N key' (length (N .from))
-
 -- The potentials after a phase that stops at the key d: each rises by the lesser of its distance and that of d.
 pub record RaisedPotentials (d : ℕ) (key pi pi' : List ℕ) : Type 0 where
   pub len : length pi' ≡ length pi

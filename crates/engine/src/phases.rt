@@ -4,9 +4,9 @@ ghost use mathlib.Core.Path.{_≡_};
 ghost use Prim.Native.Nat.{ℕ, _<_, _≤_};
 ghost use lib.ListN.{length};
 ghost use Rattle.packed_arcs.specs.Entries.{entry};
-ghost use Rattle.engine.specs.PackedNetwork.{PackedDelivered, PackedPushReady, PackedSolved, PackedPhaseState};
+ghost use Rattle.engine.specs.PackedNetwork.{PackedSolved, PackedPhaseState};
 ghost use Rattle.engine.specs.Phase.{Nearest};
-ghost use Rattle.engine.specs.Residual.{unreached, RaisedPotentials};
+ghost use Rattle.engine.specs.Residual.{RaisedPotentials};
 use super::UNREACHED;
 use super::push::least;
 use super::push::push;
@@ -47,32 +47,14 @@ fn nearest(need: &[u32], key: &[u32]) -> usize
     let mut k = UNREACHED;
     let mut v = 0;
     while v < key.len() {
-        if better(need[v], key[v], k) {
+        let here = key[v];
+        if better(need[v], here, k) {
             best = v;
-            k = key[v];
+            k = here;
         }
         v += 1;
     }
     best
-}
-
-// Moves what is needed at t there, as much as there is room and supply for, and notes what is still needed.
-fn deliver(
-    t: usize,
-    arcs: &[u64],
-    par: &[u16],
-    key: &[u32],
-    x: &mut [u16],
-    left: &mut [u32],
-    need: &mut [u32],
-)
-    requires { ⌜ (t < length (now key)) × (entry (now key) t < unreached) × (length (now need) ≡ length (now key)) ⌝ }
-    requires { ⌜ PackedPushReady (now arcs) (now par) (now key) (now x) (now left) ⌝ }
-    ensures { λ _. ⌜ PackedDelivered (now (arcs .entry)) (now (par .entry)) (now (key .entry)) (now (x .entry)) (now (left .entry)) (now (need .entry)) (now (x .exit)) (now (left .exit)) (now (need .exit)) t ⌝ }
-{
-    let want = need[t];
-    let got = push(t, want, arcs, par, key, x, left);
-    need[t] = want - got;
 }
 
 // Moves supply to where it is needed, at least cost, until no vertex with need is reached.
@@ -94,7 +76,9 @@ pub(crate) fn run(
         let t = nearest(need, key);
         if t < key.len() {
             raise(key[t], key, pi);
-            deliver(t, arcs, par, key, x, left, need);
+            let want = need[t];
+            let got = push(t, want, arcs, par, key, x, left);
+            need[t] = want - got;
         } else {
             break;
         }

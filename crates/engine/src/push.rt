@@ -1,11 +1,13 @@
 // A push: an amount moves from a root of the search's tree to a vertex, along parent arcs.
 ghost use mathlib.Core.Path.{_≡_};
-ghost use Prim.Native.Nat.{ℕ, _+_, _-_, _<_, _≤_, min};
+ghost use Prim.Native.Nat.{_+_, _-_, _<_, _≤_, min};
+ghost use lib.Dec.{ltb};
 ghost use lib.ListN.{length, set};
+ghost use Rattle.prelude.specs.Choice.{pick};
 ghost use Rattle.packed_arcs.specs.Entries.{entry};
-ghost use Rattle.packed_arcs.specs.PackedArcs.{tailsOf, headsOf, capacitiesOf};
+ghost use Rattle.packed_arcs.specs.PackedArcs.{tailOf, headOf, capacityOf};
 ghost use Rattle.engine.specs.PackedNetwork.{PackedPushReady, PackedMoved};
-ghost use Rattle.engine.specs.Push.{codeArc, codeStart, residualCapacity, shifted};
+ghost use Rattle.engine.specs.Push.{codeArc};
 ghost use Rattle.engine.specs.Residual.{unreached};
 use packed_arcs::arcs::capacity_of;
 use packed_arcs::arcs::head_of;
@@ -32,44 +34,46 @@ pub(crate) fn least(a: u32, b: u32) -> u32
     b
 }
 
+// The arc of a code.
+fn arc_of(code: u16) -> usize
+    ensures { λ r. ⌜ r ≡ codeArc code ⌝ }
+{
+    if code < 4096 {
+        return place(code);
+    }
+    place(code - 4096)
+}
+
 // The vertex that a residual arc comes from.
-fn start_of(code: u16, arcs: &[u64]) -> usize
-    requires { ⌜ codeArc code < length (now arcs) ⌝ }
-    ensures { λ r. ⌜ r ≡ codeStart (tailsOf (now (arcs .entry))) (headsOf (now (arcs .entry))) code ⌝ }
+fn start_of(code: u16, arc: u64) -> usize
+    ensures { λ r. ⌜ r ≡ pick (ltb code 4096) (tailOf arc) (headOf arc) ⌝ }
 {
     if code < 4096 {
-        let e = place(code);
-        return tail_of(arcs[e]);
+        return tail_of(arc);
     }
-    let e = place(code - 4096);
-    head_of(arcs[e])
+    head_of(arc)
 }
 
-// How much of want a residual arc can take.
-fn room_by(code: u16, want: u32, arcs: &[u64], x: &[u16]) -> u32
-    requires { ⌜ (codeArc code < length (now x)) × (length (now arcs) ≡ length (now x)) × ((e : ℕ) → e < length (now x) → entry (now x) e ≤ entry (capacitiesOf (now arcs)) e) ⌝ }
-    ensures { λ r. ⌜ r ≡ min want (residualCapacity (capacitiesOf (now (arcs .entry))) (now (x .entry)) code) ⌝ }
+// How much of want a residual arc can take, where the arc carries the amount.
+fn room_by(code: u16, want: u32, arc: u64, amount: u16) -> u32
+    requires { ⌜ amount ≤ capacityOf arc ⌝ }
+    ensures { λ r. ⌜ r ≡ min want (pick (ltb code 4096) (capacityOf arc - amount) amount) ⌝ }
 {
     if code < 4096 {
-        let e = place(code);
-        return least(want, wide(capacity_of(arcs[e]) - x[e]));
+        return least(want, wide(capacity_of(arc) - amount));
     }
-    let e = place(code - 4096);
-    least(want, wide(x[e]))
+    least(want, wide(amount))
 }
 
-// Sends got by a residual arc.
-fn shift(code: u16, got: u32, x: &mut [u16])
-    requires { ⌜ (codeArc code < length (now x)) × (code < 4096 → entry (now x) code + got ≤ 65535) × (4096 ≤ code → got ≤ entry (now x) (code - 4096)) ⌝ }
-    ensures { λ _. ⌜ now (x .exit) ≡ shifted (now (x .entry)) code got ⌝ }
+// The amount of an arc after got went by the residual arc.
+fn amount_after(code: u16, amount: u16, got: u32) -> u16
+    requires { ⌜ (code < 4096 → amount + got ≤ 65535) × (4096 ≤ code → got ≤ amount) ⌝ }
+    ensures { λ r. ⌜ r ≡ pick (ltb code 4096) (amount + got) (amount - got) ⌝ }
 {
     if code < 4096 {
-        let e = place(code);
-        x[e] = x[e] + (got as u16);
-        return;
+        return amount + (got as u16);
     }
-    let e = place(code - 4096);
-    x[e] = x[e] - (got as u16);
+    amount - (got as u16)
 }
 
 // Takes at most want of the supply left at v.
@@ -101,9 +105,11 @@ pub(crate) fn push(
         return take_left(v, want, left);
     }
     let code = par[v];
-    let u = start_of(code, arcs);
-    let room = room_by(code, want, arcs, x);
+    let e = arc_of(code);
+    let arc = arcs[e];
+    let u = start_of(code, arc);
+    let room = room_by(code, want, arc, x[e]);
     let got = push(u, room, arcs, par, key, x, left);
-    shift(code, got, x);
+    x[e] = amount_after(code, x[e], got);
     got
 }

@@ -4,7 +4,7 @@ ghost use mathlib.Core.Path.{_≡_};
 ghost use Prim.Native.Nat.{_<_, _≤_};
 ghost use lib.ListN.{length};
 ghost use Rattle.engine.specs.PackedNetwork.{residualOf};
-ghost use Rattle.engine.specs.Residual.{AllRelaxed, RelaxedArc, RelaxedBackward, RelaxedForward, NonnegativeReducedCosts, SearchReady, Converged, WithinLimits, Relaxation, LowerOutcome};
+ghost use Rattle.engine.specs.Residual.{AllRelaxed, RelaxedArc, RelaxedBackward, RelaxedForward, NonnegativeReducedCosts, SearchReady, WithinLimits, Relaxation, LowerOutcome};
 ghost use Rattle.engine.specs.Phase.{firstKey, SearchResult, Started};
 use super::UNREACHED;
 use packed_arcs::arcs::capacity_of;
@@ -107,19 +107,6 @@ fn pass(arcs: &[u64], x: &[u16], pi: &[u32], key: &mut [u32], par: &mut [u16]) -
     changed
 }
 
-// Passes until no key falls.
-fn converge(arcs: &[u64], x: &[u16], pi: &[u32], key: &mut [u32], par: &mut [u16])
-    requires { ⌜ SearchReady (residualOf (now arcs) (now x) (now pi)) (now key) (now par) ⌝ }
-    ensures { λ _. ⌜ Converged (residualOf (now (arcs .entry)) (now (x .entry)) (now (pi .entry))) (now (key .entry)) (now (par .entry)) (now (key .exit)) (now (par .exit)) ⌝ }
-{
-    loop {
-        let again = pass(arcs, x, pi, key, par);
-        if !again {
-            break;
-        }
-    }
-}
-
 fn first_key(supply: u32) -> u32
     ensures { λ r. ⌜ r ≡ firstKey supply ⌝ }
 {
@@ -141,7 +128,7 @@ fn start(left: &[u32], key: &mut [u32])
     }
 }
 
-// One search from all vertices with supply left.
+// One search from all vertices with supply left: passes until no key falls.
 pub(crate) fn search(
     arcs: &[u64],
     x: &[u16],
@@ -156,5 +143,10 @@ pub(crate) fn search(
     ensures { λ _. ⌜ SearchResult (residualOf (now (arcs .entry)) (now (x .entry)) (now (pi .entry))) (now (left .entry)) (now (key .exit)) (now (par .exit)) ⌝ }
 {
     start(left, key);
-    converge(arcs, x, pi, key, par);
+    loop {
+        let again = pass(arcs, x, pi, key, par);
+        if !again {
+            break;
+        }
+    }
 }

@@ -1,5 +1,6 @@
 pub mod Halves
 pub mod Reading
+mod Stores
 pub mod Windows
 pub mod Layouts
 pub mod Records

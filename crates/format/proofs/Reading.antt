@@ -11,6 +11,14 @@ use Rattle.file_fields.proofs.Reading.{byte-past, read16-past}
 use Rattle.format.specs.Files.{arcAt, loadAt}
 use Rattle.format.specs.Promises.{Byte, ArcFits, LoadFits}
 
+-- ---- an arc and a load by their parts
+
+pub arc-by : {a b w x y z : ℕ} → a ≡ x → b ≡ y → w ≡ z → arcOf a b w ≡ arcOf x y z
+arc-by p q r = λ i. arcOf (p i) (q i) (r i)
+
+pub load-by : {a b : Arc} {m n : ℕ} → a ≡ b → m ≡ n → _≡_ {A = Load} (record { arc = a; amount = m }) (record { arc = b; amount = n })
+load-by p q = λ i. record { arc = p i; amount = q i }
+
 -- ---- past the end
 
 pub arc-past : (file : List ℕ) (i : ℕ) → length file ≤ i → arcAt file i ≡ arcOf 0 0 0

@@ -1,9 +1,8 @@
 -- `engine::send` meets its contract.
 -- Assumes nothing.
-use mathlib.Core.Path.{sym}
+use mathlib.Core.Path.{sym, _∙_}
 use denote.Ref.{now}
 use lib.ListN.{length}
-use borrow.Author.Needs.{needs}
 use Rattle.packed_arcs.proofs.LentParts.{zero-list-length}
 use Rattle.packed_arcs.proofs.LimitTests.{Sendable}
 use Rattle.engine.proofs.CallOutcomes.{send-refused, send-facts, send-starts, send-ends}
@@ -19,14 +18,8 @@ facts c =
     let a = Tested c .args in
     send-facts (now (a .arcs)) (a .t) (a .want) (now (a .x)) (now (a .left)) (now (a .key)) _ (c .before .is-sendable .ensures) (c .if1 .left)
 
-is-sendable-requires : tie.Need-is-sendable-requires
-is-sendable-requires c κs = search needs
-
 returns : tie.Need-returns
 returns c = let a = c .before .before .before .before .before .before .args in send-refused (now (a .arcs)) (a .t) (a .want) (now (a .x)) (now (a .left)) (now (a .key)) _ (c .before .is-sendable .ensures) (c .if1 .taken)
-
-clear-amounts-requires : tie.Need-clear-amounts-requires
-clear-amounts-requires c κs = search needs
 
 array-share-prefix-pi : tie.Need-array-share-prefix-pi
 array-share-prefix-pi c = facts (c .before .before .before .before) .fit .small
@@ -49,15 +42,6 @@ search-and-push-requires c κs =
       send-starts (now (a .arcs)) (a .t) (a .want) (now (a .x)) (now (a .left)) (now (a .key)) _ (t .before .is-sendable .ensures) (t .if1 .left) (c .before .before .before .before .before .before .before .clear-amounts .ensures),
     )
 
-same-length : tie.Need-same-length
-same-length c = search needs
-
-same-length-2 : tie.Need-same-length-2
-same-length-2 c = search needs
-
-same-length-3 : tie.Need-same-length-3
-same-length-3 c = search needs
-
 returns-2 : tie.Need-returns-2
 returns-2 c =
     let t = c .before .before .before .before .before .before .before .before .before .before .before .before .before .before .before .before .before in
@@ -65,19 +49,20 @@ returns-2 c =
     send-ends (now (a .arcs)) (a .t) (a .want) (now (a .x)) (now (a .left)) (now (a .key)) _ (t .before .is-sendable .ensures) (t .if1 .left)
     (c .before .before .before .before .before .before .before .before .before .before .before .before .before .before .before .clear-amounts .ensures) (c .before .before .before .before .before .before .before .search-and-push .ensures)
 
+-- what is called keeps the lengths of the arrays
 pub send-spec : {M : Type 1} → statement M
 send-spec =
     tie.close
     (tie.spec
-    is-sendable-requires
+    (λ c κs. tt)
     returns
-    clear-amounts-requires
+    (λ c κs. tt)
     array-share-prefix-pi
     slice-aggregate-search-and-push
     array-borrow-prefix-par
     slice-aggregate-search-and-push-2
     search-and-push-requires
-    same-length
-    same-length-2
-    same-length-3
+    (λ c. c .before .before .before .before .before .before .before .search-and-push .kept .1 .1 .1 .1 .0 ∙ c .before .before .before .before .before .before .before .before .before .before .before .before .before .before .before .clear-amounts .kept .0)
+    (λ c. c .before .before .before .before .before .before .before .search-and-push .kept .1 .1 .1 .1 .1 .0)
+    (λ c. c .before .before .before .before .before .before .before .search-and-push .kept .1 .1 .1 .1 .1 .1 .0)
     returns-2)

@@ -1,9 +1,8 @@
 -- `engine::solve` meets its contract.
 -- Assumes nothing.
-use mathlib.Core.Path.{sym}
+use mathlib.Core.Path.{sym, _∙_}
 use denote.Ref.{now}
 use lib.ListN.{length}
-use borrow.Author.Needs.{needs}
 use Rattle.packed_arcs.proofs.LentParts.{zero-list-length}
 use Rattle.packed_arcs.proofs.LimitTests.{Solvable}
 use Rattle.engine.proofs.CallOutcomes.{solve-refused, solve-facts, solve-starts, solve-ends}
@@ -19,17 +18,8 @@ facts c =
     let a = Tested c .args in
     solve-facts (now (a .arcs)) (now (a .x)) (now (a .pi)) (now (a .left)) (now (a .need)) (now (a .key)) _ (c .before .is-solvable .ensures) (c .if1 .left)
 
-is-solvable-requires : tie.Need-is-solvable-requires
-is-solvable-requires c κs = search needs
-
 returns : tie.Need-returns
 returns c = let a = c .before .before .before .before .before .before .before .before .args in solve-refused (now (a .arcs)) (now (a .x)) (now (a .pi)) (now (a .left)) (now (a .need)) (now (a .key)) _ (c .before .is-solvable .ensures) (c .if1 .taken)
-
-clear-amounts-requires : tie.Need-clear-amounts-requires
-clear-amounts-requires c κs = search needs
-
-clear-potentials-requires : tie.Need-clear-potentials-requires
-clear-potentials-requires c κs = search needs
 
 array-borrow-prefix-par : tie.Need-array-borrow-prefix-par
 array-borrow-prefix-par c = facts (c .before .before .before .before .before .before .before .before .before .before .before .before .before) .fit .small
@@ -47,21 +37,6 @@ run-requires c κs =
           (c .before .before .before .before .before .before .before .before .before .before .before .before .clear-amounts .ensures) (c .before .before .before .before .before .before .before .before .clear-potentials .ensures),
     )
 
-same-length : tie.Need-same-length
-same-length c = search needs
-
-same-length-2 : tie.Need-same-length-2
-same-length-2 c = search needs
-
-same-length-3 : tie.Need-same-length-3
-same-length-3 c = search needs
-
-same-length-4 : tie.Need-same-length-4
-same-length-4 c = search needs
-
-same-length-5 : tie.Need-same-length-5
-same-length-5 c = search needs
-
 returns-2 : tie.Need-returns-2
 returns-2 c =
     let t = c .before .before .before .before .before .before .before .before .before .before .before .before .before .before .before .before .before .before .before .before .before .before .before .before .before .before in
@@ -69,20 +44,21 @@ returns-2 c =
     solve-ends (now (a .arcs)) (now (a .x)) (now (a .pi)) (now (a .left)) (now (a .need)) (now (a .key)) _ (t .before .is-solvable .ensures) (t .if1 .left)
     (c .before .before .before .before .before .before .before .before .before .before .before .before .before .before .before .before .before .before .before .before .before .before .before .before .clear-amounts .ensures) (c .before .before .before .before .before .before .before .before .before .before .before .before .before .before .before .before .before .before .before .before .clear-potentials .ensures) (c .before .before .before .before .before .before .before .before .before .before .before .run .ensures)
 
+-- what is called keeps the lengths of the arrays
 pub solve-spec : {M : Type 1} → statement M
 solve-spec =
     tie.close
     (tie.spec
-    is-solvable-requires
+    (λ c κs. tt)
     returns
-    clear-amounts-requires
-    clear-potentials-requires
+    (λ c κs. tt)
+    (λ c κs. tt)
     array-borrow-prefix-par
     slice-aggregate-run
     run-requires
-    same-length
-    same-length-2
-    same-length-3
-    same-length-4
-    same-length-5
+    (λ c. c .before .before .before .before .before .before .before .before .before .before .before .run .kept .1 .0 ∙ c .before .before .before .before .before .before .before .before .before .before .before .before .before .before .before .before .before .before .before .before .before .before .before .before .clear-amounts .kept .0)
+    (λ c. c .before .before .before .before .before .before .before .before .before .before .before .run .kept .1 .1 .0 ∙ c .before .before .before .before .before .before .before .before .before .before .before .before .before .before .before .before .before .before .before .before .clear-potentials .kept .0)
+    (λ c. c .before .before .before .before .before .before .before .before .before .before .before .run .kept .1 .1 .1 .0)
+    (λ c. c .before .before .before .before .before .before .before .before .before .before .before .run .kept .1 .1 .1 .1 .0)
+    (λ c. c .before .before .before .before .before .before .before .before .before .before .before .run .kept .1 .1 .1 .1 .1 .0)
     returns-2)

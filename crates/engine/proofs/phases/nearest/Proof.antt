@@ -23,7 +23,7 @@ loop-again c =
     let within = c .before .before .before .before .loop-test .taken in
     let told = c .before .better .ensures in
     ⊎-elim
-    (λ w. best-take (l .inv) within (told .0 (w .0 .taken)) (w .2) (w .3))
+    (λ w. best-take (l .inv) within (told .0 (w .0 .taken)) (w .1) (w .2))
     (λ w. best-skip (l .inv) within (told .1 (w .0 .left)) (w .1) (w .2))
     (c .if1 .came)
 
@@ -39,13 +39,11 @@ nearest-spec =
     μ-loop
     (λ c. best-none _ _)
     (λ c. search needs)
+    (λ c. omega arith)
     (λ c. search needs)
     (λ c. search needs)
+    (λ c κs. tt)
     (λ c. search needs)
-    (λ c κs. search needs)
-    (λ c. search needs)
-    (λ c. search needs)
-    (λ c. search needs)
-    (λ c. search needs)
+    (λ c. omega arith)
     loop-again
     (λ c. best-whole (c .loop-test .left) (c .before .loop .inv)))

@@ -1,11 +1,9 @@
 -- `engine::phases::run` meets its contract. The loop's invariant: the state, and balances that agree with what was taken and delivered. The need falls.
 -- Assumes nothing.
-use mathlib.Core.Path.{refl, sym, _∙_}
-use native.Mathlib.Omega.{arith}
-use borrow.Author.Needs.{needs}
+use mathlib.Core.Path.{sym, _∙_}
 use Rattle.packed_arcs.specs.PackedArcs.{tailsOf, headsOf, costsOf, capacitiesOf}
 use Rattle.engine.specs.Residual.{sum}
-use Rattle.engine.proofs.PhaseLaws.{Running, running, linked, phase, target-ok, target-none}
+use Rattle.engine.proofs.PhaseLaws.{Running, running-first, running, linked, need-inside, offset, phase, target-ok, target-none}
 use Rattle.engine.proofs.phases.run.Statement.{statement}
 use Rattle.engine.proofs.phases.run.Tie as tie
 
@@ -17,9 +15,7 @@ abbrev μ-loop : tie.MeasureT-loop
 μ-loop arcs x₀ pi₀ left₀ need₀ key₀ par₀ x pi left need key par = sum need
 
 loop-holds : tie.Need-loop-holds Inv-loop μ-loop
-loop-holds c =
-    let s = c .before .before .before .before .before .before .before in
-    record { state = s .pre .1; left-len = refl; key-len = s .pre .0 .0; par-len = s .pre .0 .1; left-less = λ w. omega arith; need-less = λ w. omega arith; balance = λ w. omega arith }
+loop-holds c = let s = c .before .before .before .before .before .before .before in running-first (s .pre .1) (s .pre .0)
 
 search-requires : tie.Need-search-requires Inv-loop μ-loop
 search-requires c κs =
@@ -32,32 +28,29 @@ raise-requires c κs =
     let state = found .before .before .before .before .before .before .loop .inv .state in
     (state .sized .pi-len ∙ sym (found .search .ensures .key-len), state .sized .pis)
 
-deliver-requires : tie.Need-deliver-requires Inv-loop μ-loop
-deliver-requires c κs =
+push-requires : tie.Need-push-requires Inv-loop μ-loop
+push-requires c κs =
     let test = c .before .before .before .before .before .before .before .before .before .before .before in
     let found = test .before .before .before .before .before .before .before .before in
-    let state = found .before .before .before .before .before .before .loop .inv .state in
     let ok = target-ok (test .before .nearest .ensures) (test .if1 .taken) in
-    ((ok .0, ok .2, state .need-len ∙ sym (found .search .ensures .key-len)), linked state (found .search .ensures))
+    ((ok .0, ok .2), linked (found .before .before .before .before .before .before .loop .inv .state) (found .search .ensures))
 
 loop-less : tie.Need-loop-less Inv-loop μ-loop
 loop-less c =
-    let moved = c .before .before .before .before .before .before in
-    let raised = moved .before .before .before .before .before .before .before .before in
+    let raised = c .before .before .before .before .before .before .before .before .before .before .before .before in
     let test = raised .before .before .before .before in
     let found = test .before .before .before .before .before .before .before .before in
     phase (found .before .before .before .before .before .before .loop .inv .state) (found .search .ensures) (test .before .nearest .ensures) (test .if1 .taken)
-    (raised .raise .ensures) (moved .deliver .ensures) .less
+    (raised .raise .ensures) (c .before .before .before .before .push .ensures) .less
 
 loop-again : tie.Need-loop-again Inv-loop μ-loop
 loop-again c =
-    let moved = c .before .before .before .before .before .before in
-    let raised = moved .before .before .before .before .before .before .before .before in
+    let raised = c .before .before .before .before .before .before .before .before .before .before .before .before in
     let test = raised .before .before .before .before in
     let found = test .before .before .before .before .before .before .before .before in
     let i = found .before .before .before .before .before .before .loop .inv in
     running i (found .search .ensures)
-    (phase (i .state) (found .search .ensures) (test .before .nearest .ensures) (test .if1 .taken) (raised .raise .ensures) (moved .deliver .ensures))
+    (phase (i .state) (found .search .ensures) (test .before .nearest .ensures) (test .if1 .taken) (raised .raise .ensures) (c .before .before .before .before .push .ensures))
 
 returns : tie.Need-returns Inv-loop μ-loop
 returns c =
@@ -82,10 +75,15 @@ run-spec =
     loop-holds
     search-requires
     (λ c κs. let found = c .before .before .before .before .before .before in found .before .before .before .before .before .before .loop .inv .state .need-len ∙ sym (found .search .ensures .key-len))
-    (λ c. search needs)
-    (λ c. search needs)
+    (λ c. let test = c in let found = test .before .before .before .before .before .before .before .before in offset (found .before .before .before .before .before .before .loop .inv .state) (found .search .ensures) (test .if1 .taken))
+    (λ c. c .before .if1 .taken)
     raise-requires
-    deliver-requires
+    (λ c. let test = c .before .before .before .before .before .before in let found = test .before .before .before .before .before .before .before .before in offset (found .before .before .before .before .before .before .loop .inv .state) (found .search .ensures) (test .if1 .taken))
+    (λ c. let test = c .before .before .before .before .before .before .before in let found = test .before .before .before .before .before .before .before .before in need-inside (found .before .before .before .before .before .before .loop .inv .state) (found .search .ensures) (test .if1 .taken))
+    push-requires
+    (λ c. c .before .before .before .before .push .ensures .most)
+    (λ c. let test = c .before .before .before .before .before .before .before .before .before .before .before .before .before .before .before .before in let found = test .before .before .before .before .before .before .before .before in offset (found .before .before .before .before .before .before .loop .inv .state) (found .search .ensures) (test .if1 .taken))
+    (λ c. let test = c .before .before .before .before .before .before .before .before .before .before .before .before .before .before .before .before in let found = test .before .before .before .before .before .before .before .before in need-inside (found .before .before .before .before .before .before .loop .inv .state) (found .search .ensures) (test .if1 .taken))
     loop-less
     loop-again
     (λ c. let l = c .before .before .before .before .before .before .before .before .before .before .before .before .before .before in l .loop .inv .state .sized .x-len ∙ sym (l .before .before .before .before .before .before .before .before .pre .1 .sized .x-len))

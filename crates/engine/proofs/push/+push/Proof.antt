@@ -3,16 +3,19 @@
 use mathlib.Core.Path.{ap, _∙_}
 use Prim.Native.Nat.{ℕ, _<_}
 use native.Mathlib.Omega.{arith}
+use lib.ListN.{length-set}
 use borrow.Fn.Kinds.{In}
 use borrow.Fn.PlainCycle.{Measures, is, falls, and}
 use Rattle.packed_arcs.specs.Entries.{entry}
-use Rattle.packed_arcs.proofs.ArcColumns.{columns, capacity-fits}
+use Rattle.packed_arcs.proofs.ArcColumns.{capacity-fits}
+use Rattle.engine.proofs.CodedArcs.{coded-places, amount-low, still, start-by, room-by, amounts-after, after-fits}
 use Rattle.engine.proofs.PushedAmounts.{arc-ok, start-ok, shift-ok, moved-root, moved-step}
 use Rattle.engine.proofs.push.push.Reads as push
 use Rattle.engine.proofs.push.push.Kinds as push-kinds
 use Rattle.engine.proofs.push.+push.Lts-push as push-lts
+use Rattle.engine.proofs.push.amount_after.Reads as amount-after-reads
+use Rattle.engine.proofs.push.arc_of.Reads as arc-of-reads
 use Rattle.engine.proofs.push.room_by.Reads as room-by-reads
-use Rattle.engine.proofs.push.shift.Reads as shift-reads
 use Rattle.engine.proofs.push.start_of.Reads as start-of-reads
 use Rattle.engine.proofs.push.take_left.Reads as take-left-reads
 use Rattle.engine.proofs.push.+push.{statement}
@@ -31,14 +34,16 @@ pub +push-spec : {M : Type 1} → statement M
 +push-spec = close μ-push λ t. push-lts.spec (
   take-left-reads.Asked,
   take-left-reads.Learnt,
+  arc-of-reads.Asked,
+  arc-of-reads.Learnt,
   start-of-reads.Asked,
   start-of-reads.Learnt,
   room-by-reads.Asked,
   room-by-reads.Learnt,
   push-below t,
   push.Post,
-  shift-reads.Asked,
-  shift-reads.Learnt,
+  amount-after-reads.Asked,
+  amount-after-reads.Learnt,
 )
     (push-at t)
     push.Post
@@ -53,37 +58,80 @@ pub +push-spec : {M : Type 1} → statement M
     moved-root (s .pre .1 .1) _ (s .args .v) (s .args .want) _ (s .pre .1 .0 .0) (root .if1 .taken) (taken .0) (taken .1))
     (λ c. let s = c .before .before .before .before .before .before .before in omega (arith, s .pre .1 .0 .0, s .good, s .pre .1 .1 .par-len))
     (λ c. let s = c .before .before .before .before .before .before .before .before in omega (arith, s .pre .1 .0 .0, s .pre .1 .1 .par-len))
+    (λ c κs. tt)
+    (λ c.
+    let n = c in
+    let test = n .before .before in
+    let s = test .before .before .before .before .before .before .before in
+    (coded-places (s .args .arcs .now) (entry (s .args .par .now) (s .args .v)) (n .arc-of .ensures) (s .pre .1 .1) (arc-ok (s .pre .1 .1) (s .args .v) (s .pre .1 .0 .0) (s .pre .1 .0 .1) (test .if1 .left))) .offset)
+    (λ c.
+    let n = c .before in
+    let test = n .before .before in
+    let s = test .before .before .before .before .before .before .before in
+    (coded-places (s .args .arcs .now) (entry (s .args .par .now) (s .args .v)) (n .arc-of .ensures) (s .pre .1 .1) (arc-ok (s .pre .1 .1) (s .args .v) (s .pre .1 .0 .0) (s .pre .1 .0 .1) (test .if1 .left))) .inside)
+    (λ c κs. tt)
+    (λ c.
+    let n = c .before .before in
+    let test = n .before .before in
+    let s = test .before .before .before .before .before .before .before in
+    (coded-places (s .args .arcs .now) (entry (s .args .par .now) (s .args .v)) (n .arc-of .ensures) (s .pre .1 .1) (arc-ok (s .pre .1 .1) (s .args .v) (s .pre .1 .0 .0) (s .pre .1 .0 .1) (test .if1 .left))) .amount-offset)
+    (λ c.
+    let n = c .before .before .before in
+    let test = n .before .before in
+    let s = test .before .before .before .before .before .before .before in
+    (coded-places (s .args .arcs .now) (entry (s .args .par .now) (s .args .v)) (n .arc-of .ensures) (s .pre .1 .1) (arc-ok (s .pre .1 .1) (s .args .v) (s .pre .1 .0 .0) (s .pre .1 .0 .1) (test .if1 .left))) .amount-inside)
     (λ c κs.
-    let s = c .before .before .before .before .before .before .before .before in
-    omega (arith, arc-ok (s .pre .1 .1) (s .args .v) (s .pre .1 .0 .0) (s .pre .1 .0 .1) (c .before .if1 .left), columns (s .args .arcs .now)))
+    let n = c .before .before .before in
+    let test = n .before .before in
+    let s = test .before .before .before .before .before .before .before in
+    amount-low (s .args .arcs .now) (entry (s .args .par .now) (s .args .v)) (n .arc-of .ensures) (s .pre .1 .1) (arc-ok (s .pre .1 .1) (s .args .v) (s .pre .1 .0 .0) (s .pre .1 .0 .1) (test .if1 .left)))
     (λ c κs.
-    let s = c .before .before .before .before .before .before .before .before .before .before in
-    let L = s .pre .1 .1 in (
-      omega (arith, arc-ok L (s .args .v) (s .pre .1 .0 .0) (s .pre .1 .0 .1) (c .before .before .before .if1 .left), L .x-len),
-      omega (arith, L .x-len, columns (s .args .arcs .now)),
-      λ e h. L .within e (omega (arith, h, L .x-len)),
-    ))
-    (λ c κs.
-    let test = c .before .before .before .before .before .before in
+    let n = c .before .before .before .before .before .before in
+    let test = n .before .before in
     let s = test .before .before .before .before .before .before .before in
     let L = s .pre .1 .1 in
     let lower = start-ok L (s .args .v) (s .pre .1 .0 .0) (s .pre .1 .0 .1) (test .if1 .left) in
-    let start = c .before .before .before .before .start-of .ensures in
+    let start = start-by (s .args .arcs .now) (entry (s .args .par .now) (s .args .v)) (n .arc-of .ensures) (c .before .before .before .before .start-of .ensures) in
     let same = ap (entry (s .args .key .now)) start in
     (omega (arith, lower, s .pre .0, same), ((omega (arith, lower, start), omega (arith, lower, s .pre .1 .0 .1, same)), L)))
-    (λ c κs.
-    let pushed = c .before .before .before .before .before in
-    let start = pushed .before .before .before .before .before in
-    let test = start .before .before in
-    let s = test .before .before .before .before .before .before .before in
-    shift-ok (s .pre .1 .1) (s .args .v) (s .pre .1 .0 .0) (s .pre .1 .0 .1) (test .if1 .left) _ (s .args .want) _ _ _ _ (start .start-of .ensures)
-    (pushed .before .before .before .room-by .ensures) (pushed .push .ensures) (capacity-fits (s .args .arcs .now)))
-    (λ c. c .before .before .shift .kept .1 .1 .0 ∙ c .before .before .before .before .before .before .before .before .push .kept .1 .1 .1 .1 .1 .0)
-    (λ c. c .before .before .before .before .before .before .before .before .push .kept .1 .1 .1 .1 .1 .1 .0)
     (λ c.
-    let pushed = c .before .before .before .before .before .before .before .before in
-    let start = pushed .before .before .before .before .before in
-    let test = start .before .before in
+    let n = c .before .before .before .before .before .before .before .before .before .before .before in
+    let test = n .before .before in
     let s = test .before .before .before .before .before .before .before in
-    moved-step (s .pre .1 .1) (s .args .v) (s .pre .1 .0 .0) (s .pre .1 .0 .1) (test .if1 .left) _ (s .args .want) _ _ _ _ (start .start-of .ensures)
-    (pushed .before .before .before .room-by .ensures) (pushed .push .ensures) _ (c .before .before .shift .ensures))
+    (coded-places (s .args .arcs .now) (entry (s .args .par .now) (s .args .v)) (n .arc-of .ensures) (s .pre .1 .1) (arc-ok (s .pre .1 .1) (s .args .v) (s .pre .1 .0 .0) (s .pre .1 .0 .1) (test .if1 .left))) .amount-offset)
+    (λ c.
+    let n = c .before .before .before .before .before .before .before .before .before .before .before .before in
+    let test = n .before .before in
+    let s = test .before .before .before .before .before .before .before in
+    still (c .before .before .before .before .before .push .ensures .x-len)
+    (coded-places (s .args .arcs .now) (entry (s .args .par .now) (s .args .v)) (n .arc-of .ensures) (s .pre .1 .1) (arc-ok (s .pre .1 .1) (s .args .v) (s .pre .1 .0 .0) (s .pre .1 .0 .1) (test .if1 .left)) .amount-inside))
+    (λ c κs.
+    let n = c .before .before .before .before .before .before .before .before .before .before .before .before in
+    let test = n .before .before in
+    let s = test .before .before .before .before .before .before .before in
+    let arcs = s .args .arcs .now in
+    let room = c .before .before .before .before .before .before .before .before in
+    let ok = shift-ok (s .pre .1 .1) (s .args .v) (s .pre .1 .0 .0) (s .pre .1 .0 .1) (test .if1 .left) _ (s .args .want) _ _ _ _ (start-by arcs (entry (s .args .par .now) (s .args .v)) (n .arc-of .ensures) (room .before .before .start-of .ensures))
+    (room-by arcs (entry (s .args .par .now) (s .args .v)) (n .arc-of .ensures) (s .args .x .now) (s .args .want) (room .room-by .ensures)) (c .before .before .before .before .before .push .ensures) (capacity-fits arcs) in
+    after-fits arcs (entry (s .args .par .now) (s .args .v)) (n .arc-of .ensures) (c .before .before .before .before .before .push .last .1 .1 .1 .1 .1 .0) _ (ok .1) (ok .2))
+    (λ c.
+    let n = c .before .before .before .before .before .before .before .before .before .before .before .before .before in
+    let test = n .before .before in
+    let s = test .before .before .before .before .before .before .before in
+    (coded-places (s .args .arcs .now) (entry (s .args .par .now) (s .args .v)) (n .arc-of .ensures) (s .pre .1 .1) (arc-ok (s .pre .1 .1) (s .args .v) (s .pre .1 .0 .0) (s .pre .1 .0 .1) (test .if1 .left))) .amount-offset)
+    (λ c.
+    let n = c .before .before .before .before .before .before .before .before .before .before .before .before .before in
+    let test = n .before .before in
+    let s = test .before .before .before .before .before .before .before in
+    still (c .before .before .before .before .before .before .push .ensures .x-len)
+    (coded-places (s .args .arcs .now) (entry (s .args .par .now) (s .args .v)) (n .arc-of .ensures) (s .pre .1 .1) (arc-ok (s .pre .1 .1) (s .args .v) (s .pre .1 .0 .0) (s .pre .1 .0 .1) (test .if1 .left)) .amount-inside))
+    (λ c. length-set (c .before .before .before .before .before .before .push .last .1 .1 .1 .1 .1 .0) (c .before .before .before .before .before .before .before .before .before .before .before .before .before .arc-of .result) (c .amount-after .result) ∙ c .before .before .before .before .before .before .push .kept .1 .1 .1 .1 .1 .0)
+    (λ c. c .before .before .before .before .before .before .push .kept .1 .1 .1 .1 .1 .1 .0)
+    (λ c.
+    let n = c .before .before .before .before .before .before .before .before .before .before .before .before .before in
+    let test = n .before .before in
+    let s = test .before .before .before .before .before .before .before in
+    let arcs = s .args .arcs .now in
+    let room = c .before .before .before .before .before .before .before .before .before in
+    moved-step (s .pre .1 .1) (s .args .v) (s .pre .1 .0 .0) (s .pre .1 .0 .1) (test .if1 .left) _ (s .args .want) _ _ _ _ (start-by arcs (entry (s .args .par .now) (s .args .v)) (n .arc-of .ensures) (room .before .before .start-of .ensures))
+    (room-by arcs (entry (s .args .par .now) (s .args .v)) (n .arc-of .ensures) (s .args .x .now) (s .args .want) (room .room-by .ensures)) (c .before .before .before .before .before .before .push .ensures) _ (amounts-after arcs (entry (s .args .par .now) (s .args .v)) (n .arc-of .ensures) (c .before .before .before .before .before .before .push .last .1 .1 .1 .1 .1 .0) _ (c .amount-after .ensures)))

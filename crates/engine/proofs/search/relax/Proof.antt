@@ -1,9 +1,8 @@
 -- `engine::search::relax` meets its contract.
 -- Assumes nothing.
-use mathlib.Core.Path.{subst, refl}
+use mathlib.Core.Path.{subst, refl, _∙_}
 use mathlib.Core.List.{List}
 use Prim.Native.Nat.{ℕ}
-use borrow.Author.Needs.{needs}
 use Rattle.engine.specs.PackedNetwork.{residualOf}
 use Rattle.engine.specs.Residual.{RelaxedBackward}
 use Rattle.engine.proofs.FallingKeys.{step-fell, step-next, ready-lower}
@@ -22,11 +21,11 @@ pub relax-spec : {M : Type 1} → statement M
 relax-spec =
     tie.close
     (tie.spec
-    (λ c κs. search needs)
+    (λ c κs. let s = c .before .before .before .before .before .before .before in (s .pre .0, s .pre .1))
     (λ c κs. let first = c .before .before .before .before .before .before in let s = first .before .before .before .before .before .before .before .before in (s .pre .0, ready-lower (s .pre .1) (first .relax-forward .ensures .keeps)))
-    (λ c. search needs)
-    (λ c. search needs)
+    (λ c. c .before .before .before .before .before .relax-backward .ensures .keeps .key-len ∙ c .before .before .before .before .before .before .before .before .before .before .before .before .relax-forward .ensures .keeps .key-len)
+    (λ c. c .before .before .before .before .before .relax-backward .ensures .keeps .par-len ∙ c .before .before .before .before .before .before .before .before .before .before .before .before .relax-forward .ensures .keeps .par-len)
     (λ c. let second = c .before .before .before .before .before in step-fell _ (second .before .before .before .before .before .before .before .relax-forward .ensures) (second .relax-backward .ensures) (c .if1 .taken) refl)
-    (λ c. search needs)
-    (λ c. search needs)
+    (λ c. c .before .before .before .before .before .relax-backward .ensures .keeps .key-len ∙ c .before .before .before .before .before .before .before .before .before .before .before .before .relax-forward .ensures .keeps .key-len)
+    (λ c. c .before .before .before .before .before .relax-backward .ensures .keeps .par-len ∙ c .before .before .before .before .before .before .before .before .before .before .before .before .relax-forward .ensures .keeps .par-len)
     returns-2)

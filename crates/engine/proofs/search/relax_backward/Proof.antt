@@ -1,11 +1,9 @@
 -- `engine::search::relax_backward` meets its contract.
 -- Assumes nothing.
 use native.Mathlib.Omega.{arith}
-use borrow.Author.Needs.{needs}
 use Rattle.engine.specs.PackedNetwork.{residualOf}
-use Rattle.packed_arcs.proofs.ArcColumns.{columns}
 use Rattle.engine.proofs.FallingKeys.{step-same}
-use Rattle.engine.proofs.ArcReads.{ArcRead, limits, not-positive, step-backward}
+use Rattle.engine.proofs.ArcReads.{ArcRead, places, limits, not-positive, step-backward}
 use Rattle.engine.proofs.search.relax_backward.Statement.{statement}
 use Rattle.engine.proofs.search.relax_backward.Tie as tie
 
@@ -30,23 +28,23 @@ pub relax-backward-spec : {M : Type 1} → statement M
 relax-backward-spec =
     tie.close
     (tie.spec
-    (λ c. search needs)
-    (λ c. let s = c .before .before .before .before .before .before in omega (arith, s .pre .1 .sized .x-len, columns (s .args .arcs .now)))
-    (λ c. search needs)
-    (λ c. search needs)
-    (λ c κs. search needs)
-    (λ c κs. search needs)
-    (λ c κs. search needs)
-    (λ c. search needs)
-    (λ c. omega (arith, limits (read (c .before))))
-    (λ c. omega (arith, limits (read (c .before))))
-    (λ c. search needs)
-    (λ c. omega (arith, limits (read (c .before .before))))
+    (λ c. let s = c .before .before .before .before .before in places (s .args .arcs .now) (s .pre) .amount-offset)
+    (λ c. let s = c .before .before .before .before .before .before in places (s .args .arcs .now) (s .pre) .amount-inside)
+    (λ c. let s = c .before .before .before .before .before .before .before in places (s .args .arcs .now) (s .pre) .offset)
+    (λ c. c .before .before .before .before .before .before .before .before .pre .0)
+    (λ c κs. tt)
+    (λ c κs. tt)
+    (λ c κs. tt)
+    (λ c. limits (read (c)) .tail-offset)
+    (λ c. limits (read (c .before)) .tail-inside)
+    (λ c. limits (read (c .before)) .sum-fits)
+    (λ c. limits (read (c .before)) .head-offset)
+    (λ c. limits (read (c .before .before)) .head-inside)
     (λ c. let r = c .before .before in not-positive (read r) (r .before .before .before .before .if1 .taken))
-    (λ c. search needs)
-    (λ c. omega (arith, limits (read (c .before .before))))
-    (λ c κs. omega (arith, limits (read (c .before .before .before .before))))
-    (λ c. search needs)
-    (λ c. search needs)
+    (λ c. omega (arith, limits (read (c .before .before)) .few))
+    (λ c. omega (arith, limits (read (c .before .before)) .few))
+    (λ c κs. let l = limits (read (c .before .before .before .before)) in (l .head-ok, l .tail-ok, l .par-len, l .backward-low))
+    (λ c. c .before .before .before .before .lower .kept .1 .1 .1 .1 .0)
+    (λ c. c .before .before .before .before .lower .kept .1 .1 .1 .1 .1 .0)
     (λ c. let r = c .before .before .before .before .before .before .before .before .before in step-backward (read r) (r .before .before .before .before .if1 .taken) (c .before .before .before .before .lower .ensures))
     returns-2)

@@ -1,11 +1,10 @@
 -- `engine::search::relax_forward` meets its contract.
 -- Assumes nothing.
 use native.Mathlib.Omega.{arith}
-use borrow.Author.Needs.{needs}
 use Rattle.engine.specs.PackedNetwork.{residualOf}
-use Rattle.packed_arcs.proofs.ArcColumns.{columns, capacity-at}
+use Rattle.packed_arcs.proofs.ArcColumns.{capacity-at}
 use Rattle.engine.proofs.FallingKeys.{step-same}
-use Rattle.engine.proofs.ArcReads.{ArcRead, limits, not-negative, step-forward}
+use Rattle.engine.proofs.ArcReads.{ArcRead, places, limits, not-negative, step-forward}
 use Rattle.engine.proofs.search.relax_forward.Statement.{statement}
 use Rattle.engine.proofs.search.relax_forward.Tie as tie
 
@@ -37,23 +36,23 @@ pub relax-forward-spec : {M : Type 1} → statement M
 relax-forward-spec =
     tie.close
     (tie.spec
-    (λ c. search needs)
-    (λ c. search needs)
-    (λ c. search needs)
-    (λ c. let s = c .before .before .before .before .before .before .before in omega (arith, s .pre .1 .sized .x-len, columns (s .args .arcs .now)))
-    (λ c κs. search needs)
-    (λ c κs. search needs)
-    (λ c κs. search needs)
-    (λ c κs. search needs)
-    (λ c. search needs)
-    (λ c. omega (arith, limits (read (c .before))))
-    (λ c. omega (arith, limits (read (c .before))))
-    (λ c. search needs)
-    (λ c. omega (arith, limits (read (c .before .before))))
+    (λ c. let s = c .before .before .before .before .before in places (s .args .arcs .now) (s .pre) .offset)
+    (λ c. c .before .before .before .before .before .before .pre .0)
+    (λ c. let s = c .before .before .before .before .before .before in places (s .args .arcs .now) (s .pre) .amount-offset)
+    (λ c. let s = c .before .before .before .before .before .before .before in places (s .args .arcs .now) (s .pre) .amount-inside)
+    (λ c κs. tt)
+    (λ c κs. tt)
+    (λ c κs. tt)
+    (λ c κs. tt)
+    (λ c. limits (read (c)) .tail-offset)
+    (λ c. limits (read (c .before)) .tail-inside)
+    (λ c. limits (read (c .before)) .sum-fits)
+    (λ c. limits (read (c .before)) .head-offset)
+    (λ c. limits (read (c .before .before)) .head-inside)
     (λ c. let r = c .before .before in not-negative (read r) (r .before .before .before .if1 .taken) (r .before .before .before .before .capacity-of .ensures))
-    (λ c. omega (arith, limits (read (c .before .before))))
-    (λ c κs. omega (arith, limits (read (c .before .before .before .before))))
-    (λ c. search needs)
-    (λ c. search needs)
+    (λ c. omega (arith, limits (read (c .before .before)) .few))
+    (λ c κs. let l = limits (read (c .before .before .before .before)) in (l .tail-ok, l .head-ok, l .par-len, l .forward-low))
+    (λ c. c .before .before .before .before .lower .kept .1 .1 .1 .1 .0)
+    (λ c. c .before .before .before .before .lower .kept .1 .1 .1 .1 .1 .0)
     returns
     returns-2)

@@ -2,8 +2,7 @@
 -- Assumes nothing.
 use mathlib.Core.Path.{sym, _∙_}
 use native.Mathlib.Omega.{arith}
-use borrow.Author.Needs.{needs}
-use Rattle.format.proofs.Reading.{arc-past}
+use Rattle.format.proofs.Reading.{arc-by, arc-past}
 use Rattle.format.proofs.arcs.record_at.Statement.{statement}
 use Rattle.format.proofs.arcs.record_at.Tie as tie
 
@@ -11,12 +10,12 @@ pub record-at-spec : {M : Type 1} → statement M
 record-at-spec =
     tie.close
     (tie.spec
-    (λ c κs. search needs)
+    (λ c κs. tt)
     (λ c. let a = c .before .before .before .args in c .record-of .ensures ∙ sym (arc-past (a .file .now) (a .at) (omega arith)))
-    (λ c κs. search needs)
-    (λ c. search needs)
-    (λ c κs. search needs)
-    (λ c. search needs)
-    (λ c κs. search needs)
-    (λ c κs. search needs)
-    (λ c. cc))
+    (λ c κs. tt)
+    (λ c. omega arith)
+    (λ c κs. tt)
+    (λ c. omega arith)
+    (λ c κs. tt)
+    (λ c κs. tt)
+    (λ c. let read = c .before in c .record-of2 .ensures ∙ arc-by (read .before .before .byte .ensures) (read .before .byte2 .ensures) (read .number16 .ensures)))

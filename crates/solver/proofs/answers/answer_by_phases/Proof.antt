@@ -56,31 +56,35 @@ returns-3 c =
     (sym (cleared (ran t .run .ensures) (c .before .before .clear-amounts .ensures)))
     (no-assignment-solution (s .pre .0 .0) (asks-as s (t .if1 .left)) (ran t .run .ensures) (c .before .before .before .before .before .before .before .before .before .met .ensures .1 (c .before .before .before .before .before .before .before .before .if2 .left)) (written .ensures))
 
+run-requires : tie.Need-run-requires
+run-requires c κs = let s = c .before .before .before .before .before .before .before .before .before in (s .pre .0 .0, (s .pre .1 .0 .0, s .pre .1 .1 .0, s .pre .1 .1 .1, s .pre .1 .1 .2))
+
+-- what is called keeps the lengths of the arrays
 pub answer-by-phases-spec : {M : Type 1} → statement M
 answer-by-phases-spec =
     tie.close
     (tie.spec
-    (λ c κs. search needs)
+    run-requires
     write-requires
-    (λ c. search needs)
-    (λ c. search needs)
-    (λ c. search needs)
-    (λ c. search needs)
-    (λ c. search needs)
+    (λ c. c .before .before .before .before .before .before .before .before .before .before .before .before .before .run .kept .1 .1 .1 .0)
+    (λ c. c .before .before .before .before .before .before .before .before .before .before .before .before .before .run .kept .1 .1 .1 .1 .0)
+    (λ c. c .before .before .before .before .before .before .before .before .before .before .before .before .before .run .kept .1 .1 .1 .1 .1 .0)
+    (λ c. c .before .write .kept .1 .1 .0)
+    (λ c. c .before .before .before .before .before .before .before .before .before .before .before .before .before .run .kept .1 .1 .0)
     returns
-    (λ c κs. search needs)
+    (λ c κs. tt)
     write-requires-2
-    (λ c. search needs)
-    (λ c. search needs)
-    (λ c. search needs)
-    (λ c. search needs)
-    (λ c. search needs)
+    (λ c. c .before .before .before .before .before .before .before .before .before .before .before .before .before .before .before .before .run .kept .1 .1 .1 .0)
+    (λ c. c .before .before .before .before .before .before .before .before .before .before .before .before .before .before .before .before .run .kept .1 .1 .1 .1 .0)
+    (λ c. c .before .before .before .before .before .before .before .before .before .before .before .before .before .before .before .before .run .kept .1 .1 .1 .1 .1 .0)
+    (λ c. c .before .write2 .kept .1 .1 .0)
+    (λ c. c .before .before .before .before .before .before .before .before .before .before .before .before .before .before .before .before .run .kept .1 .1 .0)
     returns-2
     write-requires-3
-    (λ c κs. search needs)
-    (λ c. search needs)
-    (λ c. search needs)
-    (λ c. search needs)
-    (λ c. search needs)
-    (λ c. search needs)
+    (λ c κs. tt)
+    (λ c. c .before .before .before .before .before .before .before .before .before .before .before .before .before .before .before .before .before .before .before .before .run .kept .1 .1 .1 .0)
+    (λ c. c .before .before .before .before .before .before .before .before .before .before .before .before .before .before .before .before .before .before .before .before .run .kept .1 .1 .1 .1 .0)
+    (λ c. c .before .before .before .before .before .before .before .before .before .before .before .before .before .before .before .before .before .before .before .before .run .kept .1 .1 .1 .1 .1 .0)
+    (λ c. c .before .before .before .before .before .write3 .kept .1 .1 .0)
+    (λ c. c .before .before .clear-amounts .kept .0 ∙ c .before .before .before .before .before .before .before .before .before .before .before .before .before .before .before .before .before .before .before .before .run .kept .1 .1 .0)
     returns-3)

@@ -115,6 +115,7 @@ returns-2 c = let f = c .before .before .before .before .before .before .before 
 returns-3 : tie.Need-returns-3
 returns-3 c = absurd (sent-as (c .before .before .before .before .before .before .before .before) _ (c .enum-told3 .given .1))
 
+-- what is called keeps the lengths of the arrays
 pub answer-path-spec : {M : Type 1} → statement M
 answer-path-spec =
     tie.close
@@ -126,23 +127,23 @@ answer-path-spec =
     (λ c κs. search needs)
     array-share-prefix-arcs
     slice-aggregate-send
-    (λ c κs. search needs)
+    (λ c κs. tt)
     (λ c. search needs)
     write-requires
     (λ c. search needs)
     write-requires-2
     (λ c. search needs)
-    (λ c. search needs)
-    (λ c. search needs)
-    (λ c. search needs)
-    (λ c. search needs)
+    (λ c. c .before .before .before .before .before .before .before .before .before .before .before .before .send .kept .1 .1 .1 .1 .0 ∙ c .before .before .before .before .before .before .before .before .before .before .before .before .before .before .before .before .before .before .before .stand .kept .1 .1 .0)
+    (λ c. c .before .before .before .before .before .before .before .before .before .before .before .before .send .kept .1 .1 .1 .1 .1 .0)
+    (λ c. c .before .write .kept .1 .1 .0)
+    (λ c. c .before .before .before .before .before .before .before .before .before .before .before .before .send .kept .1 .1 .1 .0)
     returns
-    (λ c. search needs)
-    (λ c. search needs)
-    (λ c. search needs)
-    (λ c. search needs)
+    (λ c. c .before .before .before .before .before .before .before .before .before .before .before .before .send .kept .1 .1 .1 .1 .0 ∙ c .before .before .before .before .before .before .before .before .before .before .before .before .before .before .before .before .before .before .before .stand .kept .1 .1 .0)
+    (λ c. c .before .before .before .before .before .before .before .before .before .before .before .before .send .kept .1 .1 .1 .1 .1 .0)
+    (λ c. c .before .write2 .kept .1 .1 .0)
+    (λ c. c .before .before .before .before .before .before .before .before .before .before .before .before .send .kept .1 .1 .1 .0)
     returns-2
-    (λ c. search needs)
-    (λ c. search needs)
-    (λ c. search needs)
+    (λ c. c .before .before .before .before .before .before .before .before .send .kept .1 .1 .1 .1 .0 ∙ c .before .before .before .before .before .before .before .before .before .before .before .before .before .before .before .stand .kept .1 .1 .0)
+    (λ c. c .before .before .before .before .before .before .before .before .send .kept .1 .1 .1 .1 .1 .0)
+    (λ c. c .before .before .before .before .before .before .before .before .send .kept .1 .1 .1 .0)
     returns-3)

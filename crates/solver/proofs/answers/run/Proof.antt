@@ -60,6 +60,7 @@ returns c =
     run-ok (asked (s .args .st)) (s .args .records .now) (s .pre .0) (length (s .args .key .now)) (length (s .args .need .now)) (zeroList mostArcs) (zeroList mostVertices) (s .pre .1 .3)
     (c .before .before .before .before .before .before .before .before .before .before .before .before .before .before .before .before .before .before .before .before .before .before .before .before .pack .ensures) h (c .before .before .before .before .before .before .before .before .before .before .before .before .before .before .before .before .before .before .before .before .before .stand .ensures) (c .before .before .before .before .before .before .before .before .before .before .before .before .before .before .before .before .before .before .stand2 .ensures) (s .pre .1 .2) (s .pre .1 .0) (s .pre .1 .1) (s .pre .1 .3) (c .before .before .before .before .before .before .before .before .before .solve .ensures)
 
+-- what is called keeps the lengths of the arrays
 pub run-spec : {M : Type 1} → statement M
 run-spec =
     tie.close
@@ -67,7 +68,7 @@ run-spec =
     array-borrow-prefix-arcs
     slice-aggregate-pack
     pack-requires
-    (λ c. search needs)
+    (λ c. let s = c .before .before .before .before .before .before .before .before in omega (arith, s .pre .1 .3, s .pre .0 .opened .sized .at-most))
     slice-aggregate-stand
     stand-requires
     (λ c κs. search needs)
@@ -75,9 +76,9 @@ run-spec =
     slice-aggregate-solve
     array-borrow-prefix-left-2
     slice-aggregate-solve-2
-    (λ c κs. search needs)
-    (λ c. search needs)
-    (λ c. search needs)
-    (λ c. search needs)
-    (λ c. search needs)
+    (λ c κs. tt)
+    (λ c. c .before .before .before .before .before .before .before .before .before .solve .kept .1 .0)
+    (λ c. c .before .before .before .before .before .before .before .before .before .solve .kept .1 .1 .0)
+    (λ c. c .before .before .before .before .before .before .before .before .before .solve .kept .1 .1 .1 .1 .0 ∙ c .before .before .before .before .before .before .before .before .before .before .before .before .before .before .before .before .before .before .stand2 .kept .1 .1 .0)
+    (λ c. c .before .before .before .before .before .before .before .before .before .solve .kept .1 .1 .1 .1 .1 .0)
     returns)
