@@ -8,13 +8,13 @@ use Rattle.prelude.specs.Checks.{Hold}
 use Rattle.prelude.specs.Lists.{Every}
 use Rattle.prelude.proofs.Lists.{every-map}
 use Rattle.network.specs.Network.{Arc}
-use Rattle.network.specs.Question.{Question, shortestPath, maximumFlow, assignment, unasked, Setting, asks, EndsFor, Opened, Allowed}
+use Rattle.network.specs.Question.{Question, shortestPath, maximumFlow, assignment, unasked, Setting, asks, EndsFor, Opened, Allowed, Admissible}
 use Rattle.network.specs.Tests.{openingChecks, readingAll}
 use Rattle.network.proofs.Allowed.{asked-least, opening-test, reading-test}
 use Rattle.format.specs.Files.{settingIn, networkFile, arcsIn}
 use Rattle.format.specs.Promises.{ArcFits, NetworkRead}
 use Rattle.format.proofs.Promises.{network-round-trip}
-use Rattle.acceptance.specs.Promises.{Admissible, WrittenAccepted, AcceptedMeans}
+use Rattle.acceptance.specs.Promises.{WrittenAccepted, AcceptedMeans}
 use Rattle.acceptance.proofs.AcceptedFiles.{accepted, file-opened, file-allowed, file-few}
 
 -- ---- what may be read fits its fields

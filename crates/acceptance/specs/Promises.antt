@@ -2,21 +2,13 @@
 -- Assumes nothing.
 use mathlib.Core.Path.{_≡_}
 use mathlib.Core.List.{List}
-use Prim.Native.Nat.{ℕ, _≤_}
-use lib.ListN.{length}
+use Prim.Native.Nat.{ℕ}
 use Rattle.prelude.specs.Lists.{Every}
-use Rattle.network.specs.Limits.{mostArcs}
 use Rattle.network.specs.Network.{Arc}
-use Rattle.network.specs.Question.{Setting, Opened, Allowed}
+use Rattle.network.specs.Question.{Setting, Admissible}
 use Rattle.format.specs.Files.{settingIn, networkFile, arcsIn}
 use Rattle.format.specs.Promises.{Byte}
 use Rattle.acceptance.specs.Acceptance.{AcceptedFile}
-
--- A list of arcs that may be read in a setting: opening accepts the setting, reading each arc, and there are not too many.
-pub record Admissible (st : Setting) (net : List Arc) : Type 0 where
-  pub opened : Opened st
-  pub allowed : Every (Allowed st) net
-  pub few : length net ≤ mostArcs
 
 -- The file is accepted, and says this setting and these arcs.
 pub record Says (st : Setting) (net : List Arc) (file : List ℕ) : Type 0 where

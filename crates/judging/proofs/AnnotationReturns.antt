@@ -12,7 +12,7 @@ use Rattle.format.specs.Files.{claimIn, numbersIn, loadsIn}
 use Rattle.state.specs.Answers.{Said, refused, said, answered}
 use Rattle.state.specs.State.{settingHeld, claimHeld, finishChecks}
 use Rattle.state.specs.Turns.{endTurn, claimTurn}
-use Rattle.state.specs.declared.Answer.{Answer}
+use Rattle.state.specs.declared.Response.{Response}
 use Rattle.session.specs.Session.{joined, zeros, void}
 use Rattle.session.specs.declared.Session.{Session}
 use Rattle.state.specs.declared.State.{State}
@@ -75,5 +75,5 @@ module _ (x : State) (n : ℕ) (ann : List ℕ) where
             pub at-finish : (m ≡ 0 → ⊥) → refused m ≡ whole
             at-finish h = sym (past-repeats ∙ refused-first (joined ys bs t) m finish [] (finish-refused (joined ys bs t) m em h))
 
-            pub at-answer : m ≡ 0 → (a : Answer) → a ≡ answered (answerOf (settingHeld t) (claimHeld t) (sumsHeld bs (t .repeating .cost) (t .repeating .cut))) → said a ≡ whole
+            pub at-answer : m ≡ 0 → (a : Response) → a ≡ answered (answerOf (settingHeld t) (claimHeld t) (sumsHeld bs (t .repeating .cost) (t .repeating .cut))) → said a ≡ whole
             at-answer z a ea = sym (past-repeats ∙ answered-last (joined ys bs t) void finish a (finish-answered (joined ys bs t) m em void a (λ i. void) ea z))

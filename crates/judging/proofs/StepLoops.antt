@@ -9,7 +9,7 @@ use Rattle.prelude.specs.Lists.{listTo}
 use Rattle.prelude.proofs.Choice.{on, off}
 use Rattle.prelude.proofs.Lists.{split}
 use Rattle.state.specs.Answers.{Said, refused, said}
-use Rattle.state.specs.declared.Answer.{Answer}
+use Rattle.state.specs.declared.Response.{Response}
 use Rattle.session.specs.Session.{hand, accept, refuse}
 use Rattle.session.specs.declared.Reply.{Reply}
 use Rattle.session.specs.declared.Session.{Session}
@@ -29,7 +29,7 @@ unfolding run
 refused-first x k a rest e = ap (λ (r : Reply). outcome (said (r .answer) ∷ run (r .session) rest)) (sym e)
 
 -- the last step
-pub answered-last : (x y : Session) (a : Step) (b : Answer) → hand y b ≡ step x a → outcome (run x (a ∷ [])) ≡ said b
+pub answered-last : (x y : Session) (a : Step) (b : Response) → hand y b ≡ step x a → outcome (run x (a ∷ [])) ≡ said b
 unfolding run
 answered-last x y a b e = ap (λ (r : Reply). outcome (said (r .answer) ∷ [])) (sym e) ∙ outcome-alone (said b)
 

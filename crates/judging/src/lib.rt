@@ -9,33 +9,33 @@ use format::network_file;
 use points::Point;
 use running::annotation_steps;
 use running::read_all;
-use state::Answer;
+use state::Response;
 use state::State;
 
 mod running;
 
 // What the two files come out as at the point: a value, none, or the first refusal.
-pub fn judge(net: &[u8], ann: &[u8], point: Point) -> Answer
+pub fn judge(net: &[u8], ann: &[u8], point: Point) -> Response
     ensures { λ r. ⌜ said r ≡ judged (now (net .entry)) (now (ann .entry)) point ⌝ }
 {
     let layout = network_file::network_check(net);
     if layout != 0 {
-        return Answer::Refused(layout);
+        return Response::Refused(layout);
     }
     let opened = State::open(opening_of(setting(net)), point);
     let at_opening = opened.why;
     if at_opening != 0 {
-        return Answer::Refused(at_opening);
+        return Response::Refused(at_opening);
     }
     let turn = read_all(opened.state, net);
     let at_reading = turn.why;
     if at_reading != 0 {
-        return Answer::Refused(at_reading);
+        return Response::Refused(at_reading);
     }
     let n = network_file::vertices(net);
     let why = annotation_check(ann, n);
     if why != 0 {
-        return Answer::Refused(why);
+        return Response::Refused(why);
     }
     annotation_steps(turn.state, ann, n)
 }

@@ -13,7 +13,7 @@ use format::network_file;
 use network::Balances;
 use network::MOST_VERTICES;
 use network::Potentials;
-use state::Answer;
+use state::Response;
 use state::State;
 use state::Turn;
 use vertex_arrays::move_amount;
@@ -87,7 +87,7 @@ fn repeat_all(
 }
 
 // The steps of an annotation file with n node numbers, from the end of reading to finishing.
-pub(crate) fn annotation_steps(x: State, file: &[u8], n: u8) -> Answer
+pub(crate) fn annotation_steps(x: State, file: &[u8], n: u8) -> Response
     ensures { λ r. ⌜ said r ≡ outcome (run (joined zeros zeros x) (stepsIn n (now (file .entry)))) ⌝ }
 {
     let mut potentials = [0i32; MOST_VERTICES as usize];
@@ -95,27 +95,27 @@ pub(crate) fn annotation_steps(x: State, file: &[u8], n: u8) -> Answer
     let ended = x.end_reading();
     let at_end = ended.why;
     if at_end != 0 {
-        return Answer::Refused(at_end);
+        return Response::Refused(at_end);
     }
     let claimed = ended.state.claim(annotation_file::claim(file) as u32);
     let at_claim = claimed.why;
     if at_claim != 0 {
-        return Answer::Refused(at_claim);
+        return Response::Refused(at_claim);
     }
     let numbered = number_all(claimed.state, &mut potentials, file, n);
     let at_numbers = numbered.why;
     if at_numbers != 0 {
-        return Answer::Refused(at_numbers);
+        return Response::Refused(at_numbers);
     }
     let repeated = repeat_all(numbered.state, &potentials, &mut balances, file, n);
     let at_repeats = repeated.why;
     if at_repeats != 0 {
-        return Answer::Refused(at_repeats);
+        return Response::Refused(at_repeats);
     }
     let last = repeated.state;
     let at_finish = last.finish_check(potentials, balances);
     if at_finish != 0 {
-        return Answer::Refused(at_finish);
+        return Response::Refused(at_finish);
     }
     last.answer(balances)
 }

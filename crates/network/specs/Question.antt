@@ -6,10 +6,11 @@ use mathlib.Core.List.{List, [], _∷_}
 use Prim.Native.Nat.{ℕ, _-_, _/_, _%_, _≤_, _<_}
 use lib.Dec.{eqb}
 use lib.IntN.{pos}
+use lib.ListN.{length}
 use lib.Signed.{_≤ℤ_}
 use Rattle.prelude.specs.Choice.{pick}
 use Rattle.prelude.specs.Lists.{Every, Member}
-use Rattle.network.specs.Limits.{mostVertices, mostWeight}
+use Rattle.network.specs.Limits.{mostVertices, mostArcs, mostWeight}
 use Rattle.network.specs.Network.{Arc, Load, arcs, leaving, entering, balance, degree, cost, total}
 
 -- ---- what is asked
@@ -133,6 +134,12 @@ WeightWithin e = e .weight ≤ mostWeight
 pub record Allowed (st : Setting) (e : Arc) : Type 0 where
   pub joins : Joins st e
   pub weight-within : WeightWithin e
+
+-- What may be read: opening accepts the setting, reading accepts each arc, and there are not too many (PANEL 3).
+pub record Admissible (st : Setting) (net : List Arc) : Type 0 where
+  pub opened : Opened st
+  pub allowed : Every (Allowed st) net
+  pub few : length net ≤ mostArcs
 
 -- ---- answers
 

@@ -7,17 +7,17 @@ ghost use Rattle.helper.specs.Helper.{helperSaid, annotated, BufferAfter};
 ghost use Rattle.panel_export.specs.Codes.{saidCode, replyCode};
 use helper::Written;
 use points::Point;
-use state::Answer;
+use state::Response;
 
 // An answer as one number: the value, 4294967296 for none, that plus k for the refusal k.
-fn answer_code(answer: Answer) -> u64
+fn answer_code(answer: Response) -> u64
     ensures { λ r. ⌜ r ≡ saidCode (said answer) ⌝ }
 {
     match answer {
-        Answer::Value(v) => v,
-        Answer::None => 4294967296,
-        Answer::Refused(k) => 4294967296 + (k as u64),
-        Answer::Accepted => 4294967296 + 256,
+        Response::Value(v) => v,
+        Response::None => 4294967296,
+        Response::Refused(k) => 4294967296 + (k as u64),
+        Response::Accepted => 4294967296 + 256,
     }
 }
 

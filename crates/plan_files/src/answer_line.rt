@@ -10,7 +10,7 @@ use points::Point;
 use program_io::front::read_front;
 use program_io::front::read_if;
 use program_io::line;
-use state::Answer;
+use state::Response;
 
 // The point in the first four bytes.
 fn point_in(point: &[u8]) -> Point
@@ -22,11 +22,11 @@ fn point_in(point: &[u8]) -> Point
 }
 
 // What the three files come out as, given their bytes.
-fn answer(point: &[u8], net: &[u8], ann: &[u8]) -> Answer
+fn answer(point: &[u8], net: &[u8], ann: &[u8]) -> Response
     ensures { λ r. ⌜ said r ≡ programAnswer (now (point .entry)) (now (net .entry)) (now (ann .entry)) ⌝ }
 {
     if point.len() < 4 {
-        return Answer::Refused(4);
+        return Response::Refused(4);
     }
     let n = counted(net);
     let m = counted(ann);
@@ -34,15 +34,15 @@ fn answer(point: &[u8], net: &[u8], ann: &[u8]) -> Answer
 }
 
 // The line for an answer, and how long it is.
-fn line_for(answer: Answer, text: &mut [u8; 32]) -> usize
+fn line_for(answer: Response, text: &mut [u8; 32]) -> usize
     ensures { λ r. ⌜ Counts r (now (text .exit)) ⌝ }
     ensures { λ r. ⌜ LineIn (answerLine (said answer)) (now (text .entry)) r (now (text .exit)) ⌝ }
 {
     match answer {
-        Answer::Value(v) => line::numbered(b"value ", v, text),
-        Answer::None => line::plain(b"none\n", text),
-        Answer::Refused(k) => line::refused(k, text),
-        Answer::Accepted => 0,
+        Response::Value(v) => line::numbered(b"value ", v, text),
+        Response::None => line::plain(b"none\n", text),
+        Response::Refused(k) => line::refused(k, text),
+        Response::Accepted => 0,
     }
 }
 

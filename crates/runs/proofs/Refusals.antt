@@ -14,7 +14,7 @@ use Rattle.network.specs.Question.{Answer, value, none}
 use Rattle.state.specs.Answers.{refused, answered}
 use Rattle.network.specs.Tests.{answerOf}
 use Rattle.state.specs.State.{isClaimed, settingHeld, claimHeld, openChecks, readChecks, endChecks, claimChecks, numberChecks, repeatChecks, finishChecks, opened}
-use Rattle.state.specs.declared.Answer.the-variants.{Accepted, Refused}
+use Rattle.state.specs.declared.Response.the-variants.{Accepted, Refused}
 use Rattle.session.specs.Session.{potentialsIn, sumsIn, joined, zeros, void, hand, accept, leaves, refuse}
 use Rattle.session.specs.Steps.{opening, readStep, endStep, claimStep, numberStep, repeatStep, finishStep}
 use Rattle.session.specs.declared.Reply.{Reply}

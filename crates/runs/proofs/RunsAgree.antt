@@ -21,7 +21,7 @@ use Rattle.points.specs.declared.Print.{Print}
 use Rattle.points.proofs.Prints.{print-none, point-test}
 use Rattle.state.specs.Answers.{Said, accepted, gives, refused, said}
 use Rattle.state.specs.State.{held, openChecks, opened}
-use Rattle.state.specs.declared.Answer.the-variants.{Refused}
+use Rattle.state.specs.declared.Response.the-variants.{Refused}
 use Rattle.session.specs.Session.{joined, zeros, holding, void, hand, accept}
 use Rattle.session.specs.Steps.{opening}
 use Rattle.session.specs.declared.Reply.{Reply}

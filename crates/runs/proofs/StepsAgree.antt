@@ -25,8 +25,8 @@ use Rattle.points.proofs.Prints.{print-none, print-more}
 use Rattle.state.specs.Answers.{Said, accepted, gives, refused, answered}
 use Rattle.vertex_arrays.specs.Arrays.{moved}
 use Rattle.state.specs.State.{stateOf, held, numbersHeld, withRead, withClaim, withNumber, withRepeat}
-use Rattle.state.specs.declared.Answer.{Answer}
-use Rattle.state.specs.declared.Answer.the-variants.{Accepted, Refused}
+use Rattle.state.specs.declared.Response.{Response}
+use Rattle.state.specs.declared.Response.the-variants.{Accepted, Refused}
 use Rattle.session.specs.Session.{potentialsIn, sumsIn, joined, holding, void, withState, hand, accept, refuse}
 use Rattle.session.specs.Steps.{readStep, endStep, claimStep, numberStep, repeatStep, finishStep}
 use Rattle.session.specs.declared.Reply.{Reply}
@@ -40,7 +40,7 @@ use Rattle.runs.proofs.RepeatedSums.{LoadWithin, units-limited, balance
 use Rattle.runs.proofs.Invariant.{LoadPassed, AnnotationPassed, Invariant, none-yet, repeat-passed}
 
 -- the answer that says it
-abbrev pub saying : Said → Answer
+abbrev pub saying : Said → Response
 saying accepted = Accepted
 saying (gives a) = answered a
 saying (refused k) = Refused k

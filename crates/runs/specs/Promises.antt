@@ -17,7 +17,7 @@ use Rattle.points.specs.Points.{IsPoint, misleadingPoints}
 use Rattle.points.specs.declared.Point.{Point}
 use Rattle.state.specs.Answers.{accepted, gives, refused, said}
 use Rattle.state.specs.State.{isReading, hasRead, isClaimed, openChecks}
-use Rattle.state.specs.declared.Answer.the-variants.{Refused}
+use Rattle.state.specs.declared.Response.the-variants.{Refused}
 use Rattle.session.specs.Session.{void, leaves}
 use Rattle.session.specs.Steps.{opening, finishStep}
 use Rattle.session.specs.declared.Session.{Session}

@@ -23,8 +23,8 @@ use Rattle.state.specs.State.{isClaimed, settingHeld, claimHeld, idle, openChec
 use Rattle.state.specs.Turns.{turned, openTurn, readTurn, endTurn, claimTurn, numberTurn, repeatTurn}
 use Rattle.session.specs.Session.{potentialsIn, sumsIn, joined, zeros, void, withState, hand, accept, refuse}
 use Rattle.session.specs.Steps.{opening, readStep, endStep, claimStep, numberStep, repeatStep, finishStep}
-use Rattle.state.specs.declared.Answer.{Answer}
-use Rattle.state.specs.declared.Answer.the-variants.{Accepted, Refused}
+use Rattle.state.specs.declared.Response.{Response}
+use Rattle.state.specs.declared.Response.the-variants.{Accepted, Refused}
 use Rattle.session.specs.declared.Reply.{Reply}
 use Rattle.session.specs.declared.Session.{Session}
 use Rattle.state.specs.declared.State.{State}
@@ -154,7 +154,7 @@ module _ (x : Session) (l : Load) (u : Turn) (e : u ≡ repeatTurn (x .state) (p
 abbrev overAt : State → ℕ → Bool
 overAt x k = pick (eqb k 0) false (isClaimed x && not (eqb k 5))
 
-abbrev saidAt : ℕ → Answer
+abbrev saidAt : ℕ → Response
 saidAt k = pick (eqb k 0) Accepted (Refused k)
 
 abbrev cleared : Session → Bool → Session
@@ -182,14 +182,14 @@ module _ (x y : Session) (k : ℕ) (v : Reply) (accepted : k ≡ 0 → accept y 
           ∙ back (eqb k 0) (isClaimed (x .state)) (eqb k 5) (ne-eqb k 0 n) ∙ refused n
 
 -- what the code hands back, by its parts
-handed : (y : Session) (k : ℕ) (o over : Bool) (ys bs : List ℤ) (s : State) (a : Answer) → over ≡ o
+handed : (y : Session) (k : ℕ) (o over : Bool) (ys bs : List ℤ) (s : State) (a : Response) → over ≡ o
     → ys ≡ pick over zeros (y .potentials) → bs ≡ pick over zeros (y .balances) → s ≡ pick over idle (y .state) → a ≡ saidAt k
     → hand (joined ys bs s) a ≡ hand (cleared y o) (saidAt k)
 handed y k o over ys bs s a eo ey eb es ea =
     (λ i. hand (joined (ey i) (eb i) (es i)) (ea i)) ∙ ap (λ (p : Bool). hand (cleared y p) (saidAt k)) eo
 
 module _ (x : Session) (z : ℤ) (u : Turn) (e : u ≡ numberTurn (x .state) z) (over : Bool) (eo : over ≡ overAt (x .state) (u .why)) where
-  pub number-handed : (l : List ℤ) → l ≡ pick (eqb (u .why) 0) (set (x .potentials) (x .state .numbering .given) z) (x .potentials) → {ys bs : List ℤ} {s : State} {a : Answer}
+  pub number-handed : (l : List ℤ) → l ≡ pick (eqb (u .why) 0) (set (x .potentials) (x .state .numbering .given) z) (x .potentials) → {ys bs : List ℤ} {s : State} {a : Response}
       → ys ≡ pick over zeros l → bs ≡ pick over zeros (x .balances) → s ≡ pick over idle (u .state) → a ≡ saidAt (u .why) → hand (joined ys bs s) a ≡ numberStep x z
   unfolding numberTurn
   number-handed l el {ys} {bs} {s} {a} ey eb es ea =
@@ -200,7 +200,7 @@ module _ (x : Session) (z : ℤ) (u : Turn) (e : u ≡ numberTurn (x .state) z) 
       (λ n. number-refused x z u e n)
 
 module _ (x : Session) (l : Load) (u : Turn) (e : u ≡ repeatTurn (x .state) (potentialsIn x) l) (over : Bool) (eo : over ≡ overAt (x .state) (u .why)) where
-  pub repeat-handed : (m : List ℤ) → m ≡ pick (eqb (u .why) 0) (moved (x .balances) (l .arc .tail) (l .arc .head) (l .amount)) (x .balances) → {ys bs : List ℤ} {s : State} {a : Answer}
+  pub repeat-handed : (m : List ℤ) → m ≡ pick (eqb (u .why) 0) (moved (x .balances) (l .arc .tail) (l .arc .head) (l .amount)) (x .balances) → {ys bs : List ℤ} {s : State} {a : Response}
       → ys ≡ pick over zeros (x .potentials) → bs ≡ pick over zeros m → s ≡ pick over idle (u .state) → a ≡ saidAt (u .why) → hand (joined ys bs s) a ≡ repeatStep x l
   unfolding repeatTurn
   repeat-handed m em {ys} {bs} {s} {a} ey eb es ea =
@@ -218,8 +218,8 @@ module _ (x : Session) (why : ℕ) (broken : why ≡ firstBroken (finishChecks (
   unfolding finishStep
   finish-refused h = at-refusal (refuse x) (finishChecks (x .state) (potentialsIn x) (sumsIn x)) (refl, (refl, (refl, (refl, (refl, (refl, tt)))))) _ why broken h
 
-  pub finish-answered : (y : Session) (a : Answer) → y ≡ void → a ≡ answered (answerOf (settingHeld (x .state)) (claimHeld (x .state)) (sumsIn x)) → why ≡ 0 → hand y a ≡ finishStep x
+  pub finish-answered : (y : Session) (a : Response) → y ≡ void → a ≡ answered (answerOf (settingHeld (x .state)) (claimHeld (x .state)) (sumsIn x)) → why ≡ 0 → hand y a ≡ finishStep x
   unfolding finishStep
   finish-answered y a p q z =
-      ap₂ (λ (y : Session) (a : Answer). hand y a) p q
+      ap₂ (λ (y : Session) (a : Response). hand y a) p q
       ∙ at-end (refuse x) (finishChecks (x .state) (potentialsIn x) (sumsIn x)) (refl, (refl, (refl, (refl, (refl, (refl, tt)))))) _ why broken z

@@ -13,8 +13,8 @@ use Rattle.points.specs.declared.Point.{Point}
 use Rattle.rules.specs.Held.{sumsHeld}
 use Rattle.checks.specs.declared.HeldSetting.{HeldSetting}
 use Rattle.state.specs.State.{isClaimed, begun, idle}
-use Rattle.state.specs.declared.Answer.{Answer}
-use Rattle.state.specs.declared.Answer.the-variants.{Accepted, Refused}
+use Rattle.state.specs.declared.Response.{Response}
+use Rattle.state.specs.declared.Response.the-variants.{Accepted, Refused}
 use Rattle.state.specs.declared.State.{State}
 use Rattle.points.specs.declared.Stream.{Stream}
 use Rattle.session.specs.declared.Reply.{Reply}
@@ -55,7 +55,7 @@ withState x y = joined (x .potentials) (x .balances) y
 -- ---- replies
 
 -- The reply with a session and an answer.
-abbrev pub hand : Session → Answer → Reply
+abbrev pub hand : Session → Response → Reply
 hand x a = record { session = x; answer = a }
 
 -- The reply of a step that is accepted.

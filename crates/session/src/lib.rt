@@ -9,7 +9,7 @@ ghost use Rattle.network.specs.Network.{arcOf, loadOf};
 ghost use Rattle.checks.specs.Held.{handed};
 ghost use Rattle.vertex_arrays.specs.Arrays.{moved};
 ghost use Rattle.state.specs.State.{isClaimed};
-ghost use Rattle.state.specs.declared.Answer.the-variants.{Accepted, Refused};
+ghost use Rattle.state.specs.declared.Response.the-variants.{Accepted, Refused};
 ghost use Rattle.session.specs.Session.{zeros, void, refuse};
 ghost use Rattle.session.specs.Steps.{opening, readStep, endStep, claimStep, numberStep, repeatStep, finishStep};
 use checks::Opening;
@@ -18,7 +18,7 @@ use network::MOST_VERTICES;
 use network::Potentials;
 use network::Record;
 use points::Point;
-use state::Answer;
+use state::Response;
 use state::State;
 use state::groups::idle;
 use vertex_arrays::move_amount;
@@ -32,7 +32,7 @@ pub struct Session {
 
 pub struct Reply {
     pub session: Session,
-    pub answer: Answer,
+    pub answer: Response,
 }
 
 // A void session; an ended one is the same.
@@ -76,13 +76,13 @@ fn is_over(state: State, why: u8) -> bool
 }
 
 // What a step says.
-fn answer_to(why: u8) -> Answer
+fn answer_to(why: u8) -> Response
     ensures { λ r. ⌜ r ≡ pick (eqb why 0) Accepted (Refused why) ⌝ }
 {
     if why == 0 {
-        return Answer::Accepted;
+        return Response::Accepted;
     }
-    Answer::Refused(why)
+    Response::Refused(why)
 }
 
 // Stores the node number where it was accepted.
@@ -114,12 +114,12 @@ impl Session {
         if state.is_ended_by(why) {
             return Reply {
                 session: ended(),
-                answer: Answer::Refused(why),
+                answer: Response::Refused(why),
             };
         }
         Reply {
             session: self,
-            answer: Answer::Refused(why),
+            answer: Response::Refused(why),
         }
     }
 
@@ -138,12 +138,12 @@ impl Session {
         if why != 0 {
             return Reply {
                 session: session,
-                answer: Answer::Refused(why),
+                answer: Response::Refused(why),
             };
         }
         Reply {
             session: session,
-            answer: Answer::Accepted,
+            answer: Response::Accepted,
         }
     }
 
@@ -165,7 +165,7 @@ impl Session {
         self.state = next;
         Reply {
             session: self,
-            answer: Answer::Accepted,
+            answer: Response::Accepted,
         }
     }
 
@@ -183,7 +183,7 @@ impl Session {
         self.state = next;
         Reply {
             session: self,
-            answer: Answer::Accepted,
+            answer: Response::Accepted,
         }
     }
 
@@ -201,7 +201,7 @@ impl Session {
         self.state = next;
         Reply {
             session: self,
-            answer: Answer::Accepted,
+            answer: Response::Accepted,
         }
     }
 

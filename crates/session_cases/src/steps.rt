@@ -3,7 +3,7 @@ use checks::Opening;
 use points::Point;
 use session::Reply;
 use session::Session;
-use state::Answer;
+use state::Response;
 use testing::numbers::as_signed;
 
 // The numbers of a step, as many as it takes.
@@ -36,7 +36,7 @@ pub fn void() -> Session {
 fn extended(x: Session, point: u32, fingerprint: u32, key: u32) -> Reply {
     Reply {
         session: x,
-        answer: Answer::Value(field::extend(point, fingerprint, key as u64) as u64),
+        answer: Response::Value(field::extend(point, fingerprint, key as u64) as u64),
     }
 }
 

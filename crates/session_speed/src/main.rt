@@ -3,7 +3,7 @@
 use checks::Opening;
 use points::Point;
 use session::Session;
-use state::Answer;
+use state::Response;
 
 // The tail, head and weight of the i-th channel.
 fn tail(i: u32) -> u32 {
@@ -77,12 +77,12 @@ fn one(byte: u8, point: u32) -> u64 {
     number(last)
 }
 
-fn number(answer: Answer) -> u64 {
+fn number(answer: Response) -> u64 {
     match answer {
-        Answer::Accepted => 0,
-        Answer::Value(v) => v,
-        Answer::None => 0,
-        Answer::Refused(k) => k as u64,
+        Response::Accepted => 0,
+        Response::Value(v) => v,
+        Response::None => 0,
+        Response::Refused(k) => k as u64,
     }
 }
 

@@ -10,14 +10,14 @@ use lib.ListN.{length, take}
 use Rattle.prelude.proofs.Tested.{passed, refused as failed}
 use Rattle.network.specs.Limits.{mostVertices}
 use Rattle.network.specs.Network.{Arc, wordArcs}
-use Rattle.network.specs.Question.{Setting}
+use Rattle.network.specs.Question.{Setting, Admissible}
 use Rattle.packed_arcs.specs.Entries.{zeroList}
 use Rattle.packed_arcs.proofs.LentParts.{zero-list-length}
-use Rattle.solver.specs.Certify.{admissible, AcceptedNetwork, Solution, CertifyOutcome, refused, solved}
+use Rattle.solver.specs.Certify.{admissible, Solution, CertifyOutcome, refused, solved}
 use Rattle.solver.proofs.Solutions.{accepted}
 
 -- of an array of zeros one is lent for each vertex
-module _ {st : Setting} {es : List Arc} (a : AcceptedNetwork st es) (i : ℕ) (e : i ≡ st .n) where
+module _ {st : Setting} {es : List Arc} (a : Admissible st es) (i : ℕ) (e : i ≡ st .n) where
   lent-length : length (take i (zeroList mostVertices)) ≡ i
   lent-length = zero-list-length i mostVertices (omega (arith, a .opened .sized .at-most))
 
@@ -31,7 +31,7 @@ module _ {st : Setting} {es : List Arc} (a : AcceptedNetwork st es) (i : ℕ) (e
 
 module _ (st : Setting) (rs : List ℕ) where
   -- i numbers and j amounts were handed over
-  pub begun : (i j : ℕ) (u : Bool) → not u ≡ false → u ≡ admissible st rs i j → AcceptedNetwork st (wordArcs rs) × (j ≡ length rs) × (i ≡ st .n)
+  pub begun : (i j : ℕ) (u : Bool) → not u ≡ false → u ≡ admissible st rs i j → Admissible st (wordArcs rs) × (j ≡ length rs) × (i ≡ st .n)
   begun i j u h e = let a = accepted st rs i j (passed (admissible st rs i j) u h e) in (a .0, a .2, a .1)
 
   -- ys and xs were handed over, ys' and xs' are handed back

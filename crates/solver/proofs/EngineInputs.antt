@@ -13,7 +13,7 @@ use Rattle.prelude.specs.Choice.{indicator}
 use Rattle.prelude.specs.Lists.{Every, all}
 use Rattle.network.specs.Limits.{mostVertices, mostArcs, mostWeight, mostPotential}
 use Rattle.network.specs.Network.{Arc, wordArc, wordArcs}
-use Rattle.network.specs.Question.{Question, shortestPath, maximumFlow, assignment, Setting, WeightWithin, unasked, asks, unitCost}
+use Rattle.network.specs.Question.{Question, shortestPath, maximumFlow, assignment, Setting, WeightWithin, unasked, asks, unitCost, Admissible}
 use Rattle.network.proofs.Sums.{Inside}
 use Rattle.packed_arcs.specs.Entries.{entry, zeroList}
 use Rattle.packed_arcs.specs.PackedArcs.{tailOf, headOf, costOf}
@@ -24,12 +24,12 @@ use Rattle.packed_arcs.proofs.LentParts.{lent-again}
 use Rattle.prelude.proofs.Tested.{both-on}
 use Rattle.solver.specs.declared.vertices.NumberKind.the-variants.{Mark, Potential}
 use Rattle.solver.specs.Instance.{Fits, constant, VertexList, reached, numberOf}
-use Rattle.solver.specs.Certify.{AcceptedNetwork, packedFor, standing, EngineRunFor, EngineRun}
+use Rattle.solver.specs.Certify.{packedFor, standing, EngineRunFor, EngineRun}
 use Rattle.solver.proofs.Solutions.{fits, cost-low, same-tails, same-heads, same-costs, same-capacities, keys}
 
 -- ---- packed arcs are within the engine's limits
 
-pub few-records : {st : Setting} (rs : List ℕ) → AcceptedNetwork st (wordArcs rs) → length rs ≤ mostArcs
+pub few-records : {st : Setting} (rs : List ℕ) → Admissible st (wordArcs rs) → length rs ≤ mostArcs
 few-records rs a = omega (arith, a .few, length-map rs wordArc)
 
 pub packed-length : (q : Question) (rs arcs : List ℕ) → arcs ≡ map (packedFor q) rs → length arcs ≡ length rs
@@ -83,7 +83,7 @@ solved-run st rs {arcs} {pi} {left} {need} {x'} {pi'} {left'} {need'} {key'} {pa
 }
 
 -- what `run` knows when it calls the engine: d's are the arrays of which it lends parts
-module _ (st : Setting) (rs : List ℕ) (a : AcceptedNetwork st (wordArcs rs)) (n k : ℕ) {arcs left need : List ℕ} (da dl : List ℕ)
+module _ (st : Setting) (rs : List ℕ) (a : Admissible st (wordArcs rs)) (n k : ℕ) {arcs left need : List ℕ} (da dl : List ℕ)
     (one-each : n ≡ st .n) (packed : arcs ≡ map (packedFor (asks st)) rs)
     (long : n ≤ length dl) (stood : VertexList (length (take n dl)) (standing st false) left)
     (wanted : VertexList k (standing st true) need) (need-len : k ≡ st .n) where

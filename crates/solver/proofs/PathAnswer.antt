@@ -12,7 +12,7 @@ use lib.ListN.{length, length-map, length-replicate}
 use borrow.Author.Tests.{lt-ltb, eq-eqb}
 use Rattle.network.specs.Limits.{mostPotential}
 use Rattle.network.specs.Network.{Arc, wordArc, wordArcs}
-use Rattle.network.specs.Question.{Question, shortestPath, Setting, TwoVertices, EndsFor, asks}
+use Rattle.network.specs.Question.{Question, shortestPath, Setting, TwoVertices, EndsFor, asks, Admissible}
 use Rattle.packed_arcs.specs.Entries.{entry, zeroList}
 use Rattle.packed_arcs.specs.PackedArcs.{tailsOf, headsOf, costsOf, capacitiesOf}
 use Rattle.packed_arcs.specs.Limits.{arcsFit, sendable}
@@ -28,7 +28,7 @@ use Rattle.prelude.proofs.Tested.{both-on}
 use Rattle.engine.proofs.LastSearch.{near-enough}
 use Rattle.solver.specs.declared.vertices.NumberKind.the-variants.{Mark, Distance}
 use Rattle.solver.specs.Instance.{tails, heads, constant, VertexList, numberOf}
-use Rattle.solver.specs.Certify.{AcceptedNetwork, packedFor, costs, capacities, standing, NodeNumbers, Solution}
+use Rattle.solver.specs.Certify.{packedFor, costs, capacities, standing, NodeNumbers, Solution}
 use Rattle.solver.proofs.ColumnsAndLoads.{sight}
 use Rattle.solver.proofs.EngineInputs.{packed-length, packed-fit}
 use Rattle.solver.proofs.Solutions.{fits, same-tails, same-heads, same-costs, same-capacities, path-solution, no-path-solution}
@@ -36,7 +36,7 @@ use Rattle.solver.proofs.Solutions.{fits, same-tails, same-heads, same-
 -- ---- what is known when the engine is asked
 
 pub record PathInputs (st : Setting) (rs arcs x left key : List ℕ) : Type 0 where
-  pub accepted : AcceptedNetwork st (wordArcs rs)
+  pub accepted : Admissible st (wordArcs rs)
   pub path : asks st ≡ shortestPath
   pub packs : arcs ≡ map (packedFor (asks st)) rs
   pub amounts : length x ≡ length rs

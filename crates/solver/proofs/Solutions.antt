@@ -16,7 +16,7 @@ use Rattle.prelude.proofs.Booleans.{true→T}
 use Rattle.prelude.proofs.Settle.{none-broken}
 use Rattle.prelude.proofs.Lists.{all→every, every-map, image-every}
 use Rattle.network.specs.Network.{Arc, arcs, cost, wordArc, wordArcs, loadsOf}
-use Rattle.network.specs.Question.{Question, shortestPath, maximumFlow, assignment, Setting, Allowed, TwoVertices, EndsFor, EvenFor, SidesFor, PumpToSite, TrueFor, Answer, value, none, unasked, asks, unitCost}
+use Rattle.network.specs.Question.{Question, shortestPath, maximumFlow, assignment, Setting, Allowed, TwoVertices, EndsFor, EvenFor, SidesFor, PumpToSite, TrueFor, Answer, value, none, unasked, asks, unitCost, Admissible}
 use Rattle.network.specs.Limits.{mostArcs}
 use Rattle.network.specs.Certificate.{Claim, ofValue, ofNone, claimFor}
 use Rattle.network.specs.Tests.{openingChecks, arcChecks, claimNumber}
@@ -29,7 +29,7 @@ use Rattle.engine.specs.Residual.{unreached, residual}
 use Rattle.engine.specs.Push.{Moved}
 use Rattle.engine.specs.Phase.{SearchResult, PhaseState, Solved}
 use Rattle.solver.specs.Instance.{Fits, tails, heads, weights, constant, VertexList, single, plenty, pairRoom, markOf, toward, numberOf}
-use Rattle.solver.specs.Certify.{recordOk, admissible, AcceptedNetwork, capacityFor, packedFor, endFor, costs, capacities, standingFor, standing, EngineRunFor, EngineRun, NodeNumbers, Wanting, toldBy, Told, LengthsFor, Solution}
+use Rattle.solver.specs.Certify.{recordOk, admissible, capacityFor, packedFor, endFor, costs, capacities, standingFor, standing, EngineRunFor, EngineRun, NodeNumbers, Wanting, toldBy, Told, LengthsFor, Solution}
 use Rattle.solver.specs.declared.vertices.NumberKind.{NumberKind}
 use Rattle.solver.specs.declared.vertices.NumberKind.the-variants.{Mark, Distance, Potential}
 use Rattle.solver.proofs.ColumnsAndLoads.{loads-arcs, is-reached, not-reached, Seen, Unseen, sight}
@@ -51,7 +51,7 @@ parts true true false d e t = absurd t
 parts true false c d e t = absurd t
 parts false b c d e t = absurd t
 
-pub accepted : (st : Setting) (rs : List ℕ) (i j : ℕ) → admissible st rs i j ≡ true → AcceptedNetwork st (wordArcs rs) × (i ≡ st .n) × (j ≡ length rs)
+pub accepted : (st : Setting) (rs : List ℕ) (i j : ℕ) → admissible st rs i j ≡ true → Admissible st (wordArcs rs) × (i ≡ st .n) × (j ≡ length rs)
 accepted st rs i j e =
     let a : T (all-of (eqb (firstBroken (openingChecks st)) 0) (leb (length rs) mostArcs) (eqb i (st .n)) (eqb j (length rs)) (all (recordOk st) rs)) = true→T (admissible st rs i j) e in
     let h = parts (eqb (firstBroken (openingChecks st)) 0) (leb (length rs) mostArcs) (eqb i (st .n)) (eqb j (length rs)) (all (recordOk st) rs) a in
@@ -68,7 +68,7 @@ accepted st rs i j e =
     allow : (r : ℕ) → T (recordOk st r) → Allowed st (wordArc r)
     allow r t = arc-rule st (wordArc r) (none-broken (arcChecks st (wordArc r)) (refl, (refl, tt)) (eqb→eq (firstBroken (arcChecks st (wordArc r))) 0 t))
 
-module _ {st : Setting} {es : List Arc} (a : AcceptedNetwork st es) where
+module _ {st : Setting} {es : List Arc} (a : Admissible st es) where
   inside : Every (Inside (st .n)) es
   inside = every-map (λ e (h : Allowed st e). (h .joins .tail-below, h .joins .head-below)) es (a .allowed)
 
@@ -149,7 +149,7 @@ module _ (st : Setting) (es : List Arc) where
 pub keys : {q : Question} {st : Setting} {es : List Arc} {x' pi' need' key' : List ℕ} → EngineRunFor q st es x' pi' need' key' → length key' ≡ st .n
 keys r = r .solved .found .key-len ∙ r .solved .left-len ∙ r .supply .len
 
-module _ {st : Setting} {es : List Arc} (a : AcceptedNetwork st es) where
+module _ {st : Setting} {es : List Arc} (a : Admissible st es) where
   -- ---- maximum flow
 
   pub flow-solution : {x' pi' need' key' : List ℕ} {ys : List ℤ} → asks st ≡ maximumFlow → EngineRun st es x' pi' need' key' → NodeNumbers Mark key' ys → Solution st es ys x' 1

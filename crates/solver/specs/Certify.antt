@@ -34,12 +34,6 @@ abbrev pub admissible : Setting → List ℕ → ℕ → ℕ → Bool
 admissible st rs numbers amounts =
     eqb (firstBroken (openingChecks st)) 0 && leb (length rs) mostArcs && eqb numbers (st .n) && eqb amounts (length rs) && all (recordOk st) rs
 
--- What is known of records that are answered.
-pub record AcceptedNetwork (st : Setting) (net : List Arc) : Type 0 where
-  pub opened : Opened st
-  pub allowed : Every (Allowed st) net
-  pub few : length net ≤ mostArcs
-
 -- ---- how the engine is asked
 
 -- The capacity of an arc: 1 for a path, for one unit is sent; its own for a flow; room to spare for an assignment.

@@ -3,9 +3,9 @@ ghost use mathlib.Core.Path.{_≡_};
 ghost use lib.ListN.{length};
 ghost use Rattle.prelude.specs.Choice.{pick};
 ghost use Rattle.network.specs.Network.{wordArcs};
-ghost use Rattle.network.specs.Question.{shortestPath, maximumFlow, assignment, asks};
+ghost use Rattle.network.specs.Question.{shortestPath, maximumFlow, assignment, asks, Admissible};
 ghost use Rattle.checks.specs.Held.{asked};
-ghost use Rattle.solver.specs.Certify.{findingNumber, AcceptedNetwork, EngineRun, Solution};
+ghost use Rattle.solver.specs.Certify.{findingNumber, EngineRun, Solution};
 use super::Finding;
 use super::records::pack;
 use super::vertices::NumberKind;
@@ -27,7 +27,7 @@ fn run(
     need: &mut [u32],
     key: &mut [u32],
 )
-    requires { ⌜ AcceptedNetwork (asked st) (wordArcs (now records)) ⌝ }
+    requires { ⌜ Admissible (asked st) (wordArcs (now records)) ⌝ }
     requires { ⌜ (length (now x) ≡ length (now records)) × (length (now pi) ≡ st .n) × (length (now need) ≡ st .n) × (length (now key) ≡ st .n) ⌝ }
     ensures { λ _. ⌜ EngineRun (asked st) (wordArcs (now (records .entry))) (now (x .exit)) (now (pi .exit)) (now (need .exit)) (now (key .exit)) ⌝ }
 {
@@ -52,7 +52,7 @@ fn answer_by_phases(
     numbers: &mut [i32],
     amounts: &mut [u16],
 ) -> Finding
-    requires { ⌜ AcceptedNetwork (asked st) (wordArcs (now records)) × (asks (asked st) ≡ pick flow maximumFlow assignment) ⌝ }
+    requires { ⌜ Admissible (asked st) (wordArcs (now records)) × (asks (asked st) ≡ pick flow maximumFlow assignment) ⌝ }
     requires { ⌜ (length (now amounts) ≡ length (now records)) × (length (now numbers) ≡ st .n) ⌝ }
     requires { ⌜ (length (now pi) ≡ st .n) × (length (now need) ≡ st .n) × (length (now key) ≡ st .n) ⌝ }
     ensures { λ r. ⌜ Solution (asked st) (wordArcs (now (records .entry))) (now (numbers .exit)) (now (amounts .exit)) (findingNumber r) ⌝ }
@@ -78,7 +78,7 @@ pub(crate) fn certify_by_phases(
     numbers: &mut [i32],
     amounts: &mut [u16],
 ) -> Finding
-    requires { ⌜ AcceptedNetwork (asked st) (wordArcs (now records)) × (asks (asked st) ≡ pick flow maximumFlow assignment) ⌝ }
+    requires { ⌜ Admissible (asked st) (wordArcs (now records)) × (asks (asked st) ≡ pick flow maximumFlow assignment) ⌝ }
     requires { ⌜ (length (now amounts) ≡ length (now records)) × (length (now numbers) ≡ st .n) ⌝ }
     ensures { λ r. ⌜ Solution (asked st) (wordArcs (now (records .entry))) (now (numbers .exit)) (now (amounts .exit)) (findingNumber r) ⌝ }
 {
@@ -107,7 +107,7 @@ fn answer_path(
     numbers: &mut [i32],
     amounts: &mut [u16],
 ) -> Finding
-    requires { ⌜ AcceptedNetwork (asked st) (wordArcs (now records)) × (asks (asked st) ≡ shortestPath) ⌝ }
+    requires { ⌜ Admissible (asked st) (wordArcs (now records)) × (asks (asked st) ≡ shortestPath) ⌝ }
     requires { ⌜ (length (now amounts) ≡ length (now records)) × (length (now numbers) ≡ st .n) ⌝ }
     requires { ⌜ (length (now left) ≡ st .n) × (length (now key) ≡ st .n) ⌝ }
     ensures { λ r. ⌜ Solution (asked st) (wordArcs (now (records .entry))) (now (numbers .exit)) (now (amounts .exit)) (findingNumber r) ⌝ }
@@ -137,7 +137,7 @@ pub(crate) fn certify_path(
     numbers: &mut [i32],
     amounts: &mut [u16],
 ) -> Finding
-    requires { ⌜ AcceptedNetwork (asked st) (wordArcs (now records)) × (asks (asked st) ≡ shortestPath) ⌝ }
+    requires { ⌜ Admissible (asked st) (wordArcs (now records)) × (asks (asked st) ≡ shortestPath) ⌝ }
     requires { ⌜ (length (now amounts) ≡ length (now records)) × (length (now numbers) ≡ st .n) ⌝ }
     ensures { λ r. ⌜ Solution (asked st) (wordArcs (now (records .entry))) (now (numbers .exit)) (now (amounts .exit)) (findingNumber r) ⌝ }
 {

@@ -1,25 +1,24 @@
 -- What the answers of steps say (PANEL 6).
 -- Assumes nothing.
 use Prim.Native.Nat.{ℕ}
-use Rattle.network.specs.Question.{value, none}
-use Rattle.network.specs.Question.{Answer as ValueOrNone}
-use Rattle.state.specs.declared.Answer.{Answer}
-use Rattle.state.specs.declared.Answer.the-variants.{Accepted, Value, None, Refused}
+use Rattle.network.specs.Question.{Answer, value, none}
+use Rattle.state.specs.declared.Response.{Response}
+use Rattle.state.specs.declared.Response.the-variants.{Accepted, Value, None, Refused}
 
 -- A step is accepted, it gives a value or none, or it is refused with a number of PANEL 11.
 pub data Said : Type 0 where
   accepted : Said
-  gives : ValueOrNone → Said
+  gives : Answer → Said
   refused : ℕ → Said
 
--- What an answer of the code says.
-abbrev pub said : Answer → Said
+-- What a response of the code says.
+abbrev pub said : Response → Said
 said Accepted = accepted
 said (Value v) = gives (value v)
 said None = gives none
 said (Refused k) = refused k
 
--- The answer that gives a value or none.
-abbrev pub answered : ValueOrNone → Answer
+-- The response that gives a value or none.
+abbrev pub answered : Answer → Response
 answered (value v) = Value v
 answered none = None

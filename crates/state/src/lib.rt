@@ -51,7 +51,7 @@ pub mod groups;
 mod refusals;
 
 // What a step answers.
-pub enum Answer {
+pub enum Response {
     Accepted,
     Value(u64),
     None,
@@ -103,16 +103,16 @@ pub struct Turn {
 }
 
 // The answer of an annotation that passes.
-fn answer_of(row: Row, balances: Balances, cost: i64, cut: i64) -> Answer
+fn answer_of(row: Row, balances: Balances, cost: i64, cut: i64) -> Response
     ensures { λ r. ⌜ r ≡ answered (rulesHeld row .answer (sumsHeld balances cost cut)) ⌝ }
 {
     match row {
-        Row::PathValue => Answer::Value(to_unsigned(cost)),
-        Row::FlowValue => Answer::Value(to_unsigned(cut)),
-        Row::AssignmentValue => Answer::Value(to_unsigned(cost)),
-        Row::PathNone => Answer::None,
-        Row::AssignmentNone => Answer::None,
-        Row::Nothing => Answer::None,
+        Row::PathValue => Response::Value(to_unsigned(cost)),
+        Row::FlowValue => Response::Value(to_unsigned(cut)),
+        Row::AssignmentValue => Response::Value(to_unsigned(cost)),
+        Row::PathNone => Response::None,
+        Row::AssignmentNone => Response::None,
+        Row::Nothing => Response::None,
     }
 }
 
@@ -367,7 +367,7 @@ impl State {
     }
 
     // The answer where finishing is not refused.
-    pub fn answer(self, balances: Balances) -> Answer
+    pub fn answer(self, balances: Balances) -> Response
         ensures { λ r. ⌜ r ≡ answered (answerOf (settingHeld self) (claimHeld self) (sumsHeld balances (self .repeating .cost) (self .repeating .cut))) ⌝ }
     {
         let reading = self.reading;

@@ -9,10 +9,10 @@ use lib.ListN.{length}
 use borrow.Author.Needs.{needs}
 use denote.Ref.{now}
 use Rattle.network.specs.Network.{wordArcs}
-use Rattle.network.specs.Question.{Setting, asks, Asked}
+use Rattle.network.specs.Question.{Setting, asks, Asked, Admissible}
 use Rattle.checks.specs.Held.{asked, questionHeld}
 use Rattle.checks.specs.declared.rows.Question.{Question}
-use Rattle.solver.specs.Certify.{AcceptedNetwork, Solution, CertifyOutcome}
+use Rattle.solver.specs.Certify.{Solution, CertifyOutcome}
 use Rattle.solver.proofs.CertifyCases.{begun, ended, turned-away}
 use Rattle.solver.proofs.certify.Statement.{statement}
 use Rattle.solver.proofs.certify.Tie as tie
@@ -32,7 +32,7 @@ module _ (c : tie.After-is-admissible) where
   asks-as e = sym (c .before .question-of .ensures) ∙ ap questionHeld e
 
   module _ (left : not (c .is-admissible .result) ≡ false) where
-    accepted-in : AcceptedNetwork St (wordArcs R) × (length (now (start .args .amounts)) ≡ length R) × (length (now (start .args .numbers)) ≡ St .n)
+    accepted-in : Admissible St (wordArcs R) × (length (now (start .args .amounts)) ≡ length R) × (length (now (start .args .numbers)) ≡ St .n)
     accepted-in = begun St R _ _ _ left (c .is-admissible .ensures)
 
     ended-in : {ys' : List ℤ} {xs' : List ℕ} {reply : ℕ} → length ys' ≡ length (now (start .args .numbers)) → length xs' ≡ length (now (start .args .amounts))

@@ -4,7 +4,7 @@ use mathlib.Core.Path.{_∙_, ap}
 use mir.Facts.{toZ-ofZ}
 use borrow.Author.Needs.{needs}
 use Rattle.prelude.specs.Integers.{natural}
-use Rattle.state.specs.declared.Answer.the-variants.{Value}
+use Rattle.state.specs.declared.Response.the-variants.{Value}
 use Rattle.state.proofs.answer_of.Statement.{statement}
 use Rattle.state.proofs.answer_of.Tie as tie
 

@@ -7,13 +7,13 @@ use borrow.Author.Needs.{needs}
 use Rattle.program_io.specs.Line.{LineIn}
 use Rattle.program_io.proofs.Lines.{same-in}
 use Rattle.state.specs.Answers.{said}
-use Rattle.state.specs.declared.Answer.{Answer}
+use Rattle.state.specs.declared.Response.{Response}
 use Rattle.plan_files.specs.AnswerLine.{answerLine}
 use Rattle.plan_files.proofs.answer_line.line_for.Statement.{statement}
 use Rattle.plan_files.proofs.answer_line.line_for.Tie as tie
 
-same-line : {a b : Answer} (before : List ℕ) (r : ℕ) (after : List ℕ) → a ≡ b → LineIn (answerLine (said b)) before r after → LineIn (answerLine (said a)) before r after
-same-line before r after e w = same-in before r after (ap (λ (a : Answer). answerLine (said a)) (sym e)) w
+same-line : {a b : Response} (before : List ℕ) (r : ℕ) (after : List ℕ) → a ≡ b → LineIn (answerLine (said b)) before r after → LineIn (answerLine (said a)) before r after
+same-line before r after e w = same-in before r after (ap (λ (a : Response). answerLine (said a)) (sym e)) w
 
 returns : tie.Need-returns
 returns c = (c .numbered .ensures .0, same-line _ _ _ (c .before .before .before .before .answer .given .1) (c .numbered .ensures .1))
