@@ -2,9 +2,9 @@
 use super::files::Sizes;
 use helper::Written;
 use points::Point;
+use response_codes::code;
 use testing::answers::ACCEPTED;
 use testing::answers::NONE;
-use testing::answers::code;
 use testing::files::Files;
 use testing::files::START;
 use testing::files::copy_front;

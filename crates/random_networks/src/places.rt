@@ -3,7 +3,7 @@ use super::annotations::record_at;
 use points::Point;
 use reference::instances::Net;
 use reference::random::below;
-use testing::answers::code;
+use response_codes::code;
 use testing::files::Files;
 use testing::files::START;
 use testing::numbers::low_word;
