@@ -34,10 +34,10 @@ marks-more ys z = ap (λ (k : ℕ). marksAfter (marksOf ys) k z) (omega arith) �
 abbrev isOne : ℤ → Bool
 isOne z = eqZ z (pos 1)
 
-length-hasRead : (ms : List ℕ) (i : ℕ) (b : Bool) → length (pick b (withMark ms i) ms) ≡ length ms
+length-after : (ms : List ℕ) (i : ℕ) (b : Bool) → length (pick b (withMark ms i) ms) ≡ length ms
 unfolding withMark
-length-hasRead ms i true = length-set ms (i / 64) _
-length-hasRead ms i false = refl
+length-after ms i true = length-set ms (i / 64) _
+length-after ms i false = refl
 
 other : (ms : List ℕ) (i j : ℕ) (b : Bool) → length ms ≡ 4 → i < 256 → (i ≡ j → ⊥) → isMarked (pick b (withMark ms i) ms) j ≡ isMarked ms j
 other ms i j true e l ne = marked-other ms i j (omega arith) ne
@@ -50,18 +50,18 @@ same ms i false e l c = c
 marks-below : (ys : List ℤ) (i : ℕ) (ms : List ℕ) → length ms ≡ 4 → i + length ys ≤ 256 → (j : ℕ) → j < i → isMarked (marksFrom i ms ys) j ≡ isMarked ms j
 marks-below [] i ms e l j h = refl
 marks-below (z ∷ ys) i ms e l j h =
-    marks-below ys (suc i) (marksAfter ms i z) (length-hasRead ms i (isOne z) ∙ e) (omega arith) j (omega arith) ∙ other ms i j (isOne z) e (omega arith) (omega arith)
+    marks-below ys (suc i) (marksAfter ms i z) (length-after ms i (isOne z) ∙ e) (omega arith) j (omega arith) ∙ other ms i j (isOne z) e (omega arith) (omega arith)
 
 marks-at : (ys : List ℤ) (i : ℕ) (ms : List ℕ) → length ms ≡ 4 → i + length ys ≤ 256 → ((k : ℕ) → i ≤ k → isMarked ms k ≡ false)
     → (k : ℕ) → isMarked (marksFrom i ms ys) (i + k) ≡ marked (at ys) k
 marks-at [] i ms e l clear k = clear (i + k) (omega arith)
 marks-at (z ∷ ys) i ms e l clear zero =
     ap (isMarked (marksFrom (suc i) (marksAfter ms i z) ys)) (omega arith)
-    ∙ marks-below ys (suc i) (marksAfter ms i z) (length-hasRead ms i (isOne z) ∙ e) (omega arith) i (le-refl _)
+    ∙ marks-below ys (suc i) (marksAfter ms i z) (length-after ms i (isOne z) ∙ e) (omega arith) i (le-refl _)
     ∙ same ms i (isOne z) e (omega arith) (clear i (le-refl _))
 marks-at (z ∷ ys) i ms e l clear (suc k) =
     ap (isMarked (marksFrom (suc i) (marksAfter ms i z) ys)) (omega arith)
-    ∙ marks-at ys (suc i) (marksAfter ms i z) (length-hasRead ms i (isOne z) ∙ e) (omega arith)
+    ∙ marks-at ys (suc i) (marksAfter ms i z) (length-after ms i (isOne z) ∙ e) (omega arith)
     (λ j h. other ms i j (isOne z) e (omega arith) (omega arith) ∙ clear j (omega arith)) k
 
 no-mark : (n k : ℕ) → isMarked (replicate n 0) k ≡ false
