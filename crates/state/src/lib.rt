@@ -17,7 +17,6 @@ ghost use Rattle.state.specs.State.{isClaimed, settingHeld, claimHeld, m
 ghost use Rattle.state.specs.Turns.{openTurn, readTurn, endTurn, claimTurn, numberTurn, repeatTurn};
 use checks::HeldSetting;
 use checks::Opening;
-use checks::reading::arc_check;
 use checks::rows::Row;
 use checks::rows::question_of;
 use checks::rows::row_of;
@@ -37,6 +36,7 @@ use network::Record;
 use points::Point;
 use points::Stream;
 use points::lists_check;
+use reading::arc_check;
 use refusals::number_check;
 use refusals::open_check;
 use refusals::read_check;

@@ -12,7 +12,7 @@ ghost use Rattle.network.specs.Certificate.{flowRules, pathBalance, assignmentB
 ghost use Rattle.checks.specs.Held.{asked, rulesHeld};
 ghost use Rattle.totals.specs.Held.{sumsHeld};
 use checks::HeldSetting;
-use checks::reading::pumps;
+use checks::pumps;
 use checks::rows::Row;
 use network::Balances;
 use network::MOST_VERTICES;

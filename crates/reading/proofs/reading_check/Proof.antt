@@ -1,9 +1,9 @@
--- `checks::reading::reading_check` meets its contract.
+-- `reading::reading_check` meets its contract.
 -- Assumes nothing.
 use borrow.Author.Needs.{needs}
 use Rattle.prelude.proofs.Tested.{tested}
-use Rattle.checks.proofs.reading.reading_check.Statement.{statement}
-use Rattle.checks.proofs.reading.reading_check.Tie as tie
+use Rattle.reading.proofs.reading_check.Statement.{statement}
+use Rattle.reading.proofs.reading_check.Tie as tie
 
 pub reading-check-spec : {M : Type 1} → statement M
 reading-check-spec =

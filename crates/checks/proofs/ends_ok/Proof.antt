@@ -1,9 +1,9 @@
--- `checks::reading::ends_ok` meets its contract.
+-- `checks::ends_ok` meets its contract.
 -- Assumes nothing.
 use borrow.Author.Needs.{needs}
 use Rattle.prelude.proofs.Tested.{tested}
-use Rattle.checks.proofs.reading.ends_ok.Statement.{statement}
-use Rattle.checks.proofs.reading.ends_ok.Tie as tie
+use Rattle.checks.proofs.ends_ok.Statement.{statement}
+use Rattle.checks.proofs.ends_ok.Tie as tie
 
 pub ends-ok-spec : {M : Type 1} → statement M
 ends-ok-spec =

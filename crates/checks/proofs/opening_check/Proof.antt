@@ -1,9 +1,9 @@
--- `checks::reading::opening_check` meets its contract.
+-- `checks::opening_check` meets its contract.
 -- Assumes nothing.
 use borrow.Author.Needs.{needs}
 use Rattle.prelude.proofs.Tested.{tested}
-use Rattle.checks.proofs.reading.opening_check.Statement.{statement}
-use Rattle.checks.proofs.reading.opening_check.Tie as tie
+use Rattle.checks.proofs.opening_check.Statement.{statement}
+use Rattle.checks.proofs.opening_check.Tie as tie
 
 pub opening-check-spec : {M : Type 1} → statement M
 opening-check-spec =

@@ -1,9 +1,9 @@
--- `checks::reading::sides_ok` meets its contract.
+-- `reading::sides_ok` meets its contract.
 -- Assumes nothing.
 use borrow.Author.Needs.{needs}
 use Rattle.prelude.proofs.Tested.{tested}
-use Rattle.checks.proofs.reading.sides_ok.Statement.{statement}
-use Rattle.checks.proofs.reading.sides_ok.Tie as tie
+use Rattle.reading.proofs.sides_ok.Statement.{statement}
+use Rattle.reading.proofs.sides_ok.Tie as tie
 
 pub sides-ok-spec : {M : Type 1} → statement M
 sides-ok-spec =

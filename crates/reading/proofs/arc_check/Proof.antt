@@ -1,9 +1,9 @@
--- `checks::reading::arc_check` meets its contract.
+-- `reading::arc_check` meets its contract.
 -- Assumes nothing.
 use borrow.Author.Needs.{needs}
 use Rattle.prelude.proofs.Tested.{tested}
-use Rattle.checks.proofs.reading.arc_check.Statement.{statement}
-use Rattle.checks.proofs.reading.arc_check.Tie as tie
+use Rattle.reading.proofs.arc_check.Statement.{statement}
+use Rattle.reading.proofs.arc_check.Tie as tie
 
 pub arc-check-spec : {M : Type 1} → statement M
 arc-check-spec =

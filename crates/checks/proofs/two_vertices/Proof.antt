@@ -1,8 +1,8 @@
--- `checks::reading::two_vertices` meets its contract.
+-- `checks::two_vertices` meets its contract.
 -- Assumes nothing.
 use Rattle.prelude.proofs.Tested.{tested}
-use Rattle.checks.proofs.reading.two_vertices.Statement.{statement}
-use Rattle.checks.proofs.reading.two_vertices.Tie as tie
+use Rattle.checks.proofs.two_vertices.Statement.{statement}
+use Rattle.checks.proofs.two_vertices.Tie as tie
 
 pub two-vertices-spec : {M : Type 1} → statement M
 two-vertices-spec =

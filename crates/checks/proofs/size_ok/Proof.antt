@@ -1,9 +1,9 @@
--- `checks::reading::size_ok` meets its contract.
+-- `checks::size_ok` meets its contract.
 -- Assumes nothing.
 use borrow.Author.Needs.{needs}
 use Rattle.prelude.proofs.Tested.{tested}
-use Rattle.checks.proofs.reading.size_ok.Statement.{statement}
-use Rattle.checks.proofs.reading.size_ok.Tie as tie
+use Rattle.checks.proofs.size_ok.Statement.{statement}
+use Rattle.checks.proofs.size_ok.Tie as tie
 
 pub size-ok-spec : {M : Type 1} → statement M
 size-ok-spec =

@@ -1,9 +1,9 @@
--- `checks::reading::even_for` meets its contract.
+-- `checks::even_for` meets its contract.
 -- Assumes nothing.
 use borrow.Author.Needs.{needs}
 use Rattle.prelude.proofs.Tested.{tested}
-use Rattle.checks.proofs.reading.even_for.Statement.{statement}
-use Rattle.checks.proofs.reading.even_for.Tie as tie
+use Rattle.checks.proofs.even_for.Statement.{statement}
+use Rattle.checks.proofs.even_for.Tie as tie
 
 pub even-for-spec : {M : Type 1} → statement M
 even-for-spec =

@@ -1,9 +1,9 @@
--- `checks::reading::joins_ok` meets its contract.
+-- `reading::joins_ok` meets its contract.
 -- Assumes nothing.
 use borrow.Author.Needs.{needs}
 use Rattle.prelude.proofs.Tested.{tested}
-use Rattle.checks.proofs.reading.joins_ok.Statement.{statement}
-use Rattle.checks.proofs.reading.joins_ok.Tie as tie
+use Rattle.reading.proofs.joins_ok.Statement.{statement}
+use Rattle.reading.proofs.joins_ok.Tie as tie
 
 pub joins-ok-spec : {M : Type 1} → statement M
 joins-ok-spec =
