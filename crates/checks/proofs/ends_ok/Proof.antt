@@ -19,4 +19,4 @@ ends-ok-spec =
     (λ c. rw (c .before .enum-told .given .1) (c .two-vertices .ensures))
     (λ c. rw (c .before .enum-told2 .given .1) (c .two-vertices2 .ensures))
     (λ c. rw (c .before .enum-told3 .given .1) (search tested depth 12))
-    (λ c. search needs))
+    (λ c. rw (c .enum-told4 .given .1)))

@@ -1,7 +1,8 @@
 -- `reading::arc_check` meets its contract.
 -- Assumes nothing.
 use borrow.Author.Needs.{needs}
-use Rattle.prelude.proofs.Tested.{tested}
+use borrow.Author.Tests.{le-leb, lt-leb}
+use Rattle.prelude.proofs.Tested.{passed, refused}
 use Rattle.reading.proofs.arc_check.Statement.{statement}
 use Rattle.reading.proofs.arc_check.Tie as tie
 
@@ -10,6 +11,6 @@ arc-check-spec =
     tie.close
     (tie.spec
     (λ c κs. search needs)
-    (λ c. search tested depth 12)
-    (λ c. search tested depth 12)
-    (λ c. search tested depth 12))
+    (λ c. rw (refused _ _ (c .if1 .taken) (c .before .joins-ok .ensures)))
+    (λ c. rw (passed _ _ (c .before .before .if1 .left) (c .before .before .before .joins-ok .ensures), lt-leb _ _ (c .if2 .taken)))
+    (λ c. rw (passed _ _ (c .before .before .if1 .left) (c .before .before .before .joins-ok .ensures), le-leb _ _ (c .if2 .left))))

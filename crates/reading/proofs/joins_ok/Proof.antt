@@ -1,7 +1,7 @@
 -- `reading::joins_ok` meets its contract.
 -- Assumes nothing.
 use borrow.Author.Needs.{needs}
-use Rattle.prelude.proofs.Tested.{tested}
+use borrow.Author.Tests.{eq-eqb, ne-eqb, lt-ltb, le-ltb}
 use Rattle.reading.proofs.joins_ok.Statement.{statement}
 use Rattle.reading.proofs.joins_ok.Tie as tie
 
@@ -10,10 +10,12 @@ joins-ok-spec =
     tie.close
     (tie.spec
     (λ c. search needs)
-    (λ c. search tested depth 12)
-    (λ c. search tested depth 12)
-    (λ c. search tested depth 12)
+    (λ c. rw (le-ltb _ _ (c .if1 .taken)))
+    (λ c. rw (lt-ltb _ _ (c .before .if1 .left), le-ltb _ _ (c .if2 .taken)))
+    (λ c. rw (lt-ltb _ _ (c .before .before .if1 .left), lt-ltb _ _ (c .before .if2 .left), eq-eqb _ _ (c .if3 .taken)))
     (λ c. search needs)
     (λ c κs. search needs)
     (λ c κs. search needs)
-    (λ c. rw (← c .before .question-of .ensures) (search tested depth 12)))
+    (λ c.
+    let d = c .before .before .before in
+    rw (lt-ltb _ _ (d .before .before .if1 .left), lt-ltb _ _ (d .before .if2 .left), ne-eqb _ _ (d .if3 .left), ← c .before .question-of .ensures) (c .sides-ok .ensures)))

@@ -1,7 +1,7 @@
 -- `reading::sides_ok` meets its contract.
 -- Assumes nothing.
 use borrow.Author.Needs.{needs}
-use Rattle.prelude.proofs.Tested.{tested}
+use borrow.Author.Tests.{lt-ltb, le-ltb}
 use Rattle.reading.proofs.sides_ok.Statement.{statement}
 use Rattle.reading.proofs.sides_ok.Tie as tie
 
@@ -14,9 +14,9 @@ sides-ok-spec =
     (λ c. search needs)
     (λ c. search needs)
     (λ c. search needs)
-    (λ c. rw (c .before .enum-told3 .given .1, ← c .before .before .before .pumps .ensures) (search tested depth 12))
+    (λ c. rw (c .before .enum-told3 .given .1, ← c .before .before .before .pumps .ensures, le-ltb _ _ (c .if1 .taken)))
     (λ c. search needs)
-    (λ c. search needs)
-    (λ c. search needs)
-    (λ c. rw (c .before .enum-told3 .given .1, ← c .before .before .before .pumps .ensures) (search tested depth 12))
-    (λ c. search needs))
+    (λ c. rw (c .enum-told .given .1))
+    (λ c. rw (c .enum-told2 .given .1))
+    (λ c. rw (c .before .enum-told3 .given .1, ← c .before .before .before .pumps .ensures, lt-ltb _ _ (c .if1 .left)))
+    (λ c. rw (c .enum-told4 .given .1)))
