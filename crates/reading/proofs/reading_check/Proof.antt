@@ -1,7 +1,7 @@
 -- `reading::reading_check` meets its contract.
 -- Assumes nothing.
 use borrow.Author.Needs.{needs}
-use borrow.Author.Tests.{lt-ltb, le-ltb}
+use Rattle.prelude.proofs.Tested.{tested}
 use Rattle.reading.proofs.reading_check.Statement.{statement}
 use Rattle.reading.proofs.reading_check.Tie as tie
 
@@ -9,6 +9,6 @@ pub reading-check-spec : {M : Type 1} → statement M
 reading-check-spec =
     tie.close
     (tie.spec
-    (λ c. rw (le-ltb _ _ (c .if1 .taken)))
+    (λ c. search tested depth 12)
     (λ c κs. search needs)
-    (λ c. rw (lt-ltb _ _ (c .before .if1 .left)) (c .arc-check .ensures)))
+    (λ c. search tested depth 12))
