@@ -7,9 +7,9 @@ ghost use Rattle.format.specs.Files.{settingIn, arcsIn};
 ghost use Rattle.acceptance.specs.Acceptance.{acceptanceChecks};
 use checks::HeldSetting;
 use checks::Opening;
-use checks::reading::opening_check;
-use checks::reading::reading_check;
+use checks::opening_check;
 use format::network_file;
+use reading::reading_check;
 
 // What the header asks.
 pub fn setting(net: &[u8]) -> HeldSetting

@@ -7,7 +7,7 @@ use lib.IntN.{ℤ}
 use Rattle.prelude.specs.Checks.{firstBroken}
 use Rattle.prelude.specs.Lists.{at}
 use Rattle.network.specs.Tests.{answerOf}
-use Rattle.rules.specs.Held.{sumsHeld}
+use Rattle.totals.specs.Held.{sumsHeld}
 use Rattle.format.specs.Files.{claimIn, numbersIn, loadsIn}
 use Rattle.state.specs.Answers.{Said, refused, said, answered}
 use Rattle.state.specs.State.{settingHeld, claimHeld, finishChecks}

@@ -10,7 +10,7 @@ use Rattle.prelude.specs.Lists.{at}
 use Rattle.network.specs.Limits.{mostVertices}
 use Rattle.network.specs.Certificate.{Sums}
 use Rattle.points.specs.declared.Point.{Point}
-use Rattle.rules.specs.Held.{sumsHeld}
+use Rattle.totals.specs.Held.{sumsHeld}
 use Rattle.checks.specs.declared.HeldSetting.{HeldSetting}
 use Rattle.state.specs.State.{isClaimed, begun, idle}
 use Rattle.state.specs.declared.Response.{Response}

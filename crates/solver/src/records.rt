@@ -9,14 +9,14 @@ ghost use Rattle.checks.specs.Held.{asked, questionHeld};
 ghost use Rattle.solver.specs.Certify.{admissible, recordOk, capacityFor, packedFor};
 use checks::HeldSetting;
 use checks::Opening;
-use checks::reading::arc_check;
-use checks::reading::opening_check;
+use checks::opening_check;
 use checks::rows::Question;
 use checks::rows::question_of;
 use checks::rows::unit_cost;
 use network::MOST_ARCS;
 use network::Record;
 use network::arc_in;
+use reading::arc_check;
 
 // The capacity of an arc of an assignment: it is never full.
 const PAIR_ROOM: u32 = 2;

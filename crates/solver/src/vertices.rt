@@ -10,7 +10,7 @@ ghost use Rattle.solver.specs.Certify.{endFor, standing, NodeNumbers, Wa
 ghost use Rattle.packed_arcs.specs.Entries.{entry};
 ghost use Rattle.solver.specs.Instance.{VertexList, single as singleAt, atPumps, atSites, reached, numberOf};
 use checks::HeldSetting;
-use checks::reading::pumps;
+use checks::pumps;
 use checks::rows::Question;
 use checks::rows::question_of;
 use engine::UNREACHED;

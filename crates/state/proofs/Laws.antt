@@ -27,7 +27,7 @@ use Rattle.network.proofs.Allowed.{asked-least, opening-rule, weight-rule}
 use Rattle.points.specs.Points.{pointOk, samePrint, extendStream}
 use Rattle.points.specs.declared.Point.{Point}
 use Rattle.points.specs.declared.Stream.{Stream}
-use Rattle.rules.specs.Held.{sumsHeld}
+use Rattle.totals.specs.Held.{sumsHeld}
 use Rattle.state.specs.State.{isClaimed, settingHeld, claimHeld, marksHeld, marksAfter, numberMore, repeatMore, stateOf, openChecks, withRead, repeatChecks, withRepeat, finishChecks}
 use Rattle.state.specs.Turns.{turned}
 use Rattle.state.specs.declared.Numbering.{Numbering}

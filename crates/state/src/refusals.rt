@@ -11,11 +11,11 @@ use super::CLAIMED;
 use super::READING;
 use checks::HeldSetting;
 use checks::Opening;
-use checks::reading::opening_check;
-use checks::reading::reading_check;
+use checks::opening_check;
 use checks::rows::row_of;
 use network::Record;
 use points::Point;
+use reading::reading_check;
 use rules::annotation::node_ok;
 
 // Opening: 1 to 4.

@@ -7,7 +7,7 @@ use mir.Syntax.{w64}
 use borrow.Author.Needs.{needs}
 use Rattle.words.proofs.Signs.{back}
 use Rattle.network.specs.Tests.{answerOf}
-use Rattle.rules.specs.Held.{sumsHeld}
+use Rattle.totals.specs.Held.{sumsHeld}
 use Rattle.state.specs.Answers.{answered}
 use Rattle.state.specs.State.{settingHeld, claimHeld}
 use Rattle.state.proofs.State.answer.Statement.{statement}

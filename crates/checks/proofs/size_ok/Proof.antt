@@ -1,0 +1,16 @@
+-- `checks::size_ok` meets its contract.
+-- Assumes nothing.
+use borrow.Author.Needs.{needs}
+use Rattle.prelude.proofs.Tested.{tested}
+use Rattle.checks.proofs.size_ok.Statement.{statement}
+use Rattle.checks.proofs.size_ok.Tie as tie
+
+pub size-ok-spec : {M : Type 1} → statement M
+size-ok-spec =
+    tie.close
+    (tie.spec
+    (λ c. search tested depth 12)
+    (λ c. search tested depth 12)
+    (λ c κs. search needs)
+    (λ c κs. search needs)
+    (λ c. rw (← c .before .question-of .ensures) (search tested depth 12)))
