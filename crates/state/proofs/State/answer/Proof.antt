@@ -14,10 +14,10 @@ use Rattle.state.proofs.State.answer.Statement.{statement}
 use Rattle.state.proofs.State.answer.Tie as tie
 
 row-of-requires : tie.Need-row-of-requires
-row-of-requires c κs = search needs
+row-of-requires c κs = tt
 
 answer-of-requires : tie.Need-answer-of-requires
-answer-of-requires c κs = search needs
+answer-of-requires c κs = tt
 
 returns : tie.Need-returns
 returns c =

@@ -14,7 +14,7 @@ use Rattle.state.proofs.State.node_number.Statement.{statement}
 use Rattle.state.proofs.State.node_number.Tie as tie
 
 number-check-requires : tie.Need-number-check-requires
-number-check-requires c κs = search needs
+number-check-requires c κs = tt
 
 returns : tie.Need-returns
 unfolding numberTurn

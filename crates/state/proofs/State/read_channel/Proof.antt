@@ -12,7 +12,7 @@ use Rattle.state.proofs.State.read_channel.Statement.{statement}
 use Rattle.state.proofs.State.read_channel.Tie as tie
 
 read-check-requires : tie.Need-read-check-requires
-read-check-requires c κs = search needs
+read-check-requires c κs = tt
 
 returns : tie.Need-returns
 unfolding readTurn

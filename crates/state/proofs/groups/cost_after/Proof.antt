@@ -18,5 +18,5 @@ cost-after-spec =
     tie.close
     (tie.spec
     (λ c. omega (arith, product-fits (c .args .x) (c .args .unit) (c .pre .0) (c .pre .1)))
-    (λ c κs. search needs)
+    (λ c κs. tt)
     (λ c. back w64 (c .increase .result) (c .increase .ok) ∙ c .increase .ensures ∙ ap (λ (z : ℤ). boundedSum z (pos (c .before .args .x * c .before .args .unit))) (toZ-ofZ (c .before .fits .cost))))

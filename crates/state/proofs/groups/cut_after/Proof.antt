@@ -19,7 +19,7 @@ pub cut-after-spec : {M : Type 1} → statement M
 cut-after-spec =
     tie.close
     (tie.spec
-    (λ c κs. search needs)
+    (λ c κs. tt)
     (λ c.
     let s = c .before .before in
     back w64 (c .increase .result) (c .increase .ok) ∙ c .increase .ensures

@@ -8,5 +8,5 @@ pub no-list-spec : {M : Type 1} → statement M
 no-list-spec =
     tie.close
     (tie.spec
-    (λ c κs. search needs)
+    (λ c κs. tt)
     (λ c. rw (c .no-arcs .ensures)))

@@ -8,5 +8,5 @@ pub unrepeated-spec : {M : Type 1} → statement M
 unrepeated-spec =
     tie.close
     (tie.spec
-    (λ c κs. search needs)
+    (λ c κs. tt)
     (λ c. rw (c .no-list .ensures)))
