@@ -4,7 +4,6 @@ use mathlib.Core.Path.{_∙_, ap₂}
 use native.Mathlib.Omega.{arith}
 use lib.IntN.{ℤ}
 use mir.Syntax.{w64}
-use borrow.Author.Needs.{needs}
 use Rattle.words.proofs.Signs.{back}
 use Rattle.network.specs.Tests.{answerOf}
 use Rattle.rules.specs.Held.{sumsHeld}

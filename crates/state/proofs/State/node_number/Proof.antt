@@ -5,7 +5,6 @@ use native.Mathlib.Omega.{arith}
 use lib.Dec.{ltb→lt}
 use lib.IntN.{ℤ}
 use mir.Facts.{toZ-ofZ}
-use borrow.Author.Needs.{needs}
 use Rattle.state.specs.State.{stateOf, numberMore, numberChecks, withNumber}
 use Rattle.state.specs.Turns.{numberTurn}
 use Rattle.state.specs.declared.Numbering.{Numbering}

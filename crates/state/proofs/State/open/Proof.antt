@@ -2,7 +2,6 @@
 -- Assumes nothing.
 use mathlib.Core.Path.{refl, _∙_, ap}
 use native.Mathlib.Omega.{arith}
-use borrow.Author.Needs.{needs}
 use Rattle.checks.specs.Held.{handed}
 use Rattle.state.specs.State.{idle, openChecks, opened}
 use Rattle.state.specs.Turns.{openTurn}

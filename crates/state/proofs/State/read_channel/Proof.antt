@@ -2,7 +2,6 @@
 -- Assumes nothing.
 use mathlib.Core.Path.{refl}
 use native.Mathlib.Omega.{arith}
-use borrow.Author.Needs.{needs}
 use lib.Dec.{ltb→lt}
 use Rattle.network.specs.Network.{arcHeld}
 use Rattle.state.specs.State.{readChecks, withRead}

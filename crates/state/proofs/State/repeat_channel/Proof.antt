@@ -3,7 +3,6 @@
 use mathlib.Core.Path.{refl, _∙_, ap, ap₂}
 use mathlib.Core.Bool.{Bool, not, _&&_}
 use native.Mathlib.Omega.{arith}
-use borrow.Author.Needs.{needs}
 use Rattle.prelude.specs.Lists.{at}
 use Rattle.network.specs.Network.{loadHeld}
 use Rattle.network.specs.Certificate.{Ends}

@@ -4,7 +4,6 @@ use mathlib.Core.Path.{_∙_, ap}
 use lib.IntN.{ℤ}
 use lib.ListN.{set}
 use mir.Facts.{toZ-ofZ}
-use borrow.Author.Needs.{needs}
 use Rattle.state.proofs.State.store_number.Statement.{statement}
 use Rattle.state.proofs.State.store_number.Tie as tie
 

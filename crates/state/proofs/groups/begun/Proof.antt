@@ -1,6 +1,5 @@
 -- `state::groups::begun` meets its contract.
 -- Assumes nothing.
-use borrow.Author.Needs.{needs}
 use Rattle.state.proofs.groups.begun.Statement.{statement}
 use Rattle.state.proofs.groups.begun.Tie as tie
 

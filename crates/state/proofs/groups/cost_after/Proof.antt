@@ -9,7 +9,6 @@ use mir.Facts.{toZ-ofZ}
 use Rattle.words.specs.Bounded.{boundedSum}
 use Rattle.words.proofs.Signs.{back}
 use Rattle.state.proofs.Laws.{product-fits}
-use borrow.Author.Needs.{needs}
 use Rattle.state.proofs.groups.cost_after.Statement.{statement}
 use Rattle.state.proofs.groups.cost_after.Tie as tie
 

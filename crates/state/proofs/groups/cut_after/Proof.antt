@@ -11,7 +11,6 @@ use Rattle.prelude.specs.Choice.{indicator}
 use Rattle.words.specs.Bounded.{boundedSum}
 use Rattle.words.proofs.Signs.{back}
 use Rattle.state.proofs.Laws.{plus-zero}
-use borrow.Author.Needs.{needs}
 use Rattle.state.proofs.groups.cut_after.Statement.{statement}
 use Rattle.state.proofs.groups.cut_after.Tie as tie
 

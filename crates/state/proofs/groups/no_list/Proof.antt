@@ -1,6 +1,5 @@
 -- `state::groups::no_list` meets its contract.
 -- Assumes nothing.
-use borrow.Author.Needs.{needs}
 use Rattle.state.proofs.groups.no_list.Statement.{statement}
 use Rattle.state.proofs.groups.no_list.Tie as tie
 

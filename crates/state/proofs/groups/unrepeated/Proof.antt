@@ -1,6 +1,5 @@
 -- `state::groups::unrepeated` meets its contract.
 -- Assumes nothing.
-use borrow.Author.Needs.{needs}
 use Rattle.state.proofs.groups.unrepeated.Statement.{statement}
 use Rattle.state.proofs.groups.unrepeated.Tie as tie
 

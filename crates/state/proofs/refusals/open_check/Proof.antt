@@ -8,7 +8,6 @@ use Rattle.points.specs.Points.{pointOk}
 use Rattle.checks.specs.Held.{handed}
 use Rattle.prelude.proofs.Tested.{tested}
 use Rattle.state.proofs.Laws.{broken-first, broken-later}
-use borrow.Author.Needs.{needs}
 use Rattle.state.proofs.refusals.open_check.Statement.{statement}
 use Rattle.state.proofs.refusals.open_check.Tie as tie
 
