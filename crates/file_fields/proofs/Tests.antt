@@ -1,11 +1,10 @@
--- The tests of a layout: `search laid-out` finds the first check that is broken from the tests that a need is handed.
+-- The tests of a layout, from what the code tested.
 -- Assumes nothing.
 use mathlib.Core.Path.{_≡_, refl, sym, _∙_}
 use mathlib.Core.Bool.{Bool, true, false, _&&_}
 use Prim.Native.Nat.{ℕ}
 use lib.Dec.{eqb}
 use borrow.Author.Tests.{eq-eqb, ne-eqb}
-use Rattle.prelude.proofs.Tested.{tested}
 
 -- the second of two tests
 pub second-off : (s t : Bool) → t ≡ false → (s && t) ≡ false
@@ -19,5 +18,3 @@ is r k m e p = eq-eqb k m (sym e ∙ p)
 
 pub differs : (r k m : ℕ) → r ≡ k → (r ≡ m → ⊥) → eqb k m ≡ false
 differs r k m e p = ne-eqb k m (λ q. p (e ∙ q))
-
-pub ruleset laid-out = (tested, second-off, is, differs)

@@ -61,11 +61,11 @@ pub annotate-spec : {M : Type 1} → statement M
 annotate-spec =
     tie.close
     (tie.spec
-    (λ c κs. search needs)
+    (λ c κs. tt)
     (λ c. (at-checks (c .before .before .before .before .args .net .now) (c .before .acceptance-check .result) (c .before .acceptance-check .ensures) (length (c .before .before .before .before .args .buffer .now)) (c .if1 .taken), refl))
-    (λ c κs. search needs)
+    (λ c κs. tt)
     (λ c. search needs)
-    (λ c κs. search needs)
+    (λ c κs. tt)
     (λ c. search needs)
     (λ c. search needs)
     (λ c. search needs)
@@ -74,5 +74,5 @@ annotate-spec =
     returns-2
     write-annotation-requires
     (λ c. search needs)
-    (λ c. search needs)
+    (λ c. c .before .before .write-annotation .kept .1 .0)
     returns-3)

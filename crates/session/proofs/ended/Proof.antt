@@ -3,12 +3,11 @@
 use mathlib.Core.Path.{ap}
 use Rattle.session.specs.Session.{joined, zeros}
 use Rattle.state.specs.declared.State.{State}
-use borrow.Author.Needs.{needs}
 use Rattle.session.proofs.ended.Statement.{statement}
 use Rattle.session.proofs.ended.Tie as tie
 
 idle-requires : tie.Need-idle-requires
-idle-requires c κs = search needs
+idle-requires c κs = tt
 
 returns : tie.Need-returns
 returns c = ap (λ (y : State). joined zeros zeros y) (c .idle .ensures)

@@ -1,6 +1,5 @@
 -- `session::is_over` meets its contract.
 -- Assumes nothing.
-use borrow.Author.Needs.{needs}
 use Rattle.prelude.proofs.Tested.{tested}
 use Rattle.session.proofs.is_over.Statement.{statement}
 use Rattle.session.proofs.is_over.Tie as tie
@@ -10,5 +9,5 @@ is-over-spec =
     tie.close
     (tie.spec
     (λ c. search tested depth 12)
-    (λ c κs. search needs)
+    (λ c κs. tt)
     (λ c. search tested depth 12))

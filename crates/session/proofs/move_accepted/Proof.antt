@@ -1,7 +1,6 @@
 -- `session::move_accepted` meets its contract.
 -- Assumes nothing.
 use Rattle.prelude.proofs.Choice.{checks}
-use borrow.Author.Needs.{needs}
 use Rattle.session.proofs.move_accepted.Statement.{statement}
 use Rattle.session.proofs.move_accepted.Tie as tie
 
@@ -9,7 +8,7 @@ returns : tie.Need-returns
 returns c = search checks
 
 move-amount-requires : tie.Need-move-amount-requires
-move-amount-requires c κs = search needs
+move-amount-requires c κs = tt
 
 returns-2 : tie.Need-returns-2
 returns-2 c = search checks

@@ -2,7 +2,6 @@
 -- Assumes nothing.
 use mathlib.Core.Path.{_∙_, ap}
 use Rattle.prelude.proofs.Choice.{checks}
-use borrow.Author.Needs.{needs}
 use lib.IntN.{ℤ}
 use lib.ListN.{set}
 use mir.Facts.{toZ-ofZ}
@@ -13,7 +12,7 @@ returns : tie.Need-returns
 returns c = search checks
 
 store-number-requires : tie.Need-store-number-requires
-store-number-requires c κs = search needs
+store-number-requires c κs = tt
 
 returns-2 : tie.Need-returns-2
 returns-2 c =

@@ -1,10 +1,10 @@
 -- `file_fields::bytes::put16` meets its contract.
 -- Assumes nothing.
-use native.Mathlib.Numerals.{add-one}
+use mathlib.Core.Path.{_∙_}
 use native.Mathlib.Omega.{arith}
 use borrow.Author.Needs.{needs}
 use Rattle.file_fields.specs.Bytes.{byte16}
-use Rattle.file_fields.proofs.Writing.{sets-past}
+use Rattle.file_fields.proofs.Writing.{sets-past, halves-stored}
 use Rattle.file_fields.proofs.bytes.put16.Statement.{statement}
 use Rattle.file_fields.proofs.bytes.put16.Tie as tie
 
@@ -18,5 +18,5 @@ put16-spec =
     (λ c. search needs)
     (λ c. search needs)
     (λ c κs. search needs)
-    (λ c. search needs)
-    (λ c. cc (add-one (c .before .before .before .before .before .before .before .before .before .before .args .i))))
+    (λ c. c .before .before .put-byte2 .kept .0 ∙ c .before .before .before .before .before .before .put-byte .kept .0)
+    (λ c. halves-stored (c .before .before .before .before .before .before .before .before .before .before .args .buffer .now) (c .before .before .before .before .before .before .before .before .before .before .args .i) (c .before .before .before .before .before .before .before .before .before .before .args .v) (c .before .before .before .before .before .before .put-byte .ensures) (c .before .before .put-byte2 .ensures)))

@@ -1,9 +1,11 @@
 -- `file_fields::bytes::put32` meets its contract.
 -- Assumes nothing.
-use mathlib.Core.Path.{ap}
+use mathlib.Core.Path.{ap, _∙_}
+use Prim.Native.Nat.{ℕ}
+use lib.Seq.{sets}
 use mir.Facts.{toZ-ofZ}
 use borrow.Author.Needs.{needs}
-use Rattle.file_fields.specs.Bytes.{patternOf}
+use Rattle.file_fields.specs.Bytes.{bytes32, patternOf}
 use Rattle.file_fields.proofs.bytes.put32.Statement.{statement}
 use Rattle.file_fields.proofs.bytes.put32.Tie as tie
 
@@ -13,5 +15,5 @@ put32-spec =
     (tie.spec
     (λ c κs. search needs)
     (λ c κs. search needs)
-    (λ c. search needs)
-    (λ c. cc (ap patternOf (toZ-ofZ (c .before .before .before .before .before .before .fits .z)))))
+    (λ c. c .before .before .put-bits32 .kept .0)
+    (λ c. c .before .before .put-bits32 .ensures ∙ ap (λ (k : ℕ). sets (c .before .before .before .before .before .before .args .buffer .now) (c .before .before .before .before .before .before .args .i) (bytes32 k)) (c .before .before .before .pattern .ensures ∙ ap patternOf (toZ-ofZ (c .before .before .before .before .before .before .fits .z)))))

@@ -1,9 +1,11 @@
 -- `file_fields::bytes::put_bits32` meets its contract.
 -- Assumes nothing.
+use mathlib.Core.Path.{refl, _∙_}
+use Prim.Native.Nat.{_+_, _/_, _%_}
 use native.Mathlib.Omega.{arith}
 use borrow.Author.Needs.{needs}
-use Rattle.file_fields.specs.Bytes.{bytes32}
-use Rattle.file_fields.proofs.Writing.{sets-past, two-more}
+use Rattle.file_fields.specs.Bytes.{byte16, bytes32}
+use Rattle.file_fields.proofs.Writing.{sets-past, then-sets}
 use Rattle.file_fields.proofs.bytes.put_bits32.Statement.{statement}
 use Rattle.file_fields.proofs.bytes.put_bits32.Tie as tie
 
@@ -17,5 +19,5 @@ put-bits32-spec =
     (λ c. search needs)
     (λ c. search needs)
     (λ c κs. search needs)
-    (λ c. search needs)
-    (λ c. cc (two-more (c .before .before .before .before .before .before .before .before .before .before .args .i))))
+    (λ c. c .before .before .put162 .kept .0 ∙ c .before .before .before .before .before .before .put16 .kept .0)
+    (λ c. then-sets (c .before .before .before .before .before .before .before .before .before .before .args .buffer .now) (c .before .before .before .before .before .before .before .before .before .before .args .i) (byte16 (c .before .before .before .before .before .before .before .before .before .before .args .k / 65536)) (byte16 (c .before .before .before .before .before .before .before .before .before .before .args .k % 65536)) (c .before .before .before .before .before .before .before .before .before .before .args .i + 2) (c .before .before .before .before .before .before .put16 .ensures) refl (c .before .before .put162 .ensures)))

@@ -1,6 +1,8 @@
 -- `file_fields::layout::write_mark` meets its contract.
 -- Assumes nothing.
+use mathlib.Core.Path.{_∙_}
 use borrow.Author.Needs.{needs}
+use Rattle.file_fields.proofs.Writing.{mark-stored}
 use Rattle.file_fields.proofs.layout.write_mark.Statement.{statement}
 use Rattle.file_fields.proofs.layout.write_mark.Tie as tie
 
@@ -12,5 +14,5 @@ write-mark-spec =
     (λ c κs. search needs)
     (λ c κs. search needs)
     (λ c κs. search needs)
-    (λ c. search needs)
-    (λ c. cc))
+    (λ c. c .before .before .put16 .kept .0 ∙ c .before .before .before .before .before .before .put-byte3 .kept .0 ∙ c .before .before .before .before .before .before .before .before .before .before .put-byte2 .kept .0 ∙ c .before .before .before .before .before .before .before .before .before .before .before .before .before .before .put-byte .kept .0)
+    (λ c. mark-stored (c .before .before .before .before .before .before .before .before .before .before .before .before .before .before .before .before .before .args .buffer .now) (c .before .before .before .before .before .before .before .before .before .before .before .before .before .before .before .before .before .args .third) (c .before .before .before .before .before .before .before .before .before .before .before .before .before .before .put-byte .ensures) (c .before .before .before .before .before .before .before .before .before .before .put-byte2 .ensures) (c .before .before .before .before .before .before .put-byte3 .ensures) (c .before .before .put16 .ensures)))

@@ -42,19 +42,19 @@ pub write-annotation-spec : {M : Type 1} → statement M
 write-annotation-spec =
     tie.close
     (tie.spec
-    (λ c κs. search needs)
+    (λ c κs. tt)
     (λ c. search needs)
-    (λ c κs. search needs)
+    (λ c κs. tt)
     (λ c. search needs)
     (λ c. few-arcs (c .before .before .before .before .args .net .now) (c .before .before .before .before .pre .0) (c .count .result) (c .count .ensures))
     (λ c. sym (zero-list-length (c .before .count .result) 4096 (few-arcs (c .before .before .before .before .before .args .net .now) (c .before .before .before .before .before .pre .0) (c .before .count .result) (c .before .count .ensures))))
-    (λ c κs. search needs)
+    (λ c κs. tt)
     array-share-prefix-records
     slice-aggregate-write-solution
-    (λ c. search needs)
+    (λ c. few-vertices (c .before .before .before .before .before .before .before .before .args .net .now) (c .before .before .before .before .before .before .before .before .pre .0) (c .before .before .before .before .before .vertices .result) (c .before .before .before .before .before .vertices .ensures))
     (λ c. let n = c .before .before .before .before .before .before .vertices in let s = c .before .before .before .before .before .before .before .before .before in sym (length-take-le (n .result) _ (few-vertices (s .args .net .now) (s .pre .0) (n .result) (n .ensures))))
     (λ c. few-arcs (c .before .before .before .before .before .before .before .before .before .args .net .now) (c .before .before .before .before .before .before .before .before .before .pre .0) (c .before .before .before .before .before .count .result) (c .before .before .before .before .before .count .ensures))
     (λ c. sym (zero-list-length (c .before .before .before .before .before .before .count .result) 4096 (few-arcs (c .before .before .before .before .before .before .before .before .before .before .args .net .now) (c .before .before .before .before .before .before .before .before .before .before .pre .0) (c .before .before .before .before .before .before .count .result) (c .before .before .before .before .before .before .count .ensures))))
     write-solution-requires
-    (λ c. search needs)
-    (λ c. search needs))
+    (λ c. c .before .before .before .before .write-solution .kept .1 .1 .1 .1 .0)
+    (λ c. c .before .before .before .before .write-solution .ensures))

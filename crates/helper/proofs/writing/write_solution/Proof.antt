@@ -2,7 +2,6 @@
 -- Assumes nothing.
 use mathlib.Core.Path.{sym, _∙_}
 use native.Mathlib.Omega.{arith}
-use borrow.Author.Needs.{needs}
 use Rattle.checks.specs.Held.{asked}
 use Rattle.solver.proofs.CertifyCases.{by-number}
 use Rattle.helper.proofs.FoundAnnotation.{found, filled, records-many}
@@ -36,12 +35,12 @@ pub write-solution-spec : {M : Type 1} → statement M
 write-solution-spec =
     tie.close
     (tie.spec
-    (λ c κs. search needs)
-    (λ c κs. search needs)
-    (λ c κs. search needs)
-    (λ c κs. search needs)
+    (λ c κs. tt)
+    (λ c κs. tt)
+    (λ c κs. tt)
+    (λ c κs. tt)
     write-file-requires
-    (λ c. search needs)
-    (λ c. search needs)
-    (λ c. search needs)
+    (λ c. c .before .before .before .before .before .before .before .before .before .before .before .certify .kept .1 .1 .0)
+    (λ c. c .before .before .before .before .before .before .before .before .before .before .before .certify .kept .1 .1 .1 .0)
+    (λ c. c .before .before .write-file .kept .0)
     returns)

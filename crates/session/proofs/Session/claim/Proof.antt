@@ -2,15 +2,14 @@
 -- Assumes nothing.
 use mathlib.Core.Path.{_∙_}
 use Rattle.session.proofs.TurnsToSteps.{claim-refused, claim-accepted}
-use borrow.Author.Needs.{needs}
 use Rattle.session.proofs.Session.claim.Statement.{statement}
 use Rattle.session.proofs.Session.claim.Tie as tie
 
 claim-requires : tie.Need-claim-requires
-claim-requires c κs = search needs
+claim-requires c κs = tt
 
 refuse-requires : tie.Need-refuse-requires
-refuse-requires c κs = search needs
+refuse-requires c κs = tt
 
 returns : tie.Need-returns
 returns c =

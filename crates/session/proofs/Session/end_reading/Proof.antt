@@ -2,15 +2,14 @@
 -- Assumes nothing.
 use mathlib.Core.Path.{_∙_}
 use Rattle.session.proofs.TurnsToSteps.{end-refused, end-accepted}
-use borrow.Author.Needs.{needs}
 use Rattle.session.proofs.Session.end_reading.Statement.{statement}
 use Rattle.session.proofs.Session.end_reading.Tie as tie
 
 end-reading-requires : tie.Need-end-reading-requires
-end-reading-requires c κs = search needs
+end-reading-requires c κs = tt
 
 refuse-requires : tie.Need-refuse-requires
-refuse-requires c κs = search needs
+refuse-requires c κs = tt
 
 returns : tie.Need-returns
 returns c =

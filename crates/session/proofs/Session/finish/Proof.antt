@@ -2,25 +2,24 @@
 -- Assumes nothing.
 use mathlib.Core.Path.{_∙_}
 use Rattle.session.proofs.TurnsToSteps.{finish-refused, finish-answered}
-use borrow.Author.Needs.{needs}
 use Rattle.session.proofs.Session.finish.Statement.{statement}
 use Rattle.session.proofs.Session.finish.Tie as tie
 
 finish-check-requires : tie.Need-finish-check-requires
-finish-check-requires c κs = search needs
+finish-check-requires c κs = tt
 
 refuse-requires : tie.Need-refuse-requires
-refuse-requires c κs = search needs
+refuse-requires c κs = tt
 
 returns : tie.Need-returns
 returns c =
     let s = c .before .before .before .before .before .before .args in c .refuse .ensures ∙ finish-refused (s .self) (c .before .before .finish-check .result) (c .before .before .finish-check .ensures) (c .before .if1 .taken)
 
 ended-requires : tie.Need-ended-requires
-ended-requires c κs = search needs
+ended-requires c κs = tt
 
 answer-requires : tie.Need-answer-requires
-answer-requires c κs = search needs
+answer-requires c κs = tt
 
 returns-2 : tie.Need-returns-2
 returns-2 c =

@@ -1,13 +1,12 @@
 -- `session::Session::open` meets its contract.
 -- Assumes nothing.
 use Rattle.session.proofs.TurnsToSteps.{open-refused, open-accepted}
-use borrow.Author.Needs.{needs}
 use Rattle.checks.specs.Held.{handed}
 use Rattle.session.proofs.Session.open.Statement.{statement}
 use Rattle.session.proofs.Session.open.Tie as tie
 
 open-requires : tie.Need-open-requires
-open-requires c κs = search needs
+open-requires c κs = tt
 
 returns : tie.Need-returns
 returns c =

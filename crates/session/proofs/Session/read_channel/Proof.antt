@@ -3,15 +3,14 @@
 use mathlib.Core.Path.{_∙_}
 use Rattle.network.specs.Network.{arcOf}
 use Rattle.session.proofs.TurnsToSteps.{read-refused, read-accepted}
-use borrow.Author.Needs.{needs}
 use Rattle.session.proofs.Session.read_channel.Statement.{statement}
 use Rattle.session.proofs.Session.read_channel.Tie as tie
 
 read-channel-requires : tie.Need-read-channel-requires
-read-channel-requires c κs = search needs
+read-channel-requires c κs = tt
 
 refuse-requires : tie.Need-refuse-requires
-refuse-requires c κs = search needs
+refuse-requires c κs = tt
 
 returns : tie.Need-returns
 returns c =

@@ -2,17 +2,16 @@
 -- Assumes nothing.
 use mathlib.Core.Path.{sym, _∙_}
 use lib.Dec.{eqb}
-use borrow.Author.Needs.{needs}
 use Rattle.state.specs.State.{isClaimed}
 use Rattle.session.proofs.TurnsToSteps.{refused-ended, refused-same}
 use Rattle.session.proofs.Session.refuse.Statement.{statement}
 use Rattle.session.proofs.Session.refuse.Tie as tie
 
 is-ended-by-requires : tie.Need-is-ended-by-requires
-is-ended-by-requires c κs = search needs
+is-ended-by-requires c κs = tt
 
 ended-requires : tie.Need-ended-requires
-ended-requires c κs = search needs
+ended-requires c κs = tt
 
 returns : tie.Need-returns
 returns c =

@@ -2,7 +2,6 @@
 -- Assumes nothing.
 use Rattle.network.specs.Network.{loadOf}
 use Rattle.session.proofs.TurnsToSteps.{repeat-handed}
-use borrow.Author.Needs.{needs}
 use Rattle.session.proofs.Session.repeat_channel.Statement.{statement}
 use Rattle.session.proofs.Session.repeat_channel.Tie as tie
 
@@ -17,11 +16,11 @@ pub repeat-channel-spec : {M : Type 1} → statement M
 repeat-channel-spec =
     tie.close
     (tie.spec
-    (λ c κs. search needs)
-    (λ c κs. search needs)
-    (λ c κs. search needs)
-    (λ c κs. search needs)
-    (λ c κs. search needs)
-    (λ c κs. search needs)
-    (λ c κs. search needs)
+    (λ c κs. tt)
+    (λ c κs. tt)
+    (λ c κs. tt)
+    (λ c κs. tt)
+    (λ c κs. tt)
+    (λ c κs. tt)
+    (λ c κs. tt)
     returns)

@@ -4,7 +4,6 @@ use mathlib.Core.Path.{_∙_, ap₂}
 use native.Mathlib.Omega.{arith}
 use lib.IntN.{ℤ}
 use mir.Syntax.{w64}
-use borrow.Author.Needs.{needs}
 use Rattle.words.proofs.Signs.{back}
 use Rattle.network.specs.Tests.{answerOf}
 use Rattle.totals.specs.Held.{sumsHeld}
@@ -14,10 +13,10 @@ use Rattle.state.proofs.State.answer.Statement.{statement}
 use Rattle.state.proofs.State.answer.Tie as tie
 
 row-of-requires : tie.Need-row-of-requires
-row-of-requires c κs = search needs
+row-of-requires c κs = tt
 
 answer-of-requires : tie.Need-answer-of-requires
-answer-of-requires c κs = search needs
+answer-of-requires c κs = tt
 
 returns : tie.Need-returns
 returns c =

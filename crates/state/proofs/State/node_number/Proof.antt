@@ -5,7 +5,6 @@ use native.Mathlib.Omega.{arith}
 use lib.Dec.{ltb→lt}
 use lib.IntN.{ℤ}
 use mir.Facts.{toZ-ofZ}
-use borrow.Author.Needs.{needs}
 use Rattle.state.specs.State.{stateOf, numberMore, numberChecks, withNumber}
 use Rattle.state.specs.Turns.{numberTurn}
 use Rattle.state.specs.declared.Numbering.{Numbering}
@@ -14,7 +13,7 @@ use Rattle.state.proofs.State.node_number.Statement.{statement}
 use Rattle.state.proofs.State.node_number.Tie as tie
 
 number-check-requires : tie.Need-number-check-requires
-number-check-requires c κs = search needs
+number-check-requires c κs = tt
 
 returns : tie.Need-returns
 unfolding numberTurn

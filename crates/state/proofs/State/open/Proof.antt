@@ -2,7 +2,6 @@
 -- Assumes nothing.
 use mathlib.Core.Path.{refl, _∙_, ap}
 use native.Mathlib.Omega.{arith}
-use borrow.Author.Needs.{needs}
 use Rattle.checks.specs.Held.{handed}
 use Rattle.state.specs.State.{idle, openChecks, opened}
 use Rattle.state.specs.Turns.{openTurn}
@@ -12,10 +11,10 @@ use Rattle.state.proofs.State.open.Statement.{statement}
 use Rattle.state.proofs.State.open.Tie as tie
 
 open-check-requires : tie.Need-open-check-requires
-open-check-requires c κs = search needs
+open-check-requires c κs = tt
 
 idle-requires : tie.Need-idle-requires
-idle-requires c κs = search needs
+idle-requires c κs = tt
 
 returns : tie.Need-returns
 unfolding openTurn
@@ -38,7 +37,7 @@ cast-t10 : tie.Need-cast-t10
 cast-t10 c = let s = c .before .before .before .before .before .before in omega (arith, open-small (handed (s .args .o)) (s .args .point) (c .before .before .before .before .before .open-check .result) (c .before .before .before .before .before .open-check .ensures) (c .before .before .before .before .if1 .left) .3)
 
 begun-requires : tie.Need-begun-requires
-begun-requires c κs = search needs
+begun-requires c κs = tt
 
 returns-2 : tie.Need-returns-2
 unfolding openTurn

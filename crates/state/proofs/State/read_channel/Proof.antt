@@ -2,7 +2,6 @@
 -- Assumes nothing.
 use mathlib.Core.Path.{refl}
 use native.Mathlib.Omega.{arith}
-use borrow.Author.Needs.{needs}
 use lib.Dec.{ltb→lt}
 use Rattle.network.specs.Network.{arcHeld}
 use Rattle.state.specs.State.{readChecks, withRead}
@@ -12,7 +11,7 @@ use Rattle.state.proofs.State.read_channel.Statement.{statement}
 use Rattle.state.proofs.State.read_channel.Tie as tie
 
 read-check-requires : tie.Need-read-check-requires
-read-check-requires c κs = search needs
+read-check-requires c κs = tt
 
 returns : tie.Need-returns
 unfolding readTurn

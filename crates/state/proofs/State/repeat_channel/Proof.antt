@@ -3,7 +3,6 @@
 use mathlib.Core.Path.{refl, _∙_, ap, ap₂}
 use mathlib.Core.Bool.{Bool, not, _&&_}
 use native.Mathlib.Omega.{arith}
-use borrow.Author.Needs.{needs}
 use Rattle.prelude.specs.Lists.{at}
 use Rattle.network.specs.Network.{loadHeld}
 use Rattle.network.specs.Certificate.{Ends}
@@ -14,7 +13,7 @@ use Rattle.state.proofs.State.repeat_channel.Statement.{statement}
 use Rattle.state.proofs.State.repeat_channel.Tie as tie
 
 repeat-check-requires : tie.Need-repeat-check-requires
-repeat-check-requires c κs = search needs
+repeat-check-requires c κs = tt
 
 returns : tie.Need-returns
 unfolding repeatTurn
@@ -25,13 +24,13 @@ returns c =
     (w .result) (arc-broken (s .self) (at (s .potentials .now)) (s .arc) (s .x) (w .result) (w .ensures) (c .if1 .taken)) (c .if1 .taken)
 
 ends-of-requires : tie.Need-ends-of-requires
-ends-of-requires c κs = search needs
+ends-of-requires c κs = tt
 
 row-of-requires : tie.Need-row-of-requires
-row-of-requires c κs = search needs
+row-of-requires c κs = tt
 
 load-check-requires : tie.Need-load-check-requires
-load-check-requires c κs = search needs
+load-check-requires c κs = tt
 
 returns-2 : tie.Need-returns-2
 unfolding repeatTurn
@@ -43,7 +42,7 @@ returns-2 c =
     turn-refused (s .self) (withRepeat (s .self) (loadHeld (s .arc) (s .x))) (repeatChecks (s .self) (at (s .potentials .now)) (loadHeld (s .arc) (s .x))) (refl, (refl, (refl, (refl, (refl, (refl, (refl, tt))))))) (l .result) found (c .if2 .taken)
 
 leads-out-requires : tie.Need-leads-out-requires
-leads-out-requires c κs = search needs
+leads-out-requires c κs = tt
 
 with-repeat-requires : tie.Need-with-repeat-requires
 with-repeat-requires c κs =

@@ -18,5 +18,5 @@ repeat-check-spec =
     (λ c. search needs)
     (λ c. search tested depth 12)
     (λ c. search tested depth 12)
-    (λ c κs. search needs)
+    (λ c κs. tt)
     (λ c. search tested depth 12))

@@ -19,13 +19,13 @@ cast-question-of : tie.Need-cast-question-of
 cast-question-of c = search needs
 
 question-of-requires : tie.Need-question-of-requires
-question-of-requires c κs = search needs
+question-of-requires c κs = tt
 
 with-arc-requires : tie.Need-with-arc-requires
 with-arc-requires c κs = search needs
 
 unit-cost-requires : tie.Need-unit-cost-requires
-unit-cost-requires c κs = search needs
+unit-cost-requires c κs = tt
 
 cost-after-requires : tie.Need-cost-after-requires
 cost-after-requires c κs =
@@ -33,10 +33,10 @@ cost-after-requires c κs =
     (rw (c .before .unit-cost .ensures, c .before .before .before .question-of .ensures) (cost-small (asks (settingHeld (s .args .self))) (arcHeld (s .args .arc)) (s .pre .1 .0)), s .pre .1 .1 .0)
 
 units-most-requires : tie.Need-units-most-requires
-units-most-requires c κs = search needs
+units-most-requires c κs = tt
 
 cut-after-requires : tie.Need-cut-after-requires
-cut-after-requires c κs = search needs
+cut-after-requires c κs = tt
 
 returns : tie.Need-returns
 returns c =

@@ -1,6 +1,5 @@
 -- `state::groups::begun` meets its contract.
 -- Assumes nothing.
-use borrow.Author.Needs.{needs}
 use Rattle.state.proofs.groups.begun.Statement.{statement}
 use Rattle.state.proofs.groups.begun.Tie as tie
 
@@ -8,7 +7,7 @@ pub begun-spec : {M : Type 1} → statement M
 begun-spec =
     tie.close
     (tie.spec
-    (λ c κs. search needs)
-    (λ c κs. search needs)
-    (λ c κs. search needs)
+    (λ c κs. tt)
+    (λ c κs. tt)
+    (λ c κs. tt)
     (λ c. rw (c .unrepeated .ensures, c .before .claimed .ensures, c .before .before .no-list .ensures)))

@@ -9,7 +9,6 @@ use mir.Facts.{toZ-ofZ}
 use Rattle.words.specs.Bounded.{boundedSum}
 use Rattle.words.proofs.Signs.{back}
 use Rattle.state.proofs.Laws.{product-fits}
-use borrow.Author.Needs.{needs}
 use Rattle.state.proofs.groups.cost_after.Statement.{statement}
 use Rattle.state.proofs.groups.cost_after.Tie as tie
 
@@ -18,5 +17,5 @@ cost-after-spec =
     tie.close
     (tie.spec
     (λ c. omega (arith, product-fits (c .args .x) (c .args .unit) (c .pre .0) (c .pre .1)))
-    (λ c κs. search needs)
+    (λ c κs. tt)
     (λ c. back w64 (c .increase .result) (c .increase .ok) ∙ c .increase .ensures ∙ ap (λ (z : ℤ). boundedSum z (pos (c .before .args .x * c .before .args .unit))) (toZ-ofZ (c .before .fits .cost))))

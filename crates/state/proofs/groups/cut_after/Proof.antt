@@ -11,7 +11,6 @@ use Rattle.prelude.specs.Choice.{indicator}
 use Rattle.words.specs.Bounded.{boundedSum}
 use Rattle.words.proofs.Signs.{back}
 use Rattle.state.proofs.Laws.{plus-zero}
-use borrow.Author.Needs.{needs}
 use Rattle.state.proofs.groups.cut_after.Statement.{statement}
 use Rattle.state.proofs.groups.cut_after.Tie as tie
 
@@ -19,7 +18,7 @@ pub cut-after-spec : {M : Type 1} → statement M
 cut-after-spec =
     tie.close
     (tie.spec
-    (λ c κs. search needs)
+    (λ c κs. tt)
     (λ c.
     let s = c .before .before in
     back w64 (c .increase .result) (c .increase .ok) ∙ c .increase .ensures

@@ -1,6 +1,5 @@
 -- `state::groups::no_list` meets its contract.
 -- Assumes nothing.
-use borrow.Author.Needs.{needs}
 use Rattle.state.proofs.groups.no_list.Statement.{statement}
 use Rattle.state.proofs.groups.no_list.Tie as tie
 
@@ -8,5 +7,5 @@ pub no-list-spec : {M : Type 1} → statement M
 no-list-spec =
     tie.close
     (tie.spec
-    (λ c κs. search needs)
+    (λ c κs. tt)
     (λ c. rw (c .no-arcs .ensures)))

@@ -1,6 +1,5 @@
 -- `state::groups::unrepeated` meets its contract.
 -- Assumes nothing.
-use borrow.Author.Needs.{needs}
 use Rattle.state.proofs.groups.unrepeated.Statement.{statement}
 use Rattle.state.proofs.groups.unrepeated.Tie as tie
 
@@ -8,5 +7,5 @@ pub unrepeated-spec : {M : Type 1} → statement M
 unrepeated-spec =
     tie.close
     (tie.spec
-    (λ c κs. search needs)
+    (λ c κs. tt)
     (λ c. rw (c .no-list .ensures)))

@@ -9,5 +9,5 @@ with-arc-spec =
     tie.close
     (tie.spec
     (λ c. search needs)
-    (λ c κs. search needs)
+    (λ c κs. tt)
     (λ c. rw (c .with-arc .ensures)))

@@ -8,7 +8,6 @@ use Rattle.points.specs.Points.{pointOk}
 use Rattle.checks.specs.Held.{handed}
 use Rattle.prelude.proofs.Tested.{tested}
 use Rattle.state.proofs.Laws.{broken-first, broken-later}
-use borrow.Author.Needs.{needs}
 use Rattle.state.proofs.refusals.open_check.Statement.{statement}
 use Rattle.state.proofs.refusals.open_check.Tie as tie
 
@@ -16,8 +15,8 @@ pub open-check-spec : {M : Type 1} → statement M
 open-check-spec =
     tie.close
     (tie.spec
-    (λ c κs. search needs)
+    (λ c κs. tt)
     (λ c. let s = c .before .before .args in let found = c .before .opening-check in broken-first (openingChecks (handed (s .o))) (4 unless pointOk (s .point) ∷ []) (refl, (refl, (refl, tt))) (found .result) (found .ensures) (c .if1 .taken))
-    (λ c κs. search needs)
+    (λ c κs. tt)
     (λ c. let s = c .before .before .before .before .args in let found = c .before .before .before .opening-check in broken-later (openingChecks (handed (s .o))) (4 unless pointOk (s .point) ∷ []) (refl, (refl, (refl, tt))) (found .result) (found .ensures) (c .before .before .if1 .left) 4 (search tested depth 12))
     (λ c. let s = c .before .before .before .before .args in let found = c .before .before .before .opening-check in broken-later (openingChecks (handed (s .o))) (4 unless pointOk (s .point) ∷ []) (refl, (refl, (refl, tt))) (found .result) (found .ensures) (c .before .before .if1 .left) 0 (search tested depth 12)))

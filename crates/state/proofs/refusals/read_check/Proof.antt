@@ -1,7 +1,6 @@
 -- `state::refusals::read_check` meets its contract.
 -- Assumes nothing.
-use borrow.Author.Needs.{needs}
-use Rattle.prelude.proofs.Tested.{tested}
+use borrow.Author.Tests.{eq-eqb, ne-eqb}
 use Rattle.state.proofs.refusals.read_check.Statement.{statement}
 use Rattle.state.proofs.refusals.read_check.Tie as tie
 
@@ -9,6 +8,6 @@ pub read-check-spec : {M : Type 1} → statement M
 read-check-spec =
     tie.close
     (tie.spec
-    (λ c. search tested depth 12)
-    (λ c κs. search needs)
-    (λ c. search tested depth 12))
+    (λ c. rw (ne-eqb _ _ (c .if1 .taken)))
+    (λ c κs. tt)
+    (λ c. rw (eq-eqb _ _ (c .before .if1 .left)) (c .reading-check .ensures)))
