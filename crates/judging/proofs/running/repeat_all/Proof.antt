@@ -1,15 +1,18 @@
 -- `judging::running::repeat_all` meets its contract. The loop's invariant: the loads below e were accepted and left the balances and y.
 -- Assumes nothing.
-use mathlib.Core.Path.{_∙_, ap, subst}
+use mathlib.Core.Path.{_≡_, _∙_, ap, subst}
 use mathlib.Core.List.{map}
 use Prim.Native.Nat.{ℕ, _-_}
 use native.Mathlib.Omega.{arith}
+use lib.IntN.{ℤ}
 use borrow.Author.Needs.{needs}
 use Rattle.prelude.specs.Lists.{at}
 use Rattle.network.specs.Network.{Load}
 use Rattle.session.specs.Session.{joined}
 use Rattle.vertex_arrays.specs.Arrays.{moved}
 use Rattle.state.specs.Turns.{repeatTurn}
+use Rattle.state.specs.declared.State.{State}
+use Rattle.state.specs.declared.Turn.{Turn}
 use Rattle.session.proofs.TurnsToSteps.{repeat-refused, repeat-accepted}
 use Rattle.runs.specs.Run.{repeat}
 use Rattle.prelude.specs.Lists.{listTo}
@@ -30,6 +33,10 @@ loop-holds c =
     let s = c .before .before .args in
     none-yet repeat (loadIn (s .n) (s .file .now)) (joined (s .potentials .now) (s .balances .now) (s .x)) (c .count .result)
 
+-- the turn of a load is that of an equal one
+same-turn : (x : State) (y : ℕ → ℤ) {u : Turn} {k l : Load} → u ≡ repeatTurn x y k → k ≡ l → u ≡ repeatTurn x y l
+same-turn x y e f = e ∙ ap (repeatTurn x y) f
+
 -- t is where the arc is repeated, l where the loop stands, k where the count is found, s where the arguments are
 returns : tie.Need-returns Inv-loop μ-loop
 returns c =
@@ -43,7 +50,7 @@ returns c =
     let y = joined ys (l .balances) (l .y) in
     subst (λ (m : ℕ). RunsTo x (map repeat (listTo m (loadIn (s .n) (s .file .now)))) (turn .result .why) (joined ys (l .balances) (turn .result .state))) (k .count .ensures)
     (one-refused repeat (loadIn (s .n) (s .file .now)) x (k .count .result) y (l .e) (l .inv) (t .before .before .loop-test .taken) (turn .result .why) _
-    (repeat-refused y (loadIn (s .n) (s .file .now) (l .e)) (turn .result) (turn .ensures ∙ ap (repeatTurn (l .y) (at ys)) (t .before .load .ensures)) (c .if1 .taken)) (c .if1 .taken))
+    (repeat-refused y (loadIn (s .n) (s .file .now) (l .e)) (turn .result) (same-turn (l .y) (at ys) (turn .ensures) (t .before .load .ensures)) (c .if1 .taken)) (c .if1 .taken))
 
 loop-again : tie.Need-loop-again Inv-loop μ-loop
 loop-again c =
@@ -56,7 +63,7 @@ loop-again c =
     let ys = s .potentials .now in
     let y = joined ys (l .balances) (l .y) in
     one-accepted repeat (loadIn (s .n) (s .file .now)) (joined ys (s .balances .now) (s .x)) (k .count .result) y (l .e) (l .inv) (t .before .before .loop-test .taken) _
-    (repeat-accepted y (loadIn (s .n) (s .file .now) (l .e)) (turn .result) (turn .ensures ∙ ap (repeatTurn (l .y) (at ys)) (found .ensures)) _
+    (repeat-accepted y (loadIn (s .n) (s .file .now) (l .e)) (turn .result) (same-turn (l .y) (at ys) (turn .ensures) (found .ensures)) _
     (c .before .move-amount .ensures ∙ ap (λ (b : Load). moved (l .balances) (b .arc .tail) (b .arc .head) (b .amount)) (found .ensures)) (c .before .before .before .if1 .left))
 
 returns-2 : tie.Need-returns-2 Inv-loop μ-loop
