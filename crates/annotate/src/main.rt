@@ -1,5 +1,5 @@
 // The annotating program: it reads plan.drn of the current folder, writes plan.dra for it, and prints one line.
-use plan_files::annotation_line;
+use plan_annotations::annotation_line;
 use program_io::front;
 
 fn main() {

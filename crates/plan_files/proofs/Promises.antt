@@ -1,4 +1,4 @@
--- What is promised of the judging and of the annotating program is kept.
+-- The promise of specs/Promises.antt, kept.
 -- Assumes nothing.
 use mathlib.Core.Path.{_≡_}
 use mathlib.Core.Bool.{Bool, true, false}
@@ -13,11 +13,9 @@ use Rattle.prelude.proofs.Settle.{settled-back}
 use Rattle.network.specs.Question.{Answer}
 use Rattle.state.specs.Answers.{Said, accepted, gives, refused}
 use Rattle.judging.specs.Judging.{judged, networkChecks, annotationChecks}
-use Rattle.plan_files.specs.Counted.{counted}
+use Rattle.program_io.specs.Counted.{counted}
 use Rattle.plan_files.specs.AnswerLine.{pointIn, programAnswer}
-use Rattle.plan_files.specs.AnnotationLine.{fileReply}
-use Rattle.plan_files.specs.Promises.{NeverAccepted, RoomEnough}
-use Rattle.plan_files.proofs.Room.{in-room}
+use Rattle.plan_files.specs.Promises.{NeverAccepted}
 
 refused-not : (k : ℕ) → refused k ≡ accepted → ⊥
 refused-not k e = let z : _≡_ {A = ℕ} 0 1 = cc in omega arith
@@ -36,7 +34,3 @@ never-accepted point net ann = go (leb 4 (length point))
     go : (whole : Bool) → pick whole (judged (counted net) (counted ann) (pointIn point)) (refused 4) ≡ accepted → ⊥
     go true e = settled-not (networkChecks (counted net) (pointIn point) ++ annotationChecks (counted net) (counted ann) (pointIn point)) _ e
     go false e = refused-not 4 e
-
-pub room-enough : RoomEnough
-unfolding fileReply
-room-enough net = in-room (counted net)

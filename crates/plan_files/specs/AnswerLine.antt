@@ -12,7 +12,7 @@ use Rattle.file_fields.specs.Bytes.{read32}
 use Rattle.judging.specs.Judging.{judged}
 use Rattle.io.specs.Counts.{Counts}
 use Rattle.program_io.specs.Line.{numberLine, refusedLine, LineIn}
-use Rattle.plan_files.specs.Counted.{counted}
+use Rattle.program_io.specs.Counted.{counted}
 use Rattle.plan_files.specs.declared.answer_line.Judged.{Judged}
 
 -- The point in the first four bytes, most significant first.

@@ -1,4 +1,2 @@
-pub mod Counted
 pub mod AnswerLine
-pub mod AnnotationLine
 pub mod Promises

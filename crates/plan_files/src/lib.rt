@@ -1,4 +1,2 @@
-// What the programs do with the files of a plan: the line of text for the bytes of the files, and for files that are named.
-pub mod annotation_line;
+// What the judging program does with the files of a plan: the line for the bytes of the files, and for files that are named.
 pub mod answer_line;
-mod counted;

@@ -1,7 +1,7 @@
 // The lines of the judging, the annotating and the drawing program, for files that are there, short, long, missing or no files.
 // The cases are lines of standard input, which says at its top how it is written.
 use file_fields::bytes::byte;
-use plan_files::annotation_line;
+use plan_annotations::annotation_line;
 use plan_files::answer_line;
 use program_io::front;
 use testing::numbers::plus;

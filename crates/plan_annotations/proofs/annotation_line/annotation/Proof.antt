@@ -6,9 +6,9 @@ use Prim.Native.Nat.{ℕ}
 use borrow.Author.Needs.{needs}
 use lib.ListN.{length}
 use Rattle.helper.specs.Helper.{helperSaid, annotated, BufferAfter}
-use Rattle.plan_files.specs.AnnotationLine.{fileReply}
-use Rattle.plan_files.proofs.annotation_line.annotation.Statement.{statement}
-use Rattle.plan_files.proofs.annotation_line.annotation.Tie as tie
+use Rattle.plan_annotations.specs.AnnotationLine.{fileReply}
+use Rattle.plan_annotations.proofs.annotation_line.annotation.Statement.{statement}
+use Rattle.plan_annotations.proofs.annotation_line.annotation.Tie as tie
 
 returns : tie.Need-returns
 unfolding fileReply

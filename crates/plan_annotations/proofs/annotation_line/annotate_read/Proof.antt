@@ -8,11 +8,11 @@ use borrow.Author.Needs.{needs}
 use lib.ListN.{length, take}
 use Rattle.program_io.proofs.Lines.{same-in}
 use Rattle.helper.specs.Helper.{HelperSaid, helperSaid, BufferAfter}
-use Rattle.plan_files.specs.Counted.{counted}
-use Rattle.plan_files.specs.AnnotationLine.{replyLine}
-use Rattle.plan_files.proofs.Room.{within-reply}
-use Rattle.plan_files.proofs.annotation_line.annotate_read.Statement.{statement}
-use Rattle.plan_files.proofs.annotation_line.annotate_read.Tie as tie
+use Rattle.program_io.specs.Counted.{counted}
+use Rattle.plan_annotations.specs.AnnotationLine.{replyLine}
+use Rattle.plan_annotations.proofs.Room.{within-reply}
+use Rattle.plan_annotations.proofs.annotation_line.annotate_read.Statement.{statement}
+use Rattle.plan_annotations.proofs.annotation_line.annotate_read.Tie as tie
 
 save-reply-requires : tie.Need-save-reply-requires
 save-reply-requires c κs =

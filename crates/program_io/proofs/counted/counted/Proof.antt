@@ -5,8 +5,8 @@ use native.Mathlib.Omega.{arith}
 use lib.ListN.{length}
 use lib.Seq.{take-all, take-length}
 use Rattle.io.proofs.Counting.{counts}
-use Rattle.plan_files.proofs.counted.counted.Statement.{statement}
-use Rattle.plan_files.proofs.counted.counted.Tie as tie
+use Rattle.program_io.proofs.counted.counted.Statement.{statement}
+use Rattle.program_io.proofs.counted.counted.Tie as tie
 
 returns : tie.Need-returns
 returns c =

@@ -9,9 +9,9 @@ use Rattle.program_io.specs.Line.{LineIn}
 use Rattle.program_io.proofs.Lines.{same-in}
 use Rattle.helper.specs.Helper.{helperSaid}
 use Rattle.helper.specs.declared.Written.{Written}
-use Rattle.plan_files.specs.AnnotationLine.{replyLine}
-use Rattle.plan_files.proofs.annotation_line.line_for.Statement.{statement}
-use Rattle.plan_files.proofs.annotation_line.line_for.Tie as tie
+use Rattle.plan_annotations.specs.AnnotationLine.{replyLine}
+use Rattle.plan_annotations.proofs.annotation_line.line_for.Statement.{statement}
+use Rattle.plan_annotations.proofs.annotation_line.line_for.Tie as tie
 
 same-line : {a b : Written} (done : Bool) (before : List ℕ) (r : ℕ) (after : List ℕ) → a ≡ b → LineIn (replyLine (helperSaid b) done) before r after → LineIn (replyLine (helperSaid a) done) before r after
 same-line done before r after e w = same-in before r after (ap (λ (a : Written). replyLine (helperSaid a) done) (sym e)) w

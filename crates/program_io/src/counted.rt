@@ -2,7 +2,7 @@
 ghost use mathlib.Core.Path.{_≡_};
 ghost use lib.ListN.{take};
 ghost use Rattle.io.specs.Counts.{Counts};
-ghost use Rattle.plan_files.specs.Counted.{counted as inRoom};
+ghost use Rattle.program_io.specs.Counted.{counted as inRoom};
 
 // How many bytes of the file count.
 pub fn counted(file: &[u8]) -> usize

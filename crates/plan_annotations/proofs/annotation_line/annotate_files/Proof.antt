@@ -5,9 +5,9 @@ use Prim.Native.Nat.{ℕ}
 use native.Mathlib.Omega.{arith}
 use borrow.Author.Needs.{needs}
 use lib.ListN.{length}
-use Rattle.plan_files.specs.AnnotationLine.{AnnotatedFiles}
-use Rattle.plan_files.proofs.annotation_line.annotate_files.Statement.{statement}
-use Rattle.plan_files.proofs.annotation_line.annotate_files.Tie as tie
+use Rattle.plan_annotations.specs.AnnotationLine.{AnnotatedFiles}
+use Rattle.plan_annotations.proofs.annotation_line.annotate_files.Statement.{statement}
+use Rattle.plan_annotations.proofs.annotation_line.annotate_files.Tie as tie
 
 returns : tie.Need-returns
 returns c =

@@ -16,8 +16,8 @@ use Rattle.prelude.proofs.Lists.{listTo-length}
 use Rattle.acceptance.specs.Acceptance.{acceptanceChecks, AcceptedFile}
 use Rattle.acceptance.proofs.AcceptedFiles.{file-opened, file-few}
 use Rattle.helper.specs.Helper.{HelperSaid, wrote, declined, annotateChecks, annotated, sizeFor}
-use Rattle.plan_files.specs.Counted.{counted}
-use Rattle.plan_files.specs.AnnotationLine.{sizeOf, fileReply}
+use Rattle.program_io.specs.Counted.{counted}
+use Rattle.plan_annotations.specs.AnnotationLine.{sizeOf, fileReply}
 
 -- at most 8 + 4 * 255 + 6 * 4096 bytes
 small : (net : List ℕ) → AcceptedFile net → sizeFor net ≤ 25604

@@ -6,9 +6,9 @@ use borrow.Author.Needs.{needs}
 use Rattle.io.proofs.Counting.{front}
 use Rattle.helper.specs.Helper.{helperSaid}
 use Rattle.helper.specs.declared.Written.{Written}
-use Rattle.plan_files.specs.AnnotationLine.{sizeOf}
-use Rattle.plan_files.proofs.annotation_line.save_reply.Statement.{statement}
-use Rattle.plan_files.proofs.annotation_line.save_reply.Tie as tie
+use Rattle.plan_annotations.specs.AnnotationLine.{sizeOf}
+use Rattle.plan_annotations.proofs.annotation_line.save_reply.Statement.{statement}
+use Rattle.plan_annotations.proofs.annotation_line.save_reply.Tie as tie
 
 slice-aggregate-save : tie.Need-slice-aggregate-save
 slice-aggregate-save c =

@@ -7,8 +7,8 @@ use lib.ListN.{take}
 use Rattle.io.specs.Counts.{Counts}
 use Rattle.program_io.specs.Line.{savedLine, refusedLine, LineIn}
 use Rattle.helper.specs.Helper.{HelperSaid, wrote, declined, annotated, BufferAfter}
-use Rattle.plan_files.specs.Counted.{counted}
-use Rattle.plan_files.specs.declared.annotation_line.Annotated.{Annotated}
+use Rattle.program_io.specs.Counted.{counted}
+use Rattle.plan_annotations.specs.declared.annotation_line.Annotated.{Annotated}
 
 -- The helper's reply for what counts of a network file, in a buffer of so many bytes.
 unfoldable pub fileReply : List ℕ → ℕ → HelperSaid

@@ -1,0 +1,2 @@
+pub mod AnnotationLine
+pub mod Promises
