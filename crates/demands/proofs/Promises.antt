@@ -30,7 +30,8 @@ use Rattle.acceptance.specs.Acceptance.{acceptanceChecks, AcceptedFile}
 use Rattle.acceptance.proofs.AcceptedFiles.{file-opened, file-allowed}
 use Rattle.judging.specs.Judging.{judged}
 use Rattle.judging.proofs.Promises.{judged-by-steps, certificates-judged}
-use Rattle.helper.specs.Helper.{HelperSaid, wrote, declined, sizeFor, annotateChecks, Annotation, BufferAfter}
+use Rattle.format.specs.Replies.{WriterSaid, wrote, declined}
+use Rattle.helper.specs.Helper.{sizeFor, annotateChecks, Annotation, BufferAfter}
 use Rattle.demands.specs.Promises.{JudgedTruly, HelperServes}
 
 -- ---- the fields are wide enough for what meets the rules
@@ -123,4 +124,4 @@ helper-serves net before after reply h room e held =
         (hold-append (acceptanceChecks net) (20 unless leb (sizeFor net) (length before) ∷ []) h (le→leb (sizeFor net) (length before) room, tt))
 
     found : Annotation net (take (sizeFor net) after)
-    found = subst (λ (d : HelperSaid). BufferAfter d net before after) wrote-size held .annotation
+    found = subst (λ (d : WriterSaid). BufferAfter d net before after) wrote-size held .annotation

@@ -1,6 +1,6 @@
 // Calls of judging and of the helper on the two files, and what comes of each as one number.
 use super::files::Sizes;
-use helper::Written;
+use format::Written;
 use points::Point;
 use response_codes::code;
 use testing::answers::ACCEPTED;

@@ -6,3 +6,4 @@ pub mod Layouts
 pub mod Records
 pub mod Codings
 pub mod Promises
+pub mod LentRests

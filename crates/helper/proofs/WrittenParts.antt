@@ -1,21 +1,20 @@
--- The parts of a file that are written: records one after the other from the front of a part, and a part that is lent on. Records that are gathered.
+-- The parts of a file that are written: records one after the other from the front of a part. Records that are gathered.
 -- Assumes nothing.
 use mathlib.Core.Path.{_≡_, refl, sym, _∙_, ap}
 use mathlib.Core.List.{List, [], _∷_, _++_, flatMap, append-nil}
-use Prim.Native.Nat.{ℕ, zero, suc, _+_, _-_, _*_, _≤_, _<_}
+use Prim.Native.Nat.{ℕ, zero, suc, _+_, _*_, _≤_, _<_}
 use native.Mathlib.Nat.{zero-add}
 use native.Mathlib.Numerals.{add-one}
 use native.Mathlib.Omega.{arith}
 use lib.IntN.{ℤ, pos}
-use lib.ListN.{length, getD, set, take, drop, length-map, length-drop, drop-of-length-le, List·getD-map}
+use lib.ListN.{length, getD, take, length-map, List·getD-map}
 use lib.Seq.{sets, length-sets, take-length}
-use borrow.Rule.Slice.PartMut.{midOf, postOf, putMid}
 use Rattle.prelude.specs.Lists.{at, listTo}
 use Rattle.prelude.proofs.Lists.{listTo-length, listTo-take}
 use Rattle.network.specs.Network.{Arc, Load, wordArc, wordArcs, wordLoad, loadsOf}
 use Rattle.solver.proofs.ColumnsAndLoads.{loads-arcs}
 use Rattle.file_fields.specs.Bytes.{byte32, readSigned}
-use Rattle.file_fields.proofs.Writing.{sets-past, then-sets}
+use Rattle.file_fields.proofs.Writing.{then-sets}
 use Rattle.format.specs.Files.{loadBytes, loadAt}
 use Rattle.format.specs.Promises.{Signed32, LoadFits}
 use Rattle.format.proofs.Records.{Coding, flat-append, flat-length}
@@ -90,32 +89,6 @@ pub loads-listed : (rs xs : List ℕ) → length rs ≡ length xs → listTo (le
 loads-listed rs xs same =
     listed (wordLoad 0 0) (loadsOf (wordArcs rs) xs) (loadAmong rs xs) (length xs) (loads-length (wordArcs rs) xs ∙ length-map rs wordArc ∙ same)
     (λ e h. load-at rs xs e (omega arith))
-
--- ---- a part that is lent on
-
-sets-shift : (x : ℕ) (l : List ℕ) (i : ℕ) (vs : List ℕ) → sets (x ∷ l) (suc i) vs ≡ x ∷ sets l i vs
-sets-shift x l i [] = refl
-sets-shift x l i (v ∷ vs) = sets-shift x (set l i v) (suc i) vs
-
--- what is written into the part from k on is written there into the whole
-pub sets-part : (l : List ℕ) (k : ℕ) (vs : List ℕ) → take k l ++ sets (drop k l) 0 vs ≡ sets l k vs
-sets-part l zero vs = refl
-sets-part [] (suc k) vs = sym (sets-past [] 0 vs (omega arith)) ∙ sets-past [] (suc k) vs (omega arith)
-sets-part (x ∷ l) (suc k) vs = ap (λ (r : List ℕ). x ∷ r) (sets-part l k vs) ∙ sym (sets-shift x l k vs)
-
--- the rest of a list from a on, lent, and back with vs in it
-pub put-rest : (a : ℕ) (l vs : List ℕ) {ys : List ℕ} → ys ≡ sets (midOf a (length l - a) l) 0 vs → putMid a (length l - a) l ys ≡ sets l a vs
-put-rest a l vs {ys} e =
-    let all : midOf a (length l - a) l ≡ drop a l = ap (λ (k : ℕ). take k (drop a l)) (sym (length-drop a l)) ∙ take-length (drop a l) in
-    let none : postOf a (length l - a) l ≡ [] = drop-of-length-le (drop a l) {i = length l - a} (omega (arith, length-drop a l)) in
-    ap (λ (r : List ℕ). take a l ++ (ys ++ r)) none
-    ∙ ap (λ (r : List ℕ). take a l ++ r) (append-nil ys ∙ e ∙ ap (λ (r : List ℕ). sets r 0 vs) all)
-    ∙ sets-part l a vs
-
--- vs written from the front, then ws into the rest that is lent
-pub front-and-rest : (l vs ws : List ℕ) (a : ℕ) {m ys : List ℕ} → m ≡ sets l 0 vs → a ≡ length vs → ys ≡ sets (midOf a (length m - a) m) 0 ws
-    → putMid a (length m - a) m ys ≡ sets l 0 (vs ++ ws)
-front-and-rest l vs ws a {m} e n q = then-sets l 0 vs ws a e (n ∙ sym (zero-add (length vs))) (put-rest a m ws q)
 
 pub numbers-length : (ys : List ℤ) → 4 * length ys ≡ length (flatMap byte32 ys)
 numbers-length ys = sym (flat-length byte32 readSigned 4 Signed32 numbers-coded ys)

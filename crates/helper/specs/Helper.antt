@@ -13,20 +13,9 @@ use Rattle.network.specs.Question.{asks, Answer}
 use Rattle.network.specs.Certificate.{claimFor, Certified}
 use Rattle.network.specs.Tests.{claimNumber}
 use Rattle.format.specs.Files.{settingIn, nIn, countIn, arcsIn, annotationFile, annotationSize}
+use Rattle.format.specs.Replies.{WriterSaid, wrote, declined}
 use Rattle.acceptance.specs.Acceptance.{acceptanceChecks}
 use Rattle.solver.specs.Certify.{LengthsFor}
-use Rattle.helper.specs.declared.Written.{Written}
-use Rattle.helper.specs.declared.Written.the-variants.{Length, Refused}
-
--- The helper's reply: how many bytes it wrote, or the number of a refusal.
-pub data HelperSaid : Type 0 where
-  wrote : ℕ → HelperSaid
-  declined : ℕ → HelperSaid
-
--- What a reply of the code says.
-abbrev pub helperSaid : Written → HelperSaid
-helperSaid (Length k) = wrote k
-helperSaid (Refused k) = declined k
 
 -- The length of the annotation of a network file (PANEL 7).
 abbrev pub sizeFor : List ℕ → ℕ
@@ -37,7 +26,7 @@ abbrev pub annotateChecks : List ℕ → ℕ → List Check
 annotateChecks net room = acceptanceChecks net ++ (20 unless leb (sizeFor net) room ∷ [])
 
 -- The reply (PANEL 9): the first refusal, or the length.
-abbrev pub annotated : List ℕ → ℕ → HelperSaid
+abbrev pub annotated : List ℕ → ℕ → WriterSaid
 annotated net room = settle declined (annotateChecks net room) (wrote (sizeFor net))
 
 -- The bytes are an annotation (PANEL 9): a certificate of some answer, over the file's records in their order. The node numbers of a route are the least lengths.
@@ -57,6 +46,6 @@ pub record AnnotationIn (net before after : List ℕ) : Type 0 where
   pub beyond : drop (sizeFor net) after ≡ drop (sizeFor net) before
 
 -- What the buffer holds afterwards (PANEL 9): the annotation, or after a refusal what it held before.
-abbrev pub BufferAfter : HelperSaid → List ℕ → List ℕ → List ℕ → Type 0
+abbrev pub BufferAfter : WriterSaid → List ℕ → List ℕ → List ℕ → Type 0
 BufferAfter (declined k) net before after = after ≡ before
 BufferAfter (wrote k) net before after = AnnotationIn net before after

@@ -3,7 +3,7 @@
 use Prim.Native.Nat.{ℕ, _+_}
 use Rattle.network.specs.Question.{value, none}
 use Rattle.state.specs.Answers.{Said, accepted, gives, refused}
-use Rattle.helper.specs.Helper.{HelperSaid, wrote, declined}
+use Rattle.format.specs.Replies.{WriterSaid, wrote, declined}
 
 -- The value as it is, 4294967296 for none, that plus k for the refusal k. Judging never says that it accepts.
 abbrev pub saidCode : Said → ℕ
@@ -13,6 +13,6 @@ saidCode (refused k) = 4294967296 + k
 saidCode accepted = 4294967296 + 256
 
 -- The length, or 4294967296 plus k.
-abbrev pub replyCode : HelperSaid → ℕ
+abbrev pub replyCode : WriterSaid → ℕ
 replyCode (wrote k) = k
 replyCode (declined k) = 4294967296 + k

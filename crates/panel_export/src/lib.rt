@@ -3,9 +3,10 @@ ghost use mathlib.Core.Path.{_≡_};
 ghost use lib.ListN.{length};
 ghost use Rattle.state.specs.Answers.{said};
 ghost use Rattle.judging.specs.Judging.{judged};
-ghost use Rattle.helper.specs.Helper.{helperSaid, annotated, BufferAfter};
+ghost use Rattle.format.specs.Replies.{writerSaid};
+ghost use Rattle.helper.specs.Helper.{annotated, BufferAfter};
 ghost use Rattle.panel_export.specs.Codes.{saidCode, replyCode};
-use helper::Written;
+use format::Written;
 use points::Point;
 use state::Response;
 
@@ -23,7 +24,7 @@ fn answer_code(answer: Response) -> u64
 
 // A reply of the helper as one number: the length, or 4294967296 plus k for the refusal k.
 fn written_code(written: Written) -> u64
-    ensures { λ r. ⌜ r ≡ replyCode (helperSaid written) ⌝ }
+    ensures { λ r. ⌜ r ≡ replyCode (writerSaid written) ⌝ }
 {
     match written {
         Written::Length(k) => k as u64,

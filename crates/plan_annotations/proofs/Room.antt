@@ -15,7 +15,8 @@ use Rattle.format.specs.Files.{countIn, arcIn}
 use Rattle.prelude.proofs.Lists.{listTo-length}
 use Rattle.acceptance.specs.Acceptance.{acceptanceChecks, AcceptedFile}
 use Rattle.acceptance.proofs.AcceptedFiles.{file-opened, file-few}
-use Rattle.helper.specs.Helper.{HelperSaid, wrote, declined, annotateChecks, annotated, sizeFor}
+use Rattle.format.specs.Replies.{WriterSaid, wrote, declined}
+use Rattle.helper.specs.Helper.{annotateChecks, annotated, sizeFor}
 use Rattle.program_io.specs.Counted.{counted}
 use Rattle.plan_annotations.specs.AnnotationLine.{sizeOf, fileReply}
 
@@ -36,13 +37,13 @@ wrote-held cs s k e =
     (u .0, cc)
 
 -- the bytes that are to be saved lie in the room
-within : (net : List ℕ) (room : ℕ) (reply : HelperSaid) → reply ≡ annotated net room → sizeOf reply ≤ room
+within : (net : List ℕ) (room : ℕ) (reply : WriterSaid) → reply ≡ annotated net room → sizeOf reply ≤ room
 within net room (declined k) e = omega arith
 within net room (wrote k) e =
     let u = wrote-held (annotateChecks net room) (sizeFor net) k e in
     let h : sizeFor net ≤ room = leb-true (sizeFor net) room (T→true _ (hold-right (acceptanceChecks net) (20 unless leb (sizeFor net) room ∷ []) (u .0) .0)) in
     omega (arith, u .1)
 
-pub within-reply : (net : List ℕ) (room : ℕ) (reply : HelperSaid) → reply ≡ fileReply net room → sizeOf reply ≤ room
+pub within-reply : (net : List ℕ) (room : ℕ) (reply : WriterSaid) → reply ≡ fileReply net room → sizeOf reply ≤ room
 unfolding fileReply
 within-reply net room reply e = within (counted net) room reply e

@@ -5,7 +5,8 @@ use mathlib.Core.List.{List}
 use Prim.Native.Nat.{ℕ}
 use Rattle.prelude.specs.Checks.{settle}
 use Rattle.acceptance.specs.Acceptance.{acceptanceChecks}
-use Rattle.helper.specs.Helper.{wrote, declined, sizeFor}
+use Rattle.format.specs.Replies.{wrote, declined}
+use Rattle.helper.specs.Helper.{sizeFor}
 use Rattle.program_io.specs.Counted.{counted}
 use Rattle.plan_annotations.specs.AnnotationLine.{fileReply}
 

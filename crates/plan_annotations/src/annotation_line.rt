@@ -4,10 +4,11 @@ ghost use Prim.Native.Nat.{_≤_};
 ghost use lib.ListN.{length};
 ghost use Rattle.io.specs.Counts.{Counts};
 ghost use Rattle.program_io.specs.Line.{LineIn};
-ghost use Rattle.helper.specs.Helper.{helperSaid, BufferAfter};
+ghost use Rattle.format.specs.Replies.{writerSaid};
+ghost use Rattle.helper.specs.Helper.{BufferAfter};
 ghost use Rattle.program_io.specs.Counted.{counted as inRoom};
 ghost use Rattle.plan_annotations.specs.AnnotationLine.{fileReply, sizeOf, replyLine, AnnotatedFiles};
-use helper::Written;
+use format::Written;
 use program_io::counted::counted;
 use program_io::front::read_front;
 use program_io::line;
@@ -15,8 +16,8 @@ use program_io::saving;
 
 // The annotation for what counts of a network file, in the buffer.
 fn annotation(net: &[u8], ann: &mut [u8]) -> Written
-    ensures { λ r. ⌜ helperSaid r ≡ fileReply (now (net .entry)) (length (now (ann .entry))) ⌝ }
-    ensures { λ r. ⌜ BufferAfter (helperSaid r) (inRoom (now (net .entry))) (now (ann .entry)) (now (ann .exit)) ⌝ }
+    ensures { λ r. ⌜ writerSaid r ≡ fileReply (now (net .entry)) (length (now (ann .entry))) ⌝ }
+    ensures { λ r. ⌜ BufferAfter (writerSaid r) (inRoom (now (net .entry))) (now (ann .entry)) (now (ann .exit)) ⌝ }
 {
     let n = counted(net);
     helper::annotate(&net[..n], ann)
@@ -24,7 +25,7 @@ fn annotation(net: &[u8], ann: &mut [u8]) -> Written
 
 // Saves the annotation that the reply tells of, at the front of the buffer, and answers whether it is in its file. A refusal touches no file.
 fn save_reply(name: &[u8], reply: Written, ann: &[u8]) -> bool
-    requires { ⌜ sizeOf (helperSaid reply) ≤ length (now ann) ⌝ }
+    requires { ⌜ sizeOf (writerSaid reply) ≤ length (now ann) ⌝ }
 {
     match reply {
         Written::Length(size) => {
@@ -38,7 +39,7 @@ fn save_reply(name: &[u8], reply: Written, ann: &[u8]) -> bool
 // The line for a reply whose annotation was saved or not, and how long it is.
 fn line_for(reply: Written, done: bool, text: &mut [u8; 32]) -> usize
     ensures { λ r. ⌜ Counts r (now (text .exit)) ⌝ }
-    ensures { λ r. ⌜ LineIn (replyLine (helperSaid reply) done) (now (text .entry)) r (now (text .exit)) ⌝ }
+    ensures { λ r. ⌜ LineIn (replyLine (writerSaid reply) done) (now (text .entry)) r (now (text .exit)) ⌝ }
 {
     match reply {
         Written::Length(size) => line::saved(size, done, text),

@@ -1,7 +1,7 @@
 // The file of a network, and what the helper makes of it.
 use super::places::annotation_size;
 use super::places::network_size;
-use helper::Written;
+use format::Written;
 use reference::instances::Net;
 use reference::rows::Rows;
 use reference::rows::record;

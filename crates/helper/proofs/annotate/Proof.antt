@@ -13,7 +13,8 @@ use Rattle.prelude.proofs.Settle.{part-refused, part-passed}
 use Rattle.format.specs.Files.{nIn, countIn}
 use Rattle.acceptance.specs.Acceptance.{acceptanceChecks}
 use Rattle.acceptance.proofs.AcceptedFiles.{acceptance-numbered, accepted-by}
-use Rattle.helper.specs.Helper.{HelperSaid, wrote, declined, sizeFor, annotated}
+use Rattle.format.specs.Replies.{WriterSaid, wrote, declined}
+use Rattle.helper.specs.Helper.{sizeFor, annotated}
 use Rattle.helper.proofs.annotate.Statement.{statement}
 use Rattle.helper.proofs.annotate.Tie as tie
 
@@ -22,7 +23,7 @@ module _ (net : List ℕ) (why : ℕ) (found : why ≡ firstBroken (acceptanceCh
   at-checks room = part-refused declined (acceptanceChecks net) (20 unless leb (sizeFor net) room ∷ []) (wrote (sizeFor net)) (acceptance-numbered net) why found
 
   module _ (fine : why ≡ 0) where
-    past-checks : (room : ℕ) (r : HelperSaid) → r ≡ pick (leb (sizeFor net) room) (wrote (sizeFor net)) (declined 20) → r ≡ annotated net room
+    past-checks : (room : ℕ) (r : WriterSaid) → r ≡ pick (leb (sizeFor net) room) (wrote (sizeFor net)) (declined 20) → r ≡ annotated net room
     past-checks room = part-passed declined (acceptanceChecks net) (20 unless leb (sizeFor net) room ∷ []) (wrote (sizeFor net)) (acceptance-numbered net) why found fine
 
     module _ (n m : ℕ) (en : n ≡ nIn net) (em : m ≡ countIn net) where

@@ -2,8 +2,8 @@
 -- Assumes nothing.
 use mathlib.Core.Path.{sym, ap}
 use borrow.Author.Needs.{needs}
-use Rattle.helper.specs.Helper.{helperSaid}
-use Rattle.helper.specs.declared.Written.{Written}
+use Rattle.format.specs.Replies.{writerSaid}
+use Rattle.format.specs.declared.Written.{Written}
 use Rattle.panel_export.specs.Codes.{replyCode}
 use Rattle.panel_export.proofs.written_code.Statement.{statement}
 use Rattle.panel_export.proofs.written_code.Tie as tie
@@ -18,4 +18,4 @@ written-code-spec =
     (λ c. search needs)
     (λ c. search needs)
     (λ c. search needs)
-    (λ c. sym (ap (λ (a : Written). replyCode (helperSaid a)) (c .before .written2 .given .1))))
+    (λ c. sym (ap (λ (a : Written). replyCode (writerSaid a)) (c .before .written2 .given .1))))

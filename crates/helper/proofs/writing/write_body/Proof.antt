@@ -7,7 +7,8 @@ use borrow.Author.Needs.{needs}
 use Rattle.network.specs.Network.{wordArcs, loadsOf}
 use Rattle.file_fields.specs.Bytes.{byte32}
 use Rattle.format.specs.Files.{loadBytes}
-use Rattle.helper.proofs.WrittenParts.{front-and-rest, numbers-length}
+use Rattle.format.proofs.LentRests.{front-and-rest}
+use Rattle.helper.proofs.WrittenParts.{numbers-length}
 use Rattle.helper.proofs.writing.write_body.Statement.{statement}
 use Rattle.helper.proofs.writing.write_body.Tie as tie
 

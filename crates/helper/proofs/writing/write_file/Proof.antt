@@ -6,7 +6,7 @@ use borrow.Author.Needs.{needs}
 use Rattle.network.specs.Network.{wordArcs, loadsOf}
 use Rattle.file_fields.specs.Bytes.{byte32}
 use Rattle.format.specs.Files.{annotationHeader, loadBytes}
-use Rattle.helper.proofs.WrittenParts.{front-and-rest}
+use Rattle.format.proofs.LentRests.{front-and-rest}
 use Rattle.helper.proofs.writing.write_file.Statement.{statement}
 use Rattle.helper.proofs.writing.write_file.Tie as tie
 

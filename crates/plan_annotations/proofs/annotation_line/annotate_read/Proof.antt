@@ -7,7 +7,8 @@ use native.Mathlib.Omega.{arith}
 use borrow.Author.Needs.{needs}
 use lib.ListN.{length, take}
 use Rattle.program_io.proofs.Lines.{same-in}
-use Rattle.helper.specs.Helper.{HelperSaid, helperSaid, BufferAfter}
+use Rattle.format.specs.Replies.{WriterSaid, writerSaid}
+use Rattle.helper.specs.Helper.{BufferAfter}
 use Rattle.program_io.specs.Counted.{counted}
 use Rattle.plan_annotations.specs.AnnotationLine.{replyLine}
 use Rattle.plan_annotations.proofs.Room.{within-reply}
@@ -18,7 +19,7 @@ save-reply-requires : tie.Need-save-reply-requires
 save-reply-requires c κs =
     let args = c .before .before .before .before .before .before .before .before .before .before .before .before .before .before .args in
     let reply = c .before .before .before .annotation in
-    omega (arith, within-reply _ (length (args .ann .now)) (helperSaid (reply .result)) (reply .ensures .0), reply .kept .1 .0)
+    omega (arith, within-reply _ (length (args .ann .now)) (writerSaid (reply .result)) (reply .ensures .0), reply .kept .1 .0)
 
 returns : tie.Need-returns
 returns c =
@@ -28,9 +29,9 @@ returns c =
     let net : List ℕ = take (read .result) (read .last .1 .0) in
     record {
       net-read = read .ensures;
-      annotation-is = subst (λ (s : HelperSaid). BufferAfter s (counted net) (args .ann .now) (reply .last .1 .0)) (reply .ensures .0) (reply .ensures .1);
+      annotation-is = subst (λ (s : WriterSaid). BufferAfter s (counted net) (args .ann .now) (reply .last .1 .0)) (reply .ensures .0) (reply .ensures .1);
       line-made = c .line-for .ensures .0;
-      line-is = same-in _ _ _ (ap (λ (s : HelperSaid). replyLine s (c .before .before .save-reply .result)) (reply .ensures .0)) (c .line-for .ensures .1);
+      line-is = same-in _ _ _ (ap (λ (s : WriterSaid). replyLine s (c .before .before .save-reply .result)) (reply .ensures .0)) (c .line-for .ensures .1);
     }
 
 pub annotate-read-spec : {M : Type 1} → statement M

@@ -5,7 +5,8 @@ use mathlib.Core.List.{List}
 use Prim.Native.Nat.{ℕ}
 use borrow.Author.Needs.{needs}
 use lib.ListN.{length}
-use Rattle.helper.specs.Helper.{helperSaid, annotated, BufferAfter}
+use Rattle.format.specs.Replies.{writerSaid}
+use Rattle.helper.specs.Helper.{annotated, BufferAfter}
 use Rattle.plan_annotations.specs.AnnotationLine.{fileReply}
 use Rattle.plan_annotations.proofs.annotation_line.annotation.Statement.{statement}
 use Rattle.plan_annotations.proofs.annotation_line.annotation.Tie as tie
@@ -17,7 +18,7 @@ returns c =
     let reply = c .before .before .annotate in
     let counted = c .before .before .before .before .before .counted in
     subst
-    (λ (net : List ℕ). (helperSaid (reply .result) ≡ annotated net (length (args .ann .now))) × BufferAfter (helperSaid (reply .result)) net (args .ann .now) (reply .last .1 .0))
+    (λ (net : List ℕ). (writerSaid (reply .result) ≡ annotated net (length (args .ann .now))) × BufferAfter (writerSaid (reply .result)) net (args .ann .now) (reply .last .1 .0))
     (counted .ensures .1)
     (reply .ensures)
 

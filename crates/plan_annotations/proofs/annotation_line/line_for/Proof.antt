@@ -7,14 +7,14 @@ use Prim.Native.Nat.{ℕ}
 use borrow.Author.Needs.{needs}
 use Rattle.program_io.specs.Line.{LineIn}
 use Rattle.program_io.proofs.Lines.{same-in}
-use Rattle.helper.specs.Helper.{helperSaid}
-use Rattle.helper.specs.declared.Written.{Written}
+use Rattle.format.specs.Replies.{writerSaid}
+use Rattle.format.specs.declared.Written.{Written}
 use Rattle.plan_annotations.specs.AnnotationLine.{replyLine}
 use Rattle.plan_annotations.proofs.annotation_line.line_for.Statement.{statement}
 use Rattle.plan_annotations.proofs.annotation_line.line_for.Tie as tie
 
-same-line : {a b : Written} (done : Bool) (before : List ℕ) (r : ℕ) (after : List ℕ) → a ≡ b → LineIn (replyLine (helperSaid b) done) before r after → LineIn (replyLine (helperSaid a) done) before r after
-same-line done before r after e w = same-in before r after (ap (λ (a : Written). replyLine (helperSaid a) done) (sym e)) w
+same-line : {a b : Written} (done : Bool) (before : List ℕ) (r : ℕ) (after : List ℕ) → a ≡ b → LineIn (replyLine (writerSaid b) done) before r after → LineIn (replyLine (writerSaid a) done) before r after
+same-line done before r after e w = same-in before r after (ap (λ (a : Written). replyLine (writerSaid a) done) (sym e)) w
 
 returns : tie.Need-returns
 returns c = (c .saved .ensures .0, same-line _ _ _ _ (c .before .before .before .reply .given .1) (c .saved .ensures .1))

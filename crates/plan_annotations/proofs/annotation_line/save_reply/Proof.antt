@@ -4,8 +4,8 @@ use mathlib.Core.Path.{ap}
 use native.Mathlib.Omega.{arith}
 use borrow.Author.Needs.{needs}
 use Rattle.io.proofs.Counting.{front}
-use Rattle.helper.specs.Helper.{helperSaid}
-use Rattle.helper.specs.declared.Written.{Written}
+use Rattle.format.specs.Replies.{writerSaid}
+use Rattle.format.specs.declared.Written.{Written}
 use Rattle.plan_annotations.specs.AnnotationLine.{sizeOf}
 use Rattle.plan_annotations.proofs.annotation_line.save_reply.Statement.{statement}
 use Rattle.plan_annotations.proofs.annotation_line.save_reply.Tie as tie
@@ -14,7 +14,7 @@ slice-aggregate-save : tie.Need-slice-aggregate-save
 slice-aggregate-save c =
     let size = c .before .before .reply .given in
     front (size .0 .0) (c .before .before .before .before .before .before .args .ann .now)
-    (omega (arith, c .before .before .before .before .before .before .pre, ap (λ (reply : Written). sizeOf (helperSaid reply)) (size .1)))
+    (omega (arith, c .before .before .before .before .before .before .pre, ap (λ (reply : Written). sizeOf (writerSaid reply)) (size .1)))
 
 pub save-reply-spec : {M : Type 1} → statement M
 save-reply-spec =

@@ -1,0 +1,7 @@
+pub mod WindowLoops
+pub mod OpenTests
+pub mod LeftArcs
+pub mod LeftRecords
+pub mod EmptyArcs
+pub mod Promises
+pub mod ScheduleReturns

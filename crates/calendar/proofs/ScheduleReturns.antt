@@ -1,0 +1,66 @@
+-- What scheduling returns and leaves in the buffer: after a refusal of what was handed over, after check 20, and after the file was written.
+-- Assumes nothing.
+use mathlib.Core.Path.{_≡_, refl, sym, _∙_, ap}
+use mathlib.Core.List.{List, [], _∷_, _++_}
+use Prim.Native.Nat.{ℕ, _+_, _*_, _≤_, _<_}
+use native.Mathlib.Nat.{zero-add}
+use native.Mathlib.Omega.{arith}
+use lib.Dec.{leb}
+use lib.ListN.{length, drop}
+use lib.Seq.{sets, sets-eq}
+use borrow.Author.Tests.{le-leb, lt-leb}
+use Rattle.prelude.specs.Checks.{Check, _unless_, firstBroken}
+use Rattle.prelude.proofs.Settle.{Numbered, numbered-append, none-broken, hold-left, part-refused, part-passed}
+use Rattle.network.specs.Limits.{mostArcs}
+use Rattle.format.specs.Files.{countIn}
+use Rattle.format.specs.Replies.{wrote, declined}
+use Rattle.acceptance.specs.Acceptance.{acceptanceChecks}
+use Rattle.acceptance.proofs.AcceptedFiles.{acceptance-numbered}
+use Rattle.calendar.specs.Windows.{Window}
+use Rattle.calendar.specs.Schedule.{arcsAt, fileAt, windowsChecks, requestChecks, scheduleReply, bufferAfter}
+use Rattle.calendar.proofs.LeftRecords.{file-size}
+use Rattle.calendar.proofs.Promises.{minute-admissible}
+
+module _ (net : List ℕ) (ws : List Window) (t : ℕ) (before : List ℕ) (why : ℕ) (found : why ≡ firstBroken (requestChecks net ws t)) where
+  abbrev file : List ℕ
+  file = fileAt net ws t
+
+  abbrev room : List Check
+  room = 20 unless leb (length file) (length before) ∷ []
+
+  numbered : Numbered (requestChecks net ws t)
+  numbered = numbered-append (acceptanceChecks net) (windowsChecks (countIn net) ws t) (acceptance-numbered net) (refl, (refl, tt))
+
+  pub at-request : (why ≡ 0 → ⊥) → (declined why ≡ scheduleReply net ws t (length before)) × (before ≡ bufferAfter net ws t before)
+  at-request h = (
+    part-refused declined (requestChecks net ws t) room (wrote (length file)) numbered why found h,
+    part-refused (λ k. before) (requestChecks net ws t) room (file ++ drop (length file) before) numbered why found h,
+  )
+
+  module _ (fine : why ≡ 0) where
+    few-left : length (arcsAt net ws t) ≤ mostArcs
+    few-left =
+        minute-admissible net ws t (hold-left (acceptanceChecks net) (windowsChecks (countIn net) ws t) (none-broken (requestChecks net ws t) numbered (sym found ∙ fine))) .few
+
+    module _ (count : ℕ) (many : count ≡ length (arcsAt net ws t)) where
+      pub few-records : count ≤ mostArcs
+      few-records = omega (arith, few-left)
+
+      size-is : 11 + 4 * count ≡ length file
+      size-is = omega (arith, file-size net ws t)
+
+      pub at-room : length before < 11 + 4 * count → (declined 20 ≡ scheduleReply net ws t (length before)) × (before ≡ bufferAfter net ws t before)
+      at-room h =
+          let short = lt-leb (length file) (length before) (omega (arith, size-is)) in (
+            part-passed declined (requestChecks net ws t) room (wrote (length file)) numbered why found fine (declined 20) (rw short),
+            part-passed (λ k. before) (requestChecks net ws t) room (file ++ drop (length file) before) numbered why found fine before (rw short),
+          )
+
+      pub at-end : (after : List ℕ) → 11 + 4 * count ≤ length before → after ≡ sets before 0 file
+          → (wrote (11 + 4 * count) ≡ scheduleReply net ws t (length before)) × (after ≡ bufferAfter net ws t before)
+      at-end after h written =
+          let long = le-leb (length file) (length before) (omega (arith, size-is)) in (
+            part-passed declined (requestChecks net ws t) room (wrote (length file)) numbered why found fine (wrote (11 + 4 * count)) (rw long (ap wrote size-is)),
+            part-passed (λ k. before) (requestChecks net ws t) room (file ++ drop (length file) before) numbered why found fine after
+                (rw long (written ∙ sets-eq file before 0 (omega (arith, size-is)) ∙ ap (λ (k : ℕ). file ++ drop k before) (zero-add (length file)))),
+          )

@@ -1,0 +1,45 @@
+-- `calendar::windows::has_open_window` meets its contract. The loop's invariant: no window before the row i opens the position.
+-- Assumes nothing.
+use mathlib.Core.Path.{sym}
+use mathlib.Core.Bool.{_&&_}
+use Prim.Native.Nat.{_-_}
+use lib.ListN.{length}
+use borrow.Author.Needs.{needs}
+use Rattle.calendar.specs.Windows.{any, isOf, includes}
+use Rattle.calendar.proofs.WindowLoops.{Ahead, ahead-start, ahead-end, any-found, any-next}
+use Rattle.calendar.proofs.windows.has_open_window.Statement.{statement}
+use Rattle.calendar.proofs.windows.has_open_window.Tie as tie
+
+abbrev Inv-loop : tie.InvT-loop
+Inv-loop windows minute position i₀ i = Ahead (any (λ w. isOf position w && includes minute w)) windows i
+
+abbrev μ-loop : tie.MeasureT-loop
+μ-loop windows minute position i₀ i = length windows - i
+
+returns : tie.Need-returns Inv-loop μ-loop
+returns c =
+    let s = c .before .before .before .before .before .args in
+    let l = c .before .before .before .before .loop in
+    any-found (λ w. isOf (s .position) w && includes (s .minute) w) (s .windows .now) (l .i) (c .before .before .before .loop-test .taken) (c .before .opens .result) (c .before .opens .ensures) (l .inv) (c .if1 .taken)
+
+loop-again : tie.Need-loop-again Inv-loop μ-loop
+loop-again c =
+    let s = c .before .before .before .before .before .args in
+    let l = c .before .before .before .before .loop in
+    any-next (λ w. isOf (s .position) w && includes (s .minute) w) (s .windows .now) (l .i) (c .before .before .before .loop-test .taken) (c .before .opens .result) (c .before .opens .ensures) (l .inv) (c .if1 .left)
+
+pub has-open-window-spec : {M : Type 1} → statement M
+has-open-window-spec =
+    tie.close
+    (tie.spec
+    Inv-loop
+    μ-loop
+    (λ c. ahead-start _ _)
+    (λ c. search needs)
+    (λ c. search needs)
+    (λ c κs. tt)
+    returns
+    (λ c. search needs)
+    (λ c. search needs)
+    loop-again
+    (λ c. sym (ahead-end _ _ _ (c .before .loop .inv) (c .loop-test .left))))

@@ -1,0 +1,44 @@
+-- `calendar::windows::has_window` meets its contract. The loop's invariant: no window before the row i is of the position.
+-- Assumes nothing.
+use mathlib.Core.Path.{sym}
+use Prim.Native.Nat.{_-_}
+use lib.ListN.{length}
+use borrow.Author.Needs.{needs}
+use Rattle.calendar.specs.Windows.{any, isOf}
+use Rattle.calendar.proofs.WindowLoops.{Ahead, ahead-start, ahead-end, any-found, any-next}
+use Rattle.calendar.proofs.windows.has_window.Statement.{statement}
+use Rattle.calendar.proofs.windows.has_window.Tie as tie
+
+abbrev Inv-loop : tie.InvT-loop
+Inv-loop windows position i₀ i = Ahead (any (isOf position)) windows i
+
+abbrev μ-loop : tie.MeasureT-loop
+μ-loop windows position i₀ i = length windows - i
+
+returns : tie.Need-returns Inv-loop μ-loop
+returns c =
+    let s = c .before .before .before .before .before .args in
+    let l = c .before .before .before .before .loop in
+    any-found (isOf (s .position)) (s .windows .now) (l .i) (c .before .before .before .loop-test .taken) (c .before .is-of .result) (c .before .is-of .ensures) (l .inv) (c .if1 .taken)
+
+loop-again : tie.Need-loop-again Inv-loop μ-loop
+loop-again c =
+    let s = c .before .before .before .before .before .args in
+    let l = c .before .before .before .before .loop in
+    any-next (isOf (s .position)) (s .windows .now) (l .i) (c .before .before .before .loop-test .taken) (c .before .is-of .result) (c .before .is-of .ensures) (l .inv) (c .if1 .left)
+
+pub has-window-spec : {M : Type 1} → statement M
+has-window-spec =
+    tie.close
+    (tie.spec
+    Inv-loop
+    μ-loop
+    (λ c. ahead-start _ _)
+    (λ c. search needs)
+    (λ c. search needs)
+    (λ c κs. tt)
+    returns
+    (λ c. search needs)
+    (λ c. search needs)
+    loop-again
+    (λ c. sym (ahead-end _ _ _ (c .before .loop .inv) (c .loop-test .left))))

@@ -1,0 +1,17 @@
+-- `calendar::windows::is_open` meets its contract.
+-- Assumes nothing.
+use borrow.Author.Needs.{needs}
+use Rattle.calendar.specs.Windows.{isOpen}
+use Rattle.calendar.proofs.windows.is_open.Statement.{statement}
+use Rattle.calendar.proofs.windows.is_open.Tie as tie
+
+returns : tie.Need-returns
+unfolding isOpen
+returns c = rw (← c .before .has-window .ensures, c .if1 .taken)
+
+returns-2 : tie.Need-returns-2
+unfolding isOpen
+returns-2 c = rw (← c .before .before .has-window .ensures, c .before .if1 .left) (c .has-open-window .ensures)
+
+pub is-open-spec : {M : Type 1} → statement M
+is-open-spec = tie.close (tie.spec (λ c κs. tt) returns (λ c κs. tt) returns-2)

@@ -1,0 +1,20 @@
+-- `calendar::windows::window_ok` meets its contract.
+-- Assumes nothing.
+use borrow.Author.Needs.{needs}
+use Rattle.prelude.proofs.Tested.{tested}
+use Rattle.calendar.proofs.windows.window_ok.Statement.{statement}
+use Rattle.calendar.proofs.windows.window_ok.Tie as tie
+
+pub window-ok-spec : {M : Type 1} → statement M
+window-ok-spec =
+    tie.close
+    (tie.spec
+    (λ c. search needs)
+    (λ c. search tested depth 12)
+    (λ c. search needs)
+    (λ c. search tested depth 12)
+    (λ c. search needs)
+    (λ c. search tested depth 12)
+    (λ c. search needs)
+    (λ c. search needs)
+    (λ c. search tested depth 12))

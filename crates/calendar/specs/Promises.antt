@@ -1,0 +1,63 @@
+-- What is promised of the calendar (PANEL 14); proofs/Promises.antt keeps it.
+-- Assumes nothing.
+use mathlib.Core.Path.{_≡_}
+use mathlib.Core.Logic.{_↔_}
+use mathlib.Core.List.{List, []}
+use Prim.Native.Nat.{ℕ, _≤_}
+use lib.Dec.{T}
+use lib.ListN.{length, take, drop}
+use Rattle.prelude.specs.Lists.{Every}
+use Rattle.network.specs.Network.{Arc}
+use Rattle.network.specs.Question.{Setting, asks, Answer, TrueAnswer}
+use Rattle.format.specs.Files.{settingIn, countIn}
+use Rattle.format.specs.Promises.{Byte}
+use Rattle.format.specs.Replies.{wrote, declined}
+use Rattle.acceptance.specs.Acceptance.{AcceptedFile}
+use Rattle.acceptance.specs.Promises.{Says}
+use Rattle.calendar.specs.Windows.{Window, mostWindows, lastMinute, isOpen, Open, windowOk, WindowFits}
+use Rattle.calendar.specs.Schedule.{scheduled, openAlone, arcsAt, fileAt, scheduleReply, bufferAfter}
+
+-- The test of an open record holds exactly where the record is open (PANEL 14).
+abbrev pub OpenMeans : Type 0
+OpenMeans = (ws : List Window) (t k : ℕ) → T (isOpen ws t k) ↔ Open ws t k
+
+-- The test of a window holds exactly where the window fits (PANEL 14, check 22).
+abbrev pub WindowMeans : Type 0
+WindowMeans = (m : ℕ) (w : Window) → T (windowOk m w) ↔ WindowFits m w
+
+-- The file of a minute is accepted by the panel, and says the network of that minute under the same question, n, s and t.
+abbrev pub FileAccepted : Type 0
+FileAccepted = (net : List ℕ) (ws : List Window) (t : ℕ) → AcceptedFile net → Says (settingIn net) (arcsAt net ws t) (fileAt net ws t)
+
+-- With no window the file of any minute is the network file itself.
+abbrev pub NoWindows : Type 0
+NoWindows = (net : List ℕ) (t : ℕ) → Every Byte net → AcceptedFile net → fileAt net [] t ≡ net
+
+-- What holds where k bytes were written: what was handed over passed every check (PANEL 14), and in the buffer stands the file of the minute, and beyond it what was there.
+pub record WrittenIn (net : List ℕ) (ws : List Window) (t k : ℕ) (before after : List ℕ) : Type 0 where
+  pub accepted : AcceptedFile net
+  pub few : length ws ≤ mostWindows
+  pub minute-within : t ≤ lastMinute
+  pub windows-fit : Every (WindowFits (countIn net)) ws
+  pub room : k ≤ length before
+  pub size : k ≡ length (fileAt net ws t)
+  pub file : take k after ≡ fileAt net ws t
+  pub beyond : drop k after ≡ drop k before
+
+-- A reply of a length tells what stands in the buffer.
+abbrev pub Writes : Type 0
+Writes =
+    (net : List ℕ) (ws : List Window) (t k : ℕ) (before : List ℕ)
+    → scheduleReply net ws t (length before) ≡ wrote k → WrittenIn net ws t k before (bufferAfter net ws t before)
+
+-- A refusal writes no byte.
+abbrev pub RefusalWritesNothing : Type 0
+RefusalWritesNothing =
+    (net : List ℕ) (ws : List Window) (t k : ℕ) (before : List ℕ)
+    → scheduleReply net ws t (length before) ≡ declined k → bufferAfter net ws t before ≡ before
+
+-- The network of a minute and its open arcs alone have the same true answer, for every question: a closed arc that keeps its place with the capacity 0 carries nothing.
+abbrev pub OpenAlone : Type 0
+OpenAlone =
+    (st : Setting) (ws : List Window) (t : ℕ) (net : List Arc) (a : Answer)
+    → TrueAnswer st (scheduled (asks st) ws t net) a ↔ TrueAnswer st (openAlone ws t net) a
