@@ -5,25 +5,16 @@ use mathlib.Core.List.{List}
 use Prim.Native.Nat.{ℕ}
 use lib.ListN.{take}
 use Rattle.io.specs.Counts.{Counts}
-use Rattle.program_io.specs.Line.{savedLine, refusedLine, LineIn}
-use Rattle.format.specs.Replies.{WriterSaid, wrote, declined}
+use Rattle.program_io.specs.Line.{LineIn}
+use Rattle.format.specs.Replies.{WriterSaid}
 use Rattle.helper.specs.Helper.{annotated, BufferAfter}
 use Rattle.program_io.specs.Counted.{counted}
+use Rattle.written_files.specs.ReplyLine.{replyLine}
 use Rattle.plan_annotations.specs.declared.annotation_line.Annotated.{Annotated}
 
 -- The helper's reply for what counts of a network file, in a buffer of so many bytes.
 unfoldable pub fileReply : List ℕ → ℕ → WriterSaid
 fileReply net room = annotated (counted net) room
-
--- How many bytes are to be saved: none after a refusal.
-abbrev pub sizeOf : WriterSaid → ℕ
-sizeOf (wrote k) = k
-sizeOf (declined k) = 0
-
--- The line of a reply: how many bytes were written, that they could not be written, or the refusal.
-abbrev pub replyLine : WriterSaid → Bool → List ℕ
-replyLine (wrote k) done = savedLine k done
-replyLine (declined k) done = refusedLine k
 
 -- The line for the bytes of plan.drn.
 abbrev pub annotationLine : List ℕ → ℕ → Bool → List ℕ

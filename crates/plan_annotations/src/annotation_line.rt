@@ -1,18 +1,15 @@
 // The line of the annotating program: the bytes of a network are annotated, and the annotation is saved.
 ghost use mathlib.Core.Path.{_≡_};
-ghost use Prim.Native.Nat.{_≤_};
 ghost use lib.ListN.{length};
-ghost use Rattle.io.specs.Counts.{Counts};
-ghost use Rattle.program_io.specs.Line.{LineIn};
 ghost use Rattle.format.specs.Replies.{writerSaid};
 ghost use Rattle.helper.specs.Helper.{BufferAfter};
 ghost use Rattle.program_io.specs.Counted.{counted as inRoom};
-ghost use Rattle.plan_annotations.specs.AnnotationLine.{fileReply, sizeOf, replyLine, AnnotatedFiles};
+ghost use Rattle.plan_annotations.specs.AnnotationLine.{fileReply, AnnotatedFiles};
 use format::Written;
 use program_io::counted::counted;
 use program_io::front::read_front;
-use program_io::line;
-use program_io::saving;
+use written_files::line_for;
+use written_files::save_reply;
 
 // The annotation for what counts of a network file, in the buffer.
 fn annotation(net: &[u8], ann: &mut [u8]) -> Written
@@ -21,30 +18,6 @@ fn annotation(net: &[u8], ann: &mut [u8]) -> Written
 {
     let n = counted(net);
     helper::annotate(&net[..n], ann)
-}
-
-// Saves the annotation that the reply tells of, at the front of the buffer, and answers whether it is in its file. A refusal touches no file.
-fn save_reply(name: &[u8], reply: Written, ann: &[u8]) -> bool
-    requires { ⌜ sizeOf (writerSaid reply) ≤ length (now ann) ⌝ }
-{
-    match reply {
-        Written::Length(size) => {
-            let n = size as usize;
-            saving::save(name, &ann[..n], 0o644)
-        }
-        Written::Refused(_) => false,
-    }
-}
-
-// The line for a reply whose annotation was saved or not, and how long it is.
-fn line_for(reply: Written, done: bool, text: &mut [u8; 32]) -> usize
-    ensures { λ r. ⌜ Counts r (now (text .exit)) ⌝ }
-    ensures { λ r. ⌜ LineIn (replyLine (writerSaid reply) done) (now (text .entry)) r (now (text .exit)) ⌝ }
-{
-    match reply {
-        Written::Length(size) => line::saved(size, done, text),
-        Written::Refused(k) => line::refused(k, text),
-    }
 }
 
 // How many bytes of the network file were read into its buffer, whether the annotation is in its file, and how long the line is.

@@ -3,23 +3,15 @@
 use mathlib.Core.Path.{ap, subst}
 use mathlib.Core.List.{List}
 use Prim.Native.Nat.{ℕ}
-use native.Mathlib.Omega.{arith}
 use borrow.Author.Needs.{needs}
-use lib.ListN.{length, take}
+use lib.ListN.{take}
 use Rattle.program_io.proofs.Lines.{same-in}
-use Rattle.format.specs.Replies.{WriterSaid, writerSaid}
+use Rattle.format.specs.Replies.{WriterSaid}
 use Rattle.helper.specs.Helper.{BufferAfter}
 use Rattle.program_io.specs.Counted.{counted}
-use Rattle.plan_annotations.specs.AnnotationLine.{replyLine}
-use Rattle.plan_annotations.proofs.Room.{within-reply}
+use Rattle.written_files.specs.ReplyLine.{replyLine}
 use Rattle.plan_annotations.proofs.annotation_line.annotate_read.Statement.{statement}
 use Rattle.plan_annotations.proofs.annotation_line.annotate_read.Tie as tie
-
-save-reply-requires : tie.Need-save-reply-requires
-save-reply-requires c κs =
-    let args = c .before .before .before .before .before .before .before .before .before .before .before .before .before .before .args in
-    let reply = c .before .before .before .annotation in
-    omega (arith, within-reply _ (length (args .ann .now)) (writerSaid (reply .result)) (reply .ensures .0), reply .kept .1 .0)
 
 returns : tie.Need-returns
 returns c =
@@ -42,7 +34,7 @@ annotate-read-spec =
     (λ c. search needs)
     (λ c. search needs)
     (λ c κs. search needs)
-    save-reply-requires
+    (λ c κs. tt)
     (λ c κs. search needs)
     (λ c. search needs)
     (λ c. search needs)

@@ -1,4 +1,4 @@
--- `annotation_line::line_for` meets its contract, variant by variant.
+-- `written_files::line_for` meets its contract, variant by variant.
 -- Assumes nothing.
 use mathlib.Core.Path.{_≡_, sym, ap}
 use mathlib.Core.Bool.{Bool}
@@ -9,9 +9,9 @@ use Rattle.program_io.specs.Line.{LineIn}
 use Rattle.program_io.proofs.Lines.{same-in}
 use Rattle.format.specs.Replies.{writerSaid}
 use Rattle.format.specs.declared.Written.{Written}
-use Rattle.plan_annotations.specs.AnnotationLine.{replyLine}
-use Rattle.plan_annotations.proofs.annotation_line.line_for.Statement.{statement}
-use Rattle.plan_annotations.proofs.annotation_line.line_for.Tie as tie
+use Rattle.written_files.specs.ReplyLine.{replyLine}
+use Rattle.written_files.proofs.line_for.Statement.{statement}
+use Rattle.written_files.proofs.line_for.Tie as tie
 
 same-line : {a b : Written} (done : Bool) (before : List ℕ) (r : ℕ) (after : List ℕ) → a ≡ b → LineIn (replyLine (writerSaid b) done) before r after → LineIn (replyLine (writerSaid a) done) before r after
 same-line done before r after e w = same-in before r after (ap (λ (a : Written). replyLine (writerSaid a) done) (sym e)) w

@@ -1,0 +1,2 @@
+pub mod ScheduleLine
+pub mod Promises
