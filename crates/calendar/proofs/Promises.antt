@@ -3,16 +3,18 @@
 use mathlib.Core.Path.{_≡_, refl, sym, _∙_, ap}
 use mathlib.Core.Bool.{true, false}
 use mathlib.Core.List.{List, [], _∷_, _++_}
-use Prim.Native.Nat.{ℕ}
+use Prim.Native.Nat.{ℕ, _≤_, _<_}
+use native.Mathlib.Decide.{decLe}
 use native.Mathlib.Omega.{arith}
 use lib.Dec.{leb, leb→le}
-use lib.ListN.{length, drop}
-use lib.Seq.{take-append-seam, drop-append-seam}
+use lib.ListN.{length, take, drop}
+use lib.Seq.{take-all, length-take-le, take-append-seam, drop-append-seam}
+use borrow.Author.Tests.{lt-leb}
 use Rattle.prelude.specs.Checks.{Check, _unless_, settle}
 use Rattle.prelude.specs.Lists.{all}
 use Rattle.prelude.proofs.Booleans.{and-left, and-right}
 use Rattle.prelude.proofs.Lists.{all→every}
-use Rattle.prelude.proofs.Settle.{settled, settled-back, hold-left, hold-right}
+use Rattle.prelude.proofs.Settle.{settled, settled-back, settle-append, hold-left, hold-right}
 use Rattle.network.specs.Question.{asks, Admissible}
 use Rattle.format.specs.Files.{settingIn, countIn, arcsIn, networkFile}
 use Rattle.format.specs.Replies.{wrote, declined}
@@ -21,8 +23,8 @@ use Rattle.acceptance.specs.Acceptance.{acceptanceChecks, AcceptedFile}
 use Rattle.acceptance.proofs.AcceptedFiles.{layout-held}
 use Rattle.acceptance.proofs.Promises.{written-accepted, accepted-means}
 use Rattle.calendar.specs.Windows.{Window, mostWindows, lastMinute, isOpen, windowOk}
-use Rattle.calendar.specs.Schedule.{arcsAt, fileAt, windowsChecks, requestChecks, scheduleChecks, bufferAfter}
-use Rattle.calendar.specs.Promises.{OpenMeans, WindowMeans, FileAccepted, NoWindows, Writes, RefusalWritesNothing, OpenAlone}
+use Rattle.calendar.specs.Schedule.{arcsAt, fileAt, windowsChecks, requestChecks, scheduleChecks, scheduleReply, bufferAfter}
+use Rattle.calendar.specs.Promises.{OpenMeans, WindowMeans, FileAccepted, NoWindows, Writes, RefusalWritesNothing, FirstDecide, OpenAlone}
 use Rattle.calendar.proofs.OpenTests.{open-rule, open-test, window-rule, window-test}
 use Rattle.calendar.proofs.LeftArcs.{left-length, left-allowed, left-all}
 use Rattle.calendar.proofs.EmptyArcs.{open-alone-for}
@@ -94,6 +96,24 @@ pub refusal-writes-nothing : RefusalWritesNothing
 refusal-writes-nothing net ws t k before e =
     let file = fileAt net ws t in
     refused (scheduleChecks net ws t (length before)) (length file) k before (file ++ drop (length file) before) e
+
+-- Too many windows are refused with 21, whatever they are, unless the file itself is refused.
+too-many : {A : Type 0} (g : ℕ → A) (v : A) (net : List ℕ) (ws : List Window) (t room : ℕ) → mostWindows < length ws → settle g (scheduleChecks net ws t room) v ≡ settle g (acceptanceChecks net) (g 21)
+too-many g v net ws t room h =
+    let full = lt-leb (length ws) mostWindows h in
+    settle-append g (requestChecks net ws t) (20 unless leb (length (fileAt net ws t)) room ∷ []) v
+    ∙ settle-append g (acceptanceChecks net) (windowsChecks (countIn net) ws t) (settle g (20 unless leb (length (fileAt net ws t)) room ∷ []) v)
+    ∙ ap (settle g (acceptanceChecks net)) (rw full)
+
+pub first-decide : FirstDecide
+first-decide net ws t before = go (decLe (length ws) 65)
+  where
+    go : Dec (length ws ≤ 65) → (scheduleReply net (take 65 ws) t (length before) ≡ scheduleReply net ws t (length before)) × (bufferAfter net (take 65 ws) t before ≡ bufferAfter net ws t before)
+    go (yes h) = (ap (λ (l : List Window). scheduleReply net l t (length before)) (take-all 65 ws h), ap (λ (l : List Window). bufferAfter net l t before) (take-all 65 ws h))
+    go (no h) = (
+      too-many declined _ net (take 65 ws) t (length before) (omega (arith, length-take-le 65 ws (omega arith))) ∙ sym (too-many declined _ net ws t (length before) (omega arith)),
+      too-many (λ k. before) _ net (take 65 ws) t (length before) (omega (arith, length-take-le 65 ws (omega arith))) ∙ sym (too-many (λ k. before) _ net ws t (length before) (omega arith)),
+    )
 
 -- ---- the open arcs alone
 

@@ -56,6 +56,12 @@ RefusalWritesNothing =
     (net : List ℕ) (ws : List Window) (t k : ℕ) (before : List ℕ)
     → scheduleReply net ws t (length before) ≡ declined k → bufferAfter net ws t before ≡ before
 
+-- Where there are more windows than check 21 lets pass, it does not matter what they say: of any windows the first 65 decide the reply and the buffer.
+abbrev pub FirstDecide : Type 0
+FirstDecide =
+    (net : List ℕ) (ws : List Window) (t : ℕ) (before : List ℕ)
+    → (scheduleReply net (take 65 ws) t (length before) ≡ scheduleReply net ws t (length before)) × (bufferAfter net (take 65 ws) t before ≡ bufferAfter net ws t before)
+
 -- The network of a minute and its open arcs alone have the same true answer, for every question: a closed arc that keeps its place with the capacity 0 carries nothing.
 abbrev pub OpenAlone : Type 0
 OpenAlone =

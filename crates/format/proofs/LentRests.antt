@@ -10,7 +10,7 @@ use lib.Seq.{sets, take-length}
 use borrow.Rule.Slice.PartMut.{midOf, postOf, putMid}
 use Rattle.file_fields.proofs.Writing.{sets-past, then-sets}
 
-sets-shift : (x : ℕ) (l : List ℕ) (i : ℕ) (vs : List ℕ) → sets (x ∷ l) (suc i) vs ≡ x ∷ sets l i vs
+pub sets-shift : {A : Type 0} (x : A) (l : List A) (i : ℕ) (vs : List A) → sets (x ∷ l) (suc i) vs ≡ x ∷ sets l i vs
 sets-shift x l i [] = refl
 sets-shift x l i (v ∷ vs) = sets-shift x (set l i v) (suc i) vs
 

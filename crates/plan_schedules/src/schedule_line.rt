@@ -1,5 +1,7 @@
 // The line of the scheduling program: the network file of a minute is written by the tide table, and saved.
 ghost use mathlib.Core.Path.{_≡_};
+ghost use mathlib.Core.Bool.{false};
+ghost use Prim.Native.Nat.{min};
 ghost use lib.ListN.{length};
 ghost use Rattle.format.specs.Replies.{writerSaid};
 ghost use Rattle.calendar.specs.Windows.{windowsIn};
@@ -168,5 +170,14 @@ pub fn schedule_files(
 ) -> Scheduled
     ensures { λ r. ⌜ ScheduledFiles 32768 (now (argument .entry)) (now (table .exit)) (now (net .exit)) (now (out .entry)) (now (out .exit)) (now (text .entry)) r (now (text .exit)) ⌝ }
 {
-    schedule_read(argument, table_name, net_name, out_name, table, net, out, text)
+    schedule_read(
+        argument,
+        table_name,
+        net_name,
+        out_name,
+        table,
+        net,
+        out,
+        text,
+    )
 }

@@ -68,7 +68,7 @@ badLineOf text =
     (pick (leb (length text) mostBytes) 0 (brokenLine text))
     (tableWithin text .bad)
 
--- The windows before that line.
+-- The windows that were read before that line.
 abbrev pub windowsOf : List ℕ → List Window
 windowsOf text = tableWithin text .windows
 
