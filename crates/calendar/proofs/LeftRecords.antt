@@ -79,24 +79,24 @@ module _ (q : Question) (opened : ℕ → Bool) (g : ℕ → Arc) (m : ℕ) (bef
   unfolding leftFrom listTo flatMap
   left-none = record { within = omega arith; written = record { count = refl; bytes = refl } }
 
-  module _ (e k : ℕ) (l : List ℕ) (so-far : LeftTo e k l) where
-    pub left-within : k ≤ e
-    left-within = omega (arith, so-far .written .count, left-length q opened 0 (listTo e g), listTo-length e g)
+module _ {q : Question} {opened : ℕ → Bool} {g : ℕ → Arc} {m : ℕ} {before : List ℕ} {e k : ℕ} {l : List ℕ} (so-far : LeftTo q opened g m before e k l) where
+  pub left-within : k ≤ e
+  left-within = omega (arith, so-far .written .count, left-length q opened 0 (listTo e g), listTo-length e g)
 
-    pub left-size : length l ≡ length before
-    left-size = ap length (so-far .written .bytes) ∙ length-sets before (4 * 0) (flatMap arcBytes (leftFrom q opened 0 (listTo e g)))
+  pub left-size : length l ≡ length before
+  left-size = ap length (so-far .written .bytes) ∙ length-sets before (4 * 0) (flatMap arcBytes (leftFrom q opened 0 (listTo e g)))
 
-    pub left-turn : (r : ℕ) (after : List ℕ) → e < m → RecordsIn (leftFor q (opened e) (g e)) k l r after → LeftTo (e + 1) r after
-    left-turn r after h w = record {
-      within = omega arith;
-      written = subst (λ (arcs : List Arc). RecordsIn arcs 0 before r after) (sym (ap (λ (j : ℕ). leftFrom q opened 0 (listTo j g)) (add-one e) ∙ left-one-more q opened g e))
-          (records-then (leftFrom q opened 0 (listTo e g)) (leftFor q (opened e) (g e)) k r before l after (so-far .written) w);
-    }
+  pub left-turn : {r : ℕ} {after : List ℕ} → e < m → RecordsIn (leftFor q (opened e) (g e)) k l r after → LeftTo q opened g m before (e + 1) r after
+  left-turn {r} {after} h w = record {
+    within = omega arith;
+    written = subst (λ (arcs : List Arc). RecordsIn arcs 0 before r after) (sym (ap (λ (j : ℕ). leftFrom q opened 0 (listTo j g)) (add-one e) ∙ left-one-more q opened g e))
+        (records-then (leftFrom q opened 0 (listTo e g)) (leftFor q (opened e) (g e)) k r before l after (so-far .written) w);
+  }
 
-    pub left-end : m ≤ e → RecordsIn (leftFrom q opened 0 (listTo m g)) 0 before k l
-    left-end h =
-        let j : e ≡ m = omega (arith, so-far .within) in
-        subst (λ (i : ℕ). RecordsIn (leftFrom q opened 0 (listTo i g)) 0 before k l) j (so-far .written)
+  pub left-end : m ≤ e → RecordsIn (leftFrom q opened 0 (listTo m g)) 0 before k l
+  left-end h =
+      let j : e ≡ m = omega (arith, so-far .within) in
+      subst (λ (i : ℕ). RecordsIn (leftFrom q opened 0 (listTo i g)) 0 before k l) j (so-far .written)
 
 -- ---- the whole file
 

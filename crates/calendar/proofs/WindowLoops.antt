@@ -33,18 +33,18 @@ module _ (f : List Window → Bool) (rows : List (List ℕ)) where
     ahead-end h = A .same ∙ ap (λ (l : List (List ℕ)). f (windowsIn l)) (drop-of-length-le rows h)
 
 -- the window of the row i passes the test p, or not: b is what the code found
-module _ (p : Window → Bool) (rows : List (List ℕ)) (i : ℕ) (h : i < length rows) (b : Bool) (found : b ≡ p (windowIn (getD rows i []))) where
-  pub any-found : Ahead (any p) rows i → b ≡ true → true ≡ any p (windowsIn rows)
-  any-found A e = sym (ahead-here (any p) rows i A h ∙ rw (sym found ∙ e))
+module _ (p : Window → Bool) {rows : List (List ℕ)} {i : ℕ} {b : Bool} where
+  pub any-found : Ahead (any p) rows i → i < length rows → b ≡ p (windowIn (getD rows i [])) → b ≡ true → true ≡ any p (windowsIn rows)
+  any-found A h found e = sym (ahead-here (any p) rows i A h ∙ rw (sym found ∙ e))
 
-  pub any-next : Ahead (any p) rows i → b ≡ false → Ahead (any p) rows (i + 1)
-  any-next A e = ahead-turn (any p) rows i A h (rw (sym found ∙ e))
+  pub any-next : Ahead (any p) rows i → i < length rows → b ≡ p (windowIn (getD rows i [])) → b ≡ false → Ahead (any p) rows (i + 1)
+  any-next A h found e = ahead-turn (any p) rows i A h (rw (sym found ∙ e))
 
-  pub all-failed : Ahead (all p) rows i → not b ≡ true → false ≡ all p (windowsIn rows)
-  all-failed A e = sym (ahead-here (all p) rows i A h ∙ rw (sym found ∙ not-true b e))
+  pub all-failed : Ahead (all p) rows i → i < length rows → b ≡ p (windowIn (getD rows i [])) → not b ≡ true → false ≡ all p (windowsIn rows)
+  all-failed A h found e = sym (ahead-here (all p) rows i A h ∙ rw (sym found ∙ not-true b e))
 
-  pub all-next : Ahead (all p) rows i → not b ≡ false → Ahead (all p) rows (i + 1)
-  all-next A e = ahead-turn (all p) rows i A h (rw (sym found ∙ not-false b e))
+  pub all-next : Ahead (all p) rows i → i < length rows → b ≡ p (windowIn (getD rows i [])) → not b ≡ false → Ahead (all p) rows (i + 1)
+  all-next A h found e = ahead-turn (all p) rows i A h (rw (sym found ∙ not-false b e))
 
 -- ---- check 21, by the number of rows
 

@@ -1,4 +1,4 @@
--- The promise of specs/Promises.antt, kept: what the helper wrote fits the layout, and judging answers it truly.
+-- The promises of specs/Promises.antt, kept: what the helper wrote fits the layout, and judging answers it truly; so it does for the file of a minute.
 -- Assumes nothing.
 use mathlib.Core.Path.{_≡_, sym, _∙_, subst}
 use mathlib.Core.List.{List, [], _∷_}
@@ -6,12 +6,12 @@ use Prim.Native.Nat.{ℕ, suc, _+_, _≤_, _<_}
 use native.Mathlib.Nat.{le-trans}
 use native.Mathlib.Omega.{arith}
 use lib.Dec.{leb, le→leb}
-use lib.IntN.{ℤ, pos, negℤ}
+use lib.IntN.{ℤ}
 use lib.ListN.{length, take}
 use lib.Signed.{_≤ℤ_, leZ, leZ-yes}
 use Rattle.prelude.specs.Checks.{_unless_}
 use Rattle.prelude.specs.Integers.{between}
-use Rattle.prelude.specs.Lists.{Every, Perm, at}
+use Rattle.prelude.specs.Lists.{Every, Perm, AtMost, at}
 use Rattle.prelude.proofs.Booleans.{and-left, and-right}
 use Rattle.prelude.proofs.Settle.{settled, hold-append}
 use Rattle.prelude.proofs.Integers.{signed, parts-mag, parts-min}
@@ -21,18 +21,22 @@ use Rattle.network.specs.Network.{Arc, Load, arcs}
 use Rattle.network.specs.Question.{Question, shortestPath, maximumFlow, assignment, unasked, Setting, asks, Opened, Allowed, Answer, TrueAnswer}
 use Rattle.network.specs.Certificate.{Claim, ofValue, ofNone, rulesFor, CertifiedBy, claimFor}
 use Rattle.network.specs.Tests.{claimNumber}
-use Rattle.points.specs.Points.{IsPoint}
+use Rattle.points.specs.Points.{IsPoint, misleadingPoints}
 use Rattle.points.specs.declared.Point.{Point}
 use Rattle.state.specs.Answers.{gives}
 use Rattle.format.specs.Files.{settingIn, arcsIn, annotationFile}
 use Rattle.format.specs.Promises.{Signed32, LoadFits}
 use Rattle.acceptance.specs.Acceptance.{acceptanceChecks, AcceptedFile}
+use Rattle.acceptance.specs.Promises.{Says}
 use Rattle.acceptance.proofs.AcceptedFiles.{file-opened, file-allowed}
+use Rattle.runs.specs.Run.{Wrong}
 use Rattle.judging.specs.Judging.{judged}
-use Rattle.judging.proofs.Promises.{judged-by-steps, certificates-judged}
+use Rattle.judging.proofs.Promises.{judged-by-steps, few-judged-wrong, certificates-judged}
 use Rattle.format.specs.Replies.{WriterSaid, wrote, declined}
 use Rattle.helper.specs.Helper.{sizeFor, annotateChecks, Annotation, BufferAfter}
-use Rattle.demands.specs.Promises.{JudgedTruly, HelperServes}
+use Rattle.calendar.specs.Schedule.{arcsAt, fileAt}
+use Rattle.calendar.proofs.Promises.{file-accepted, writes, open-alone}
+use Rattle.demands.specs.Promises.{JudgedTruly, HelperServes, ScheduleServes, FewScheduledWrong}
 
 -- ---- the fields are wide enough for what meets the rules
 
@@ -125,3 +129,30 @@ helper-serves net before after reply h room e held =
 
     found : Annotation net (take (sizeFor net) after)
     found = subst (λ (d : WriterSaid). BufferAfter d net before after) wrote-size held .annotation
+
+-- ---- the file of a minute
+
+-- what holds of the setting and the arcs in a file holds of those that it says
+said-in : (P : Setting → List Arc → Type 0) (st : Setting) (net : List Arc) (file : List ℕ) → Says st net file → P (settingIn file) (arcsIn file) → P st net
+said-in P st net file s h = subst (P st) (s .arcs-are) (subst (λ (x : Setting). P x (arcsIn file)) (s .setting-is) h)
+
+pub schedule-serves : ScheduleServes
+schedule-serves net ws t k space e file is before after reply room said held =
+    let w = writes net ws t k space e in
+    let arcs = arcsAt net ws t in
+    let says : Says (settingIn net) arcs file = rw (is, w .file) (file-accepted net ws t (w .accepted)) in
+    let truly = helper-serves file before after reply (says .accepted) room said held .truly in
+    let right = said-in (λ st l. TrueAnswer st l (truly .answer)) (settingIn net) arcs file says (truly .is-true) in
+    record {
+      answer = truly .answer;
+      is-true = right;
+      of-open-arcs = open-alone (settingIn net) ws t (arcsIn net) (truly .answer) .0 right;
+      at-every-point = truly .at-every-point;
+      by-steps = truly .by-steps;
+    }
+
+pub few-scheduled-wrong : FewScheduledWrong
+few-scheduled-wrong net ws t ann h =
+    let file = fileAt net ws t in
+    said-in (λ st l. AtMost (misleadingPoints (length l)) (λ r. IsPoint r × Wrong st l (judged file ann r))) (settingIn net) (arcsAt net ws t) file
+    (file-accepted net ws t h) (few-judged-wrong file ann)

@@ -4,15 +4,19 @@ use mathlib.Core.Path.{_≡_}
 use mathlib.Core.List.{List}
 use Prim.Native.Nat.{ℕ, _≤_}
 use lib.ListN.{length, take}
+use Rattle.prelude.specs.Lists.{AtMost}
 use Rattle.network.specs.Question.{Answer, TrueAnswer}
-use Rattle.points.specs.Points.{IsPoint}
+use Rattle.points.specs.Points.{IsPoint, misleadingPoints}
 use Rattle.points.specs.declared.Point.{Point}
 use Rattle.state.specs.Answers.{gives}
 use Rattle.format.specs.Files.{settingIn, arcsIn}
 use Rattle.acceptance.specs.Acceptance.{AcceptedFile}
+use Rattle.runs.specs.Run.{Wrong}
 use Rattle.judging.specs.Judging.{judged, judgedBySteps}
 use Rattle.format.specs.Replies.{WriterSaid, wrote}
 use Rattle.helper.specs.Helper.{annotated, sizeFor, Annotation, BufferAfter}
+use Rattle.calendar.specs.Windows.{Window}
+use Rattle.calendar.specs.Schedule.{openAlone, arcsAt, fileAt, scheduleReply, bufferAfter}
 
 -- At every point the file and the annotation come out as the true answer, by judging and by the steps of a session.
 pub record JudgedTruly (net ann : List ℕ) : Type 0 where
@@ -33,3 +37,28 @@ HelperServes =
     (net before after : List ℕ) (reply : WriterSaid)
     → AcceptedFile net → sizeFor net ≤ length before → reply ≡ annotated net (length before) → BufferAfter reply net before after
     → Helped net after reply
+
+-- ---- the file of a minute (PANEL 14)
+
+-- At every point a file of a minute and an annotation come out as the true answer of the network of that minute, which is that of the open arcs alone; by judging and by the steps of a session.
+pub record ScheduledTruly (net : List ℕ) (ws : List Window) (t : ℕ) (file ann : List ℕ) : Type 0 where
+  pub answer : Answer
+  pub is-true : TrueAnswer (settingIn net) (arcsAt net ws t) answer
+  pub of-open-arcs : TrueAnswer (settingIn net) (openAlone ws t (arcsIn net)) answer
+  pub at-every-point : (r : Point) → IsPoint r → judged file ann r ≡ gives answer
+  pub by-steps : (r : Point) → IsPoint r → judgedBySteps file ann r ≡ gives answer
+
+-- Wherever the calendar wrote k bytes: the file that they are, with what the helper then writes for it in any buffer that check 20 lets pass, is judged truly.
+abbrev pub ScheduleServes : Type 0
+ScheduleServes =
+    (net : List ℕ) (ws : List Window) (t k : ℕ) (space : List ℕ) → scheduleReply net ws t (length space) ≡ wrote k
+    → (file : List ℕ) → file ≡ take k (bufferAfter net ws t space)
+    → (before after : List ℕ) (reply : WriterSaid)
+    → sizeFor file ≤ length before → reply ≡ annotated file (length before) → BufferAfter reply file before after
+    → ScheduledTruly net ws t file (take (sizeFor file) after)
+
+-- Judging the file of a minute with any annotation gives a wrong answer for the network of that minute at m - 1 points at most, at none for m 0 or 1, where that network has m arcs.
+abbrev pub FewScheduledWrong : Type 0
+FewScheduledWrong =
+    (net : List ℕ) (ws : List Window) (t : ℕ) (ann : List ℕ) → AcceptedFile net
+    → AtMost (misleadingPoints (length (arcsAt net ws t))) (λ r. IsPoint r × Wrong (settingIn net) (arcsAt net ws t) (judged (fileAt net ws t) ann r))

@@ -1,8 +1,9 @@
-// The lines of the judging, the annotating and the drawing program, for files that are there, short, long, missing or no files.
+// The lines of the judging, the annotating, the drawing and the scheduling program, for files that are there, short, long, missing or no files.
 // The cases are lines of standard input, which says at its top how it is written.
 use file_fields::bytes::byte;
 use plan_annotations::annotation_line;
 use plan_files::answer_line;
+use plan_schedules::schedule_line;
 use program_io::front;
 use testing::numbers::plus;
 use testing::print;
@@ -51,6 +52,25 @@ fn print_drawn(name: &[u8]) {
     io::write_all(1, &text[..n]);
 }
 
+fn print_scheduled(argument: &[u8], table_name: &[u8], net_name: &[u8], out_name: &[u8]) {
+    let mut table = [0u8; 32769];
+    let mut net = front::room();
+    let mut out = front::room();
+    let mut text = [0u8; 32];
+    let scheduled = schedule_line::schedule_files(
+        argument,
+        table_name,
+        net_name,
+        out_name,
+        &mut table,
+        &mut net,
+        &mut out,
+        &mut text,
+    );
+    let n = scheduled.line;
+    io::write_all(1, &text[..n]);
+}
+
 // Prints what the judging program does for the three names that start at a place.
 fn judged(script: &[u8], point: usize) {
     let a = find(script, point, b',');
@@ -90,6 +110,29 @@ fn drawn(script: &[u8], point: usize) {
     print_drawn(&script[point..a]);
 }
 
+// The same for the scheduling program, its argument and three names.
+fn scheduled(script: &[u8], argument: usize) {
+    let a = find(script, argument, b',');
+    let table = plus(a, 1);
+    let b = find(script, table, b',');
+    let net = plus(b, 1);
+    let c = find(script, net, b',');
+    let out = plus(c, 1);
+    let d = find(script, out, b'\n');
+    if a < argument || b < table || c < net || d < out {
+        return;
+    }
+    if script.len() < a || script.len() < b || script.len() < c || script.len() < d {
+        return;
+    }
+    print_scheduled(
+        &script[argument..a],
+        &script[table..b],
+        &script[net..c],
+        &script[out..d],
+    );
+}
+
 // One case: a label, and what a program prints.
 fn case(script: &[u8], at: usize) {
     let colon = find(script, at, b':');
@@ -98,6 +141,7 @@ fn case(script: &[u8], at: usize) {
     match byte(script, plus(colon, 2)) {
         b'j' => judged(script, names),
         b'a' => annotated(script, names),
+        b's' => scheduled(script, names),
         _ => drawn(script, names),
     }
 }
@@ -119,7 +163,7 @@ fn run(script: &[u8]) {
 }
 
 fn main() {
-    let mut input = io::buffer();
+    let mut input = io::large_buffer();
     let n = io::read_full(0, &mut input);
     run(&input[..n]);
 }

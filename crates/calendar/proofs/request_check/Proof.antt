@@ -1,7 +1,6 @@
 -- `calendar::request_check` meets its contract.
 -- Assumes nothing.
 use mathlib.Core.Path.{_≡_, _∙_, ap}
-use mathlib.Core.List.{List}
 use Prim.Native.Nat.{ℕ}
 use borrow.Author.Needs.{needs}
 use Rattle.prelude.specs.Checks.{firstBroken}

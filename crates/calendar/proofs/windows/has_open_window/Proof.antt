@@ -16,18 +16,6 @@ Inv-loop windows minute position i₀ i = Ahead (any (λ w. isOf position w && i
 abbrev μ-loop : tie.MeasureT-loop
 μ-loop windows minute position i₀ i = length windows - i
 
-returns : tie.Need-returns Inv-loop μ-loop
-returns c =
-    let s = c .before .before .before .before .before .args in
-    let l = c .before .before .before .before .loop in
-    any-found (λ w. isOf (s .position) w && includes (s .minute) w) (s .windows .now) (l .i) (c .before .before .before .loop-test .taken) (c .before .opens .result) (c .before .opens .ensures) (l .inv) (c .if1 .taken)
-
-loop-again : tie.Need-loop-again Inv-loop μ-loop
-loop-again c =
-    let s = c .before .before .before .before .before .args in
-    let l = c .before .before .before .before .loop in
-    any-next (λ w. isOf (s .position) w && includes (s .minute) w) (s .windows .now) (l .i) (c .before .before .before .loop-test .taken) (c .before .opens .result) (c .before .opens .ensures) (l .inv) (c .if1 .left)
-
 pub has-open-window-spec : {M : Type 1} → statement M
 has-open-window-spec =
     tie.close
@@ -38,8 +26,8 @@ has-open-window-spec =
     (λ c. search needs)
     (λ c. search needs)
     (λ c κs. tt)
-    returns
+    (λ c. any-found _ (c .before .before .before .before .loop .inv) (c .before .before .before .loop-test .taken) (c .before .opens .ensures) (c .if1 .taken))
     (λ c. search needs)
     (λ c. search needs)
-    loop-again
+    (λ c. any-next _ (c .before .before .before .before .loop .inv) (c .before .before .before .loop-test .taken) (c .before .opens .ensures) (c .if1 .left))
     (λ c. sym (ahead-end _ _ _ (c .before .loop .inv) (c .loop-test .left))))

@@ -15,18 +15,6 @@ Inv-loop windows position i₀ i = Ahead (any (isOf position)) windows i
 abbrev μ-loop : tie.MeasureT-loop
 μ-loop windows position i₀ i = length windows - i
 
-returns : tie.Need-returns Inv-loop μ-loop
-returns c =
-    let s = c .before .before .before .before .before .args in
-    let l = c .before .before .before .before .loop in
-    any-found (isOf (s .position)) (s .windows .now) (l .i) (c .before .before .before .loop-test .taken) (c .before .is-of .result) (c .before .is-of .ensures) (l .inv) (c .if1 .taken)
-
-loop-again : tie.Need-loop-again Inv-loop μ-loop
-loop-again c =
-    let s = c .before .before .before .before .before .args in
-    let l = c .before .before .before .before .loop in
-    any-next (isOf (s .position)) (s .windows .now) (l .i) (c .before .before .before .loop-test .taken) (c .before .is-of .result) (c .before .is-of .ensures) (l .inv) (c .if1 .left)
-
 pub has-window-spec : {M : Type 1} → statement M
 has-window-spec =
     tie.close
@@ -37,8 +25,8 @@ has-window-spec =
     (λ c. search needs)
     (λ c. search needs)
     (λ c κs. tt)
-    returns
+    (λ c. any-found _ (c .before .before .before .before .loop .inv) (c .before .before .before .loop-test .taken) (c .before .is-of .ensures) (c .if1 .taken))
     (λ c. search needs)
     (λ c. search needs)
-    loop-again
+    (λ c. any-next _ (c .before .before .before .before .loop .inv) (c .before .before .before .loop-test .taken) (c .before .is-of .ensures) (c .if1 .left))
     (λ c. sym (ahead-end _ _ _ (c .before .loop .inv) (c .loop-test .left))))

@@ -1,6 +1,5 @@
 -- `calendar::windows::is_open` meets its contract.
 -- Assumes nothing.
-use borrow.Author.Needs.{needs}
 use Rattle.calendar.specs.Windows.{isOpen}
 use Rattle.calendar.proofs.windows.is_open.Statement.{statement}
 use Rattle.calendar.proofs.windows.is_open.Tie as tie

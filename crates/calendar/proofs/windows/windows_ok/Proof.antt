@@ -16,18 +16,6 @@ Inv-loop windows m i₀ i = Ahead (all (windowOk m)) windows i
 abbrev μ-loop : tie.MeasureT-loop
 μ-loop windows m i₀ i = length windows - i
 
-returns : tie.Need-returns Inv-loop μ-loop
-returns c =
-    let s = c .before .before .before .before .before .args in
-    let l = c .before .before .before .before .loop in
-    all-failed (windowOk (s .m)) (s .windows .now) (l .i) (c .before .before .before .loop-test .taken) (c .before .window-ok .result) (c .before .window-ok .ensures) (l .inv) (c .if1 .taken)
-
-loop-again : tie.Need-loop-again Inv-loop μ-loop
-loop-again c =
-    let s = c .before .before .before .before .before .args in
-    let l = c .before .before .before .before .loop in
-    all-next (windowOk (s .m)) (s .windows .now) (l .i) (c .before .before .before .loop-test .taken) (c .before .window-ok .result) (c .before .window-ok .ensures) (l .inv) (c .if1 .left)
-
 pub windows-ok-spec : {M : Type 1} → statement M
 windows-ok-spec =
     tie.close
@@ -38,8 +26,8 @@ windows-ok-spec =
     (λ c. search needs)
     (λ c. search needs)
     (λ c κs. tt)
-    returns
+    (λ c. all-failed _ (c .before .before .before .before .loop .inv) (c .before .before .before .loop-test .taken) (c .before .window-ok .ensures) (c .if1 .taken))
     (λ c. search needs)
     (λ c. search needs)
-    loop-again
+    (λ c. all-next _ (c .before .before .before .before .loop .inv) (c .before .before .before .loop-test .taken) (c .before .window-ok .ensures) (c .if1 .left))
     (λ c. sym (ahead-end _ _ _ (c .before .loop .inv) (c .loop-test .left))))
