@@ -26,7 +26,7 @@ pub left-one-length : (q : Question) (b : Bool) (e : Arc) → length (leftFor q 
 left-one-length q true e = omega arith
 left-one-length q false e = closed-length q e
 
--- an arc without its capacity has the same ends
+-- an arc with the capacity 0 has the same ends
 emptied-sides : (q : Question) (st : Setting) (e : Arc) → SidesFor q st e → SidesFor q st (emptied e)
 emptied-sides shortestPath st e h = tt
 emptied-sides maximumFlow st e h = tt

@@ -1,5 +1,3 @@
-pub mod WindowLoops
-pub mod OpenTests
 pub mod LeftArcs
 pub mod LeftRecords
 pub mod EmptyArcs

@@ -22,20 +22,12 @@ use Rattle.format.proofs.Promises.{only-network}
 use Rattle.acceptance.specs.Acceptance.{acceptanceChecks, AcceptedFile}
 use Rattle.acceptance.proofs.AcceptedFiles.{layout-held}
 use Rattle.acceptance.proofs.Promises.{written-accepted, accepted-means}
-use Rattle.calendar.specs.Windows.{Window, mostWindows, lastMinute, isOpen, windowOk}
-use Rattle.calendar.specs.Schedule.{arcsAt, fileAt, windowsChecks, requestChecks, scheduleChecks, scheduleReply, bufferAfter}
-use Rattle.calendar.specs.Promises.{OpenMeans, WindowMeans, FileAccepted, NoWindows, Writes, RefusalWritesNothing, FirstDecide, OpenAlone}
-use Rattle.calendar.proofs.OpenTests.{open-rule, open-test, window-rule, window-test}
+use Rattle.tide_windows.specs.Windows.{Window, mostWindows, lastMinute, isOpen, windowOk, windowsChecks}
+use Rattle.calendar.specs.Schedule.{arcsAt, fileAt, requestChecks, scheduleChecks, scheduleReply, bufferAfter}
+use Rattle.calendar.specs.Promises.{FileAccepted, NoWindows, Writes, RefusalWritesNothing, FirstDecide, OpenAlone}
+use Rattle.tide_windows.proofs.OpenTests.{window-rule}
 use Rattle.calendar.proofs.LeftArcs.{left-length, left-allowed, left-all}
 use Rattle.calendar.proofs.EmptyArcs.{open-alone-for}
-
--- ---- the tests
-
-pub open-means : OpenMeans
-open-means ws t k = (open-rule ws t k, open-test ws t k)
-
-pub window-means : WindowMeans
-window-means m w = (window-rule m w, window-test m w)
 
 -- ---- the file of a minute
 

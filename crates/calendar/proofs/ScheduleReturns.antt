@@ -16,8 +16,8 @@ use Rattle.format.specs.Files.{countIn}
 use Rattle.format.specs.Replies.{WriterSaid, wrote, declined}
 use Rattle.acceptance.specs.Acceptance.{acceptanceChecks}
 use Rattle.acceptance.proofs.AcceptedFiles.{acceptance-numbered}
-use Rattle.calendar.specs.Windows.{Window}
-use Rattle.calendar.specs.Schedule.{arcsAt, fileAt, windowsChecks, requestChecks, scheduleReply, bufferAfter}
+use Rattle.tide_windows.specs.Windows.{Window, windowsChecks}
+use Rattle.calendar.specs.Schedule.{arcsAt, fileAt, requestChecks, scheduleReply, bufferAfter}
 use Rattle.calendar.proofs.LeftRecords.{file-size}
 use Rattle.calendar.proofs.Promises.{minute-admissible}
 

@@ -4,7 +4,6 @@ use mathlib.Core.Path.{_≡_}
 use mathlib.Core.Logic.{_↔_}
 use mathlib.Core.List.{List, []}
 use Prim.Native.Nat.{ℕ, _≤_}
-use lib.Dec.{T}
 use lib.ListN.{length, take, drop}
 use Rattle.prelude.specs.Lists.{Every}
 use Rattle.network.specs.Network.{Arc}
@@ -14,16 +13,8 @@ use Rattle.format.specs.Promises.{Byte}
 use Rattle.format.specs.Replies.{wrote, declined}
 use Rattle.acceptance.specs.Acceptance.{AcceptedFile}
 use Rattle.acceptance.specs.Promises.{Says}
-use Rattle.calendar.specs.Windows.{Window, mostWindows, lastMinute, isOpen, Open, windowOk, WindowFits}
+use Rattle.tide_windows.specs.Windows.{Window, mostWindows, lastMinute, WindowFits}
 use Rattle.calendar.specs.Schedule.{scheduled, openAlone, arcsAt, fileAt, scheduleReply, bufferAfter}
-
--- The test of an open record holds exactly where the record is open (PANEL 14).
-abbrev pub OpenMeans : Type 0
-OpenMeans = (ws : List Window) (t k : ℕ) → T (isOpen ws t k) ↔ Open ws t k
-
--- The test of a window holds exactly where the window fits (PANEL 14, check 22).
-abbrev pub WindowMeans : Type 0
-WindowMeans = (m : ℕ) (w : Window) → T (windowOk m w) ↔ WindowFits m w
 
 -- The file of a minute is accepted by the panel, and says the network of that minute under the same question, n, s and t.
 abbrev pub FileAccepted : Type 0

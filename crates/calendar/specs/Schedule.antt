@@ -1,7 +1,7 @@
 -- The network of a minute, and the file that the calendar writes of it (PANEL 14).
 -- Assumes nothing.
 use mathlib.Core.Path.{_≡_}
-use mathlib.Core.Bool.{Bool, _&&_}
+use mathlib.Core.Bool.{Bool}
 use mathlib.Core.List.{List, [], _∷_, _++_, flatMap}
 use Prim.Native.Nat.{ℕ, suc, _+_, _*_}
 use lib.Dec.{leb}
@@ -9,19 +9,18 @@ use lib.ListN.{length, drop}
 use lib.Seq.{sets}
 use Rattle.prelude.specs.Checks.{Check, _unless_, settle}
 use Rattle.prelude.specs.Choice.{pick}
-use Rattle.prelude.specs.Lists.{all}
 use Rattle.network.specs.Network.{Arc, arcOf, arcHeld}
 use Rattle.network.specs.Question.{Question, shortestPath, maximumFlow, assignment, unasked, asks}
 use Rattle.format.specs.Files.{settingIn, countIn, arcsIn, arcBytes, networkFile}
 use Rattle.format.specs.Replies.{WriterSaid, wrote, declined}
 use Rattle.acceptance.specs.Acceptance.{acceptanceChecks}
-use Rattle.calendar.specs.Windows.{Window, isOpen, windowOk, mostWindows, lastMinute}
+use Rattle.tide_windows.specs.Windows.{Window, isOpen, windowsChecks}
 use Rattle.calendar.specs.declared.records.Left.{Left}
 use Rattle.calendar.specs.declared.records.Left.the-variants.{One, Nothing}
 
 -- ---- the network of a minute
 
--- The arc without its capacity.
+-- The arc with the capacity 0.
 abbrev pub emptied : Arc → Arc
 emptied e = arcOf (e .tail) (e .head) 0
 
@@ -75,10 +74,6 @@ abbrev pub fileAt : List ℕ → List Window → ℕ → List ℕ
 fileAt net ws t = networkFile (settingIn net) (arcsAt net ws t)
 
 -- ---- the checks, the reply and the buffer
-
--- The checks of the windows and of the minute, for a file of m records (PANEL 14): 21, there are not too many; 22, the minute and each window fit.
-abbrev pub windowsChecks : ℕ → List Window → ℕ → List Check
-windowsChecks m ws t = 21 unless leb (length ws) mostWindows ∷ 22 unless (leb t lastMinute && all (windowOk m) ws) ∷ []
 
 -- The checks of what is handed over but for the buffer (PANEL 14): those by which the panel accepts the file, then those of the windows.
 abbrev pub requestChecks : List ℕ → List Window → ℕ → List Check

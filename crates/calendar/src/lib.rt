@@ -5,16 +5,15 @@ ghost use lib.ListN.{length};
 ghost use lib.Seq.{sets};
 ghost use Rattle.prelude.specs.Checks.{firstBroken};
 ghost use Rattle.format.specs.Replies.{writerSaid};
-ghost use Rattle.calendar.specs.Windows.{windowsIn};
+ghost use Rattle.tide_windows.specs.Windows.{windowsIn};
 ghost use Rattle.calendar.specs.Schedule.{arcsAt, fileAt, requestChecks, scheduleReply, bufferAfter};
 use acceptance::acceptance_check;
 use format::Written;
 use format::network_file;
 use records::write_records;
-use windows::windows_check;
+use tide_windows::windows_check;
 
 mod records;
-mod windows;
 
 // 0, or the number of the first check that refuses the file, the windows or the minute.
 fn request_check(net: &[u8], windows: &[[u32; 3]], minute: u32) -> u8

@@ -6,14 +6,14 @@ ghost use Rattle.network.specs.Network.{arcHeld};
 ghost use Rattle.network.specs.Question.{asks};
 ghost use Rattle.checks.specs.Held.{questionHeld};
 ghost use Rattle.format.specs.Files.{lowArc, settingIn, arcIn};
-ghost use Rattle.calendar.specs.Windows.{windowsIn, isOpen};
+ghost use Rattle.tide_windows.specs.Windows.{windowsIn, isOpen};
 ghost use Rattle.calendar.specs.Schedule.{closedFor, leftFor, leftHeld, arcsAt, RecordsIn};
-use super::windows::is_open;
 use checks::rows::Question;
 use checks::rows::question_of;
 use format::network_file;
 use network::Record;
 use network::arc_in;
+use tide_windows::is_open;
 
 // What is left of a record: one record, or nothing.
 pub enum Left {

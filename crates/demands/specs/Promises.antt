@@ -15,7 +15,7 @@ use Rattle.runs.specs.Run.{Wrong}
 use Rattle.judging.specs.Judging.{judged, judgedBySteps}
 use Rattle.format.specs.Replies.{WriterSaid, wrote}
 use Rattle.helper.specs.Helper.{annotated, sizeFor, Annotation, BufferAfter}
-use Rattle.calendar.specs.Windows.{Window}
+use Rattle.tide_windows.specs.Windows.{Window}
 use Rattle.calendar.specs.Schedule.{openAlone, arcsAt, fileAt, scheduleReply, bufferAfter}
 
 -- At every point the file and the annotation come out as the true answer, by judging and by the steps of a session.

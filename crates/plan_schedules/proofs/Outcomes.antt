@@ -14,7 +14,7 @@ use Rattle.io.specs.Counts.{Counts}
 use Rattle.io.proofs.Counting.{counts}
 use Rattle.format.specs.Replies.{WriterSaid}
 use Rattle.format.proofs.LentRests.{sets-shift}
-use Rattle.calendar.specs.Windows.{Window, windowIn, windowsIn}
+use Rattle.tide_windows.specs.Windows.{Window, windowIn, windowsIn}
 use Rattle.calendar.specs.Schedule.{scheduleReply, bufferAfter}
 use Rattle.calendar.proofs.Promises.{first-decide}
 use Rattle.tide_table.specs.Text.{isNumber, value}

@@ -13,7 +13,8 @@ use Rattle.prelude.proofs.Settle.{settle-append, settle-when, hold-left}
 use Rattle.format.specs.Files.{countIn}
 use Rattle.format.specs.Replies.{wrote, declined}
 use Rattle.acceptance.specs.Acceptance.{acceptanceChecks}
-use Rattle.calendar.specs.Schedule.{fileAt, windowsChecks, requestChecks}
+use Rattle.tide_windows.specs.Windows.{windowsChecks}
+use Rattle.calendar.specs.Schedule.{fileAt, requestChecks}
 use Rattle.calendar.proofs.LeftRecords.{file-size}
 use Rattle.calendar.proofs.Promises.{minute-admissible}
 use Rattle.plan_schedules.specs.Promises.{RoomEnough}

@@ -6,7 +6,7 @@ use Prim.Native.Nat.{ℕ}
 use lib.ListN.{length}
 use Rattle.prelude.specs.Checks.{settle}
 use Rattle.format.specs.Replies.{wrote, declined}
-use Rattle.calendar.specs.Windows.{Window}
+use Rattle.tide_windows.specs.Windows.{Window}
 use Rattle.calendar.specs.Schedule.{fileAt, requestChecks, scheduleReply}
 
 -- The room of 32768 bytes is large enough for the file of every minute: check 20 refuses none.

@@ -8,7 +8,7 @@ use lib.Dec.{eqb}
 use lib.ListN.{take}
 use Rattle.prelude.specs.Choice.{pick}
 use Rattle.format.specs.Replies.{WriterSaid}
-use Rattle.calendar.specs.Windows.{Window}
+use Rattle.tide_windows.specs.Windows.{Window}
 use Rattle.calendar.specs.Schedule.{scheduleReply, bufferAfter}
 use Rattle.tide_table.specs.Text.{isNumber, value}
 use Rattle.tide_table.specs.TideTable.{badLineOf, windowsOf}

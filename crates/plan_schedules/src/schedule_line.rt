@@ -4,7 +4,7 @@ ghost use mathlib.Core.Bool.{false};
 ghost use Prim.Native.Nat.{min};
 ghost use lib.ListN.{length};
 ghost use Rattle.format.specs.Replies.{writerSaid};
-ghost use Rattle.calendar.specs.Windows.{windowsIn};
+ghost use Rattle.tide_windows.specs.Windows.{windowsIn};
 ghost use Rattle.calendar.specs.Schedule.{scheduleReply, bufferAfter};
 ghost use Rattle.program_io.specs.Counted.{counted as inRoom};
 ghost use Rattle.plan_schedules.specs.ScheduleLine.{DoneBy, DoneFor, ScheduledFiles};

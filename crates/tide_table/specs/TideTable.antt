@@ -9,7 +9,7 @@ use lib.ListN.{length, getD, take}
 use lib.Seq.{sets}
 use Rattle.prelude.specs.Choice.{pick}
 use Rattle.prelude.specs.Lists.{all}
-use Rattle.calendar.specs.Windows.{Window, windowIn}
+use Rattle.tide_windows.specs.Windows.{Window, windowIn}
 use Rattle.tide_table.specs.Text.{linesOf, wordsOf, value, isNumber}
 use Rattle.tide_table.specs.declared.Found.{Found}
 

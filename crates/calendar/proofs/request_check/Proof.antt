@@ -8,8 +8,7 @@ use Rattle.prelude.proofs.Settle.{part-refused, part-passed}
 use Rattle.format.specs.Files.{countIn}
 use Rattle.acceptance.specs.Acceptance.{acceptanceChecks}
 use Rattle.acceptance.proofs.AcceptedFiles.{acceptance-numbered}
-use Rattle.calendar.specs.Windows.{windowsIn}
-use Rattle.calendar.specs.Schedule.{windowsChecks}
+use Rattle.tide_windows.specs.Windows.{windowsIn, windowsChecks}
 use Rattle.calendar.proofs.request_check.Statement.{statement}
 use Rattle.calendar.proofs.request_check.Tie as tie
 

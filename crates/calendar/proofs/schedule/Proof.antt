@@ -3,7 +3,7 @@
 use Prim.Native.Nat.{_≤_}
 use native.Mathlib.Omega.{arith}
 use Rattle.network.specs.Limits.{mostArcs}
-use Rattle.calendar.specs.Windows.{windowsIn}
+use Rattle.tide_windows.specs.Windows.{windowsIn}
 use Rattle.calendar.proofs.ScheduleReturns.{at-request, few-records, at-room, at-end}
 use Rattle.calendar.proofs.schedule.Statement.{statement}
 use Rattle.calendar.proofs.schedule.Tie as tie

@@ -1,7 +1,7 @@
 -- `calendar::write_file` meets its contract.
 -- Assumes nothing.
 use borrow.Author.Needs.{needs}
-use Rattle.calendar.specs.Windows.{windowsIn}
+use Rattle.tide_windows.specs.Windows.{windowsIn}
 use Rattle.calendar.proofs.LeftRecords.{file-written}
 use Rattle.calendar.proofs.write_file.Statement.{statement}
 use Rattle.calendar.proofs.write_file.Tie as tie

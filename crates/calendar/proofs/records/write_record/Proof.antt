@@ -4,7 +4,7 @@ use mathlib.Core.Path.{_∙_, ap}
 use borrow.Author.Needs.{needs}
 use Rattle.network.specs.Question.{questionOf, asks}
 use Rattle.format.specs.Files.{settingIn, arcIn}
-use Rattle.calendar.specs.Windows.{windowsIn, isOpen}
+use Rattle.tide_windows.specs.Windows.{windowsIn, isOpen}
 use Rattle.calendar.specs.Schedule.{leftFor, leftHeld}
 use Rattle.calendar.proofs.LeftRecords.{left-written}
 use Rattle.calendar.proofs.records.write_record.Statement.{statement}

@@ -5,7 +5,7 @@ use native.Mathlib.Omega.{arith}
 use borrow.Author.Needs.{needs}
 use Rattle.network.specs.Question.{asks}
 use Rattle.format.specs.Files.{settingIn, arcIn}
-use Rattle.calendar.specs.Windows.{windowsIn, isOpen}
+use Rattle.tide_windows.specs.Windows.{windowsIn, isOpen}
 use Rattle.calendar.proofs.LeftRecords.{LeftTo, left-none, left-within, left-size, left-turn, left-end}
 use Rattle.calendar.proofs.records.write_records.Statement.{statement}
 use Rattle.calendar.proofs.records.write_records.Tie as tie

@@ -6,7 +6,7 @@ use Prim.Native.Nat.{ℕ}
 use borrow.Author.Needs.{needs}
 use lib.ListN.{length}
 use Rattle.format.specs.Replies.{writerSaid}
-use Rattle.calendar.specs.Windows.{windowsIn}
+use Rattle.tide_windows.specs.Windows.{windowsIn}
 use Rattle.calendar.specs.Schedule.{scheduleReply, bufferAfter}
 use Rattle.plan_schedules.proofs.schedule_line.minute_file.Statement.{statement}
 use Rattle.plan_schedules.proofs.schedule_line.minute_file.Tie as tie

@@ -1,13 +1,13 @@
--- `calendar::windows::has_window` meets its contract. The loop's invariant: no window before the row i is of the position.
+-- `tide_windows::has_window` meets its contract. The loop's invariant: no window before the row i is of the position.
 -- Assumes nothing.
 use mathlib.Core.Path.{sym}
 use Prim.Native.Nat.{_-_}
 use lib.ListN.{length}
 use borrow.Author.Needs.{needs}
-use Rattle.calendar.specs.Windows.{any, isOf}
-use Rattle.calendar.proofs.WindowLoops.{Ahead, ahead-start, ahead-end, any-found, any-next}
-use Rattle.calendar.proofs.windows.has_window.Statement.{statement}
-use Rattle.calendar.proofs.windows.has_window.Tie as tie
+use Rattle.tide_windows.specs.Windows.{any, isOf}
+use Rattle.tide_windows.proofs.WindowLoops.{Ahead, ahead-start, ahead-end, any-found, any-next}
+use Rattle.tide_windows.proofs.has_window.Statement.{statement}
+use Rattle.tide_windows.proofs.has_window.Tie as tie
 
 abbrev Inv-loop : tie.InvT-loop
 Inv-loop windows position i₀ i = Ahead (any (isOf position)) windows i

@@ -1,14 +1,14 @@
--- `calendar::windows::has_open_window` meets its contract. The loop's invariant: no window before the row i opens the position.
+-- `tide_windows::has_open_window` meets its contract. The loop's invariant: no window before the row i opens the position.
 -- Assumes nothing.
 use mathlib.Core.Path.{sym}
 use mathlib.Core.Bool.{_&&_}
 use Prim.Native.Nat.{_-_}
 use lib.ListN.{length}
 use borrow.Author.Needs.{needs}
-use Rattle.calendar.specs.Windows.{any, isOf, includes}
-use Rattle.calendar.proofs.WindowLoops.{Ahead, ahead-start, ahead-end, any-found, any-next}
-use Rattle.calendar.proofs.windows.has_open_window.Statement.{statement}
-use Rattle.calendar.proofs.windows.has_open_window.Tie as tie
+use Rattle.tide_windows.specs.Windows.{any, isOf, includes}
+use Rattle.tide_windows.proofs.WindowLoops.{Ahead, ahead-start, ahead-end, any-found, any-next}
+use Rattle.tide_windows.proofs.has_open_window.Statement.{statement}
+use Rattle.tide_windows.proofs.has_open_window.Tie as tie
 
 abbrev Inv-loop : tie.InvT-loop
 Inv-loop windows minute position i₀ i = Ahead (any (λ w. isOf position w && includes minute w)) windows i

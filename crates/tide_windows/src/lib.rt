@@ -3,8 +3,7 @@ ghost use mathlib.Core.Path.{_≡_};
 ghost use mathlib.Core.Bool.{_&&_};
 ghost use Rattle.prelude.specs.Checks.{firstBroken};
 ghost use Rattle.prelude.specs.Lists.{all};
-ghost use Rattle.calendar.specs.Windows.{windowIn, windowsIn, any, isOf, includes, isOpen, windowOk};
-ghost use Rattle.calendar.specs.Schedule.{windowsChecks};
+ghost use Rattle.tide_windows.specs.Windows.{windowIn, windowsIn, any, isOf, includes, isOpen, windowOk, windowsChecks};
 
 // The limits (PANEL 14): the most windows, the last minute of a week, and the last end.
 const MOST_WINDOWS: usize = 64;
@@ -62,7 +61,7 @@ fn has_open_window(windows: &[[u32; 3]], minute: u32, position: u32) -> bool
 }
 
 // Is the record at the position open at the minute?
-pub(crate) fn is_open(windows: &[[u32; 3]], minute: u32, position: u32) -> bool
+pub fn is_open(windows: &[[u32; 3]], minute: u32, position: u32) -> bool
     ensures { λ r. ⌜ r ≡ isOpen (windowsIn (now (windows .entry))) minute position ⌝ }
 {
     if !has_window(windows, position) {
@@ -102,7 +101,7 @@ fn windows_ok(windows: &[[u32; 3]], m: u32) -> bool
 }
 
 // 0, or the number of the first check that refuses the windows or the minute, for a file of m records: 21 or 22.
-pub(crate) fn windows_check(windows: &[[u32; 3]], minute: u32, m: u32) -> u8
+pub fn windows_check(windows: &[[u32; 3]], minute: u32, m: u32) -> u8
     ensures { λ r. ⌜ r ≡ firstBroken (windowsChecks m (windowsIn (now (windows .entry))) minute) ⌝ }
 {
     if MOST_WINDOWS < windows.len() {

@@ -1,10 +1,10 @@
--- `calendar::windows::opens` meets its contract.
+-- `tide_windows::opens` meets its contract.
 -- Assumes nothing.
 use borrow.Author.Needs.{needs}
 use borrow.Author.Tests.{le-leb, lt-leb}
 use Rattle.prelude.proofs.Tested.{passed, refused}
-use Rattle.calendar.proofs.windows.opens.Statement.{statement}
-use Rattle.calendar.proofs.windows.opens.Tie as tie
+use Rattle.tide_windows.proofs.opens.Statement.{statement}
+use Rattle.tide_windows.proofs.opens.Tie as tie
 
 pub opens-spec : {M : Type 1} → statement M
 opens-spec =

@@ -1,10 +1,10 @@
--- `calendar::windows::windows_check` meets its contract.
+-- `tide_windows::windows_check` meets its contract.
 -- Assumes nothing.
 use borrow.Author.Tests.{le-leb, lt-leb}
 use Rattle.prelude.proofs.Tested.{passed, refused}
-use Rattle.calendar.proofs.WindowLoops.{too-many, few-enough}
-use Rattle.calendar.proofs.windows.windows_check.Statement.{statement}
-use Rattle.calendar.proofs.windows.windows_check.Tie as tie
+use Rattle.tide_windows.proofs.WindowLoops.{too-many, few-enough}
+use Rattle.tide_windows.proofs.windows_check.Statement.{statement}
+use Rattle.tide_windows.proofs.windows_check.Tie as tie
 
 pub windows-check-spec : {M : Type 1} → statement M
 windows-check-spec =

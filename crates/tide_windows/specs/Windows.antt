@@ -1,4 +1,4 @@
--- Windows of a tide table, and when a channel record is open (PANEL 14).
+-- Windows of a tide table: when a channel record is open, and the checks of windows (PANEL 14).
 -- Assumes nothing.
 use mathlib.Core.Path.{_≡_}
 use mathlib.Core.Logic.{_⊎_, _≢_}
@@ -6,8 +6,9 @@ use mathlib.Core.Bool.{Bool, false, _&&_, _||_, not}
 use mathlib.Core.List.{List, [], _∷_, map}
 use Prim.Native.Nat.{ℕ, _≤_, _<_}
 use lib.Dec.{eqb, leb, ltb}
-use lib.ListN.{getD}
-use Rattle.prelude.specs.Lists.{Every, Some}
+use lib.ListN.{length, getD}
+use Rattle.prelude.specs.Checks.{Check, _unless_}
+use Rattle.prelude.specs.Lists.{Every, Some, all}
 
 -- ---- windows
 
@@ -80,3 +81,7 @@ pub record WindowFits (m : ℕ) (w : Window) : Type 0 where
   pub first-within : w .first ≤ lastMinute
   pub end-within : w .end ≤ lastEnd
   pub end-after-first : w .first < w .end
+
+-- The checks of the windows and of the minute, for a file of m records (PANEL 14): 21, there are not too many; 22, the minute and each window fit.
+abbrev pub windowsChecks : ℕ → List Window → ℕ → List Check
+windowsChecks m ws t = 21 unless leb (length ws) mostWindows ∷ 22 unless (leb t lastMinute && all (windowOk m) ws) ∷ []

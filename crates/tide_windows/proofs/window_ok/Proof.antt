@@ -1,9 +1,9 @@
--- `calendar::windows::window_ok` meets its contract.
+-- `tide_windows::window_ok` meets its contract.
 -- Assumes nothing.
 use borrow.Author.Needs.{needs}
 use Rattle.prelude.proofs.Tested.{tested}
-use Rattle.calendar.proofs.windows.window_ok.Statement.{statement}
-use Rattle.calendar.proofs.windows.window_ok.Tie as tie
+use Rattle.tide_windows.proofs.window_ok.Statement.{statement}
+use Rattle.tide_windows.proofs.window_ok.Tie as tie
 
 pub window-ok-spec : {M : Type 1} → statement M
 window-ok-spec =

@@ -1,14 +1,14 @@
--- `calendar::windows::windows_ok` meets its contract. The loop's invariant: every window before the row i fits.
+-- `tide_windows::windows_ok` meets its contract. The loop's invariant: every window before the row i fits.
 -- Assumes nothing.
 use mathlib.Core.Path.{sym}
 use Prim.Native.Nat.{_-_}
 use lib.ListN.{length}
 use borrow.Author.Needs.{needs}
 use Rattle.prelude.specs.Lists.{all}
-use Rattle.calendar.specs.Windows.{windowOk}
-use Rattle.calendar.proofs.WindowLoops.{Ahead, ahead-start, ahead-end, all-failed, all-next}
-use Rattle.calendar.proofs.windows.windows_ok.Statement.{statement}
-use Rattle.calendar.proofs.windows.windows_ok.Tie as tie
+use Rattle.tide_windows.specs.Windows.{windowOk}
+use Rattle.tide_windows.proofs.WindowLoops.{Ahead, ahead-start, ahead-end, all-failed, all-next}
+use Rattle.tide_windows.proofs.windows_ok.Statement.{statement}
+use Rattle.tide_windows.proofs.windows_ok.Tie as tie
 
 abbrev Inv-loop : tie.InvT-loop
 Inv-loop windows m i₀ i = Ahead (all (windowOk m)) windows i

@@ -11,7 +11,7 @@ use lib.ListN.{length, getD, drop, drop-of-length-le, length-map}
 use lib.Seq.{drop-cons}
 use borrow.Author.Tests.{not-true, not-false, le-leb, lt-leb}
 use Rattle.prelude.specs.Lists.{all}
-use Rattle.calendar.specs.Windows.{Window, windowIn, windowsIn, mostWindows, any}
+use Rattle.tide_windows.specs.Windows.{Window, windowIn, windowsIn, mostWindows, any}
 
 module _ (f : List Window → Bool) (rows : List (List ℕ)) where
   -- the windows from the row i on pass the test if all do

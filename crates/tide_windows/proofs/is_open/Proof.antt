@@ -1,8 +1,8 @@
--- `calendar::windows::is_open` meets its contract.
+-- `tide_windows::is_open` meets its contract.
 -- Assumes nothing.
-use Rattle.calendar.specs.Windows.{isOpen}
-use Rattle.calendar.proofs.windows.is_open.Statement.{statement}
-use Rattle.calendar.proofs.windows.is_open.Tie as tie
+use Rattle.tide_windows.specs.Windows.{isOpen}
+use Rattle.tide_windows.proofs.is_open.Statement.{statement}
+use Rattle.tide_windows.proofs.is_open.Tie as tie
 
 returns : tie.Need-returns
 unfolding isOpen

@@ -1,0 +1,3 @@
+pub mod WindowLoops
+pub mod OpenTests
+pub mod Promises
