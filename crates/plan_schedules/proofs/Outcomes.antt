@@ -1,4 +1,4 @@
--- What the scheduling program has done, put together: the windows that are handed on, the outcome for a table, and the outcome for an argument.
+-- What the scheduling program has done: the windows that are handed on, what is done without the calendar, and the outcomes step by step.
 -- Assumes nothing.
 use mathlib.Core.Path.{_≡_, refl, sym, _∙_, ap, subst}
 use mathlib.Core.Bool.{Bool, true, false}
@@ -12,9 +12,8 @@ use lib.Seq.{sets, length-sets}
 use borrow.Author.Tests.{eq-eqb, ne-eqb}
 use Rattle.io.specs.Counts.{Counts}
 use Rattle.io.proofs.Counting.{counts}
-use Rattle.format.specs.Replies.{WriterSaid}
 use Rattle.format.proofs.LentRests.{sets-shift}
-use Rattle.tide_windows.specs.Windows.{Window, windowIn, windowsIn}
+use Rattle.tide_windows.specs.Windows.{Window, windowsIn}
 use Rattle.calendar.specs.Schedule.{scheduleReply, bufferAfter}
 use Rattle.calendar.proofs.Promises.{first-decide}
 use Rattle.tide_table.specs.Text.{isNumber, value}
@@ -22,10 +21,8 @@ use Rattle.tide_table.specs.TideTable.{badLineOf, windowsOf, rowOf}
 use Rattle.program_io.specs.Line.{LineIn}
 use Rattle.program_io.proofs.Lines.{same-in}
 use Rattle.program_io.specs.Counted.{counted}
-use Rattle.written_files.specs.ReplyLine.{replyLine}
-use Rattle.plan_schedules.specs.ScheduleLine.{Outcome, miscalled, untabled, badLine, replied, tableOutcome, scheduleOutcome, tableBuffer, scheduleBuffer, outcomeLine, DoneBy, DoneFor, ScheduledFiles}
+use Rattle.plan_schedules.specs.ScheduleLine.{Outcome, miscalled, untabled, badLine, replied, windowsOutcome, tableOutcome, frontOutcome, scheduleOutcome, windowsBuffer, tableBuffer, frontBuffer, scheduleBuffer, outcomeLine, DoneAs}
 use Rattle.plan_schedules.specs.declared.schedule_line.Done.{Done}
-use Rattle.plan_schedules.specs.declared.schedule_line.Scheduled.{Scheduled}
 
 -- ---- the windows that are handed on
 
@@ -54,70 +51,72 @@ module _ (ws : List Window) (before after : List (List ℕ)) (n count : ℕ) (ro
       ap windowsIn ((λ i. take (size i) (stored i)) ∙ front-stored before (map rowOf ws) ∙ ap (λ (k : ℕ). take k (map rowOf ws)) room)
       ∙ rows-windows 65 ws
 
--- ---- the outcome for a table
+-- ---- what is done without the calendar
 
-module _ (table : List ℕ) (minute room : ℕ) (net out before after : List ℕ) where
-  pub at-bad-line : (bad k : ℕ) → bad ≡ badLineOf table → (bad ≡ 0 → ⊥) → Counts k after → LineIn (outcomeLine (badLine bad) false) before k after
-      → DoneFor table minute room net out out before (record { net = 0; saved = false; line = k }) after
+-- nothing was read or written, and the line is that of the outcome
+pub undone : (outcome : List ℕ → Outcome) (buffer : List ℕ → List ℕ) (said : Outcome) (net out before : List ℕ) (k : ℕ) (r : Done) (after : List ℕ)
+    → outcome [] ≡ said → buffer [] ≡ out → r ≡ record { net = 0; saved = false; line = k } → Counts k after → LineIn (outcomeLine said false) before k after
+    → DoneAs outcome buffer net out before r after
+undone outcome buffer said net out before k r after is keeps nothing made line =
+    subst (λ (d : Done). DoneAs outcome buffer net out before d after) (sym nothing)
+    (record {
+      net-read = counts 0 net (omega arith);
+      out-is = sym keeps;
+      line-made = made;
+      line-is = same-in before k after (ap (λ (o : Outcome). outcomeLine o false) (sym is)) line;
+    })
+
+-- what is done for one outcome is done for another that is the same
+pub done-same : (outcome outcome₂ : List ℕ → Outcome) (buffer buffer₂ : List ℕ → List ℕ) (net out before : List ℕ) (r : Done) (after : List ℕ)
+    → ((l : List ℕ) → outcome l ≡ outcome₂ l) → ((l : List ℕ) → buffer l ≡ buffer₂ l)
+    → DoneAs outcome buffer net out before r after → DoneAs outcome₂ buffer₂ net out before r after
+done-same outcome outcome₂ buffer buffer₂ net out before r after is keeps done =
+    let read = take (r .net) net in
+    record {
+      net-read = done .net-read;
+      out-is = done .out-is ∙ keeps read;
+      line-made = done .line-made;
+      line-is = same-in before (r .line) after (ap (λ (o : Outcome). outcomeLine o (r .saved)) (is read)) (done .line-is);
+    }
+
+-- ---- the outcomes, step by step
+
+module _ (table : List ℕ) (minute : ℕ) where
+  pub table-bad : (k : ℕ) → k ≡ badLineOf table → (k ≡ 0 → ⊥) → (room : ℕ) (out net : List ℕ) → (tableOutcome table minute room net ≡ badLine k) × (tableBuffer table minute out net ≡ out)
   unfolding tableOutcome tableBuffer
-  at-bad-line bad k is n made line =
+  table-bad k is n room out net =
       let off = ne-eqb (badLineOf table) 0 (λ e. n (is ∙ e)) in
-      record {
-        net-read = counts 0 net (omega arith);
-        out-is = rw off;
-        line-made = made;
-        line-is = same-in before k after (ap (λ (j : ℕ). outcomeLine (badLine j) false) is ∙ rw off) line;
-      }
+      (rw off (ap badLine (sym is)), rw off)
 
-  pub at-table : (ws : List Window) (outAfter : List ℕ) (r : Done) → ws ≡ take 65 (windowsOf table) → badLineOf table ≡ 0 → length out ≡ room
-      → DoneBy ws minute room net out outAfter before r after → DoneFor table minute room net out outAfter before r after
+  -- the first 65 windows decide
+  pub table-fine : (ws : List Window) → ws ≡ take 65 (windowsOf table) → badLineOf table ≡ 0 → (out net : List ℕ)
+      → (windowsOutcome ws minute (length out) net ≡ tableOutcome table minute (length out) net) × (windowsBuffer ws minute out net ≡ tableBuffer table minute out net)
   unfolding tableOutcome tableBuffer
-  at-table ws outAfter r first fine size done =
+  table-fine ws first fine out net =
       let on = eq-eqb (badLineOf table) 0 fine in
-      let read = counted (take (r .net) net) in
-      let decide = first-decide read (windowsOf table) minute out in
-      let reply : scheduleReply read ws minute room ≡ scheduleReply read (windowsOf table) minute room =
-      (λ i. scheduleReply read (first i) minute (sym size i)) ∙ decide .0 ∙ ap (scheduleReply read (windowsOf table) minute) size in
-      record {
-        net-read = done .net-read;
-        out-is = done .out-is ∙ ap (λ (l : List Window). bufferAfter read l minute out) first ∙ decide .1 ∙ rw on;
-        line-made = done .line-made;
-        line-is = same-in before (r .line) after (ap (λ (w : WriterSaid). replyLine w (r .saved)) reply ∙ rw on) (done .line-is);
-      }
+      let decide = first-decide (counted net) (windowsOf table) minute out in (
+        ap replied (ap (λ (l : List Window). scheduleReply (counted net) l minute (length out)) first ∙ decide .0) ∙ rw on,
+        ap (λ (l : List Window). bufferAfter (counted net) l minute out) first ∙ decide .1 ∙ rw on,
+      )
 
--- ---- the outcome for an argument
+module _ (isTable : Bool) (table : List ℕ) (minute : ℕ) (out net : List ℕ) where
+  pub front-missing : isTable ≡ false → (room : ℕ) → (frontOutcome isTable table minute room net ≡ untabled) × (frontBuffer isTable table minute out net ≡ out)
+  unfolding frontOutcome frontBuffer
+  front-missing off room = (rw off, rw off)
 
-module _ (argument : List ℕ) (room : ℕ) (table net out before after : List ℕ) (k : ℕ) (made : Counts k after) where
-  pub at-call : isNumber argument ≡ false → LineIn (outcomeLine miscalled false) before k after
-      → ScheduledFiles room argument table net out out before (record { «is_table» = false; table = 0; net = 0; saved = false; line = k }) after
+  pub front-there : isTable ≡ true → (room : ℕ) → (tableOutcome table minute room net ≡ frontOutcome isTable table minute room net) × (tableBuffer table minute out net ≡ frontBuffer isTable table minute out net)
+  unfolding frontOutcome frontBuffer
+  front-there on room = (rw on, rw on)
+
+module _ (argument : List ℕ) (isTable : Bool) (table out net : List ℕ) (room : ℕ) where
+  pub not-called : isNumber argument ≡ false → (scheduleOutcome argument isTable table room net ≡ miscalled) × (scheduleBuffer argument isTable table out net ≡ out)
   unfolding scheduleOutcome scheduleBuffer
-  at-call off line = record {
-    table-read = counts 0 table (omega arith);
-    net-read = counts 0 net (omega arith);
-    out-is = rw off;
-    line-made = made;
-    line-is = same-in before k after (rw off) line;
-  }
+  not-called off = (rw off, rw off)
 
-  pub at-no-table : isNumber argument ≡ true → LineIn (outcomeLine untabled false) before k after
-      → ScheduledFiles room argument table net out out before (record { «is_table» = false; table = 0; net = 0; saved = false; line = k }) after
+  pub called : (minute : ℕ) → isNumber argument ≡ true → minute ≡ value argument
+      → (frontOutcome isTable table minute room net ≡ scheduleOutcome argument isTable table room net) × (frontBuffer isTable table minute out net ≡ scheduleBuffer argument isTable table out net)
   unfolding scheduleOutcome scheduleBuffer
-  at-no-table on line = record {
-    table-read = counts 0 table (omega arith);
-    net-read = counts 0 net (omega arith);
-    out-is = rw on;
-    line-made = made;
-    line-is = same-in before k after (rw on) line;
-  }
-
-pub at-done : (argument : List ℕ) (room : ℕ) (table net out outAfter before after : List ℕ) (minute size : ℕ) (r : Done)
-    → isNumber argument ≡ true → minute ≡ value argument → Counts size table → DoneFor (take size table) minute room net out outAfter before r after
-    → ScheduledFiles room argument table net out outAfter before (record { «is_table» = true; table = size; net = r .net; saved = r .saved; line = r .line }) after
-unfolding scheduleOutcome scheduleBuffer
-at-done argument room table net out outAfter before after minute size r on is read done = record {
-  table-read = read;
-  net-read = done .net-read;
-  out-is = done .out-is ∙ ap (λ (t : ℕ). tableBuffer (take size table) (take (r .net) net) t out) is ∙ rw on;
-  line-made = done .line-made;
-  line-is = same-in before (r .line) after (ap (λ (t : ℕ). outcomeLine (tableOutcome (take size table) (take (r .net) net) t room) (r .saved)) is ∙ rw on) (done .line-is);
-}
+  called minute on is = (
+    ap (λ (t : ℕ). frontOutcome isTable table t room net) is ∙ rw on,
+    ap (λ (t : ℕ). frontBuffer isTable table t out net) is ∙ rw on,
+  )

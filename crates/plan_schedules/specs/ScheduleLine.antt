@@ -28,27 +28,36 @@ pub data Outcome : Type 0 where
   badLine : ℕ → Outcome
   replied : WriterSaid → Outcome
 
--- The outcome for the bytes of a table and a network file, at a minute, with room for so many bytes: every line of the table is a window, or else the calendar is not asked.
-unfoldable pub tableOutcome : List ℕ → List ℕ → ℕ → ℕ → Outcome
-tableOutcome table net minute room =
-    pick (eqb (badLineOf table) 0) (replied (scheduleReply (counted net) (windowsOf table) minute room)) (badLine (badLineOf table))
+-- The outcome by windows, at a minute and with room for so many bytes, for what counts of a network file: the calendar's reply.
+abbrev pub windowsOutcome : List Window → ℕ → ℕ → List ℕ → Outcome
+windowsOutcome ws minute room net = replied (scheduleReply (counted net) ws minute room)
 
--- The outcome for an argument, which has to be a number; where the table could not be read, it is never taken for an empty one.
-unfoldable pub scheduleOutcome : List ℕ → Bool → List ℕ → List ℕ → ℕ → Outcome
-scheduleOutcome argument isTable table net room =
-    pick (isNumber argument) (pick isTable (tableOutcome table net (value argument) room) untabled) miscalled
+-- By the bytes of a table: unless every line of it that counts is a window, the calendar is not asked.
+unfoldable pub tableOutcome : List ℕ → ℕ → ℕ → List ℕ → Outcome
+tableOutcome table minute room net = pick (eqb (badLineOf table) 0) (windowsOutcome (windowsOf table) minute room net) (badLine (badLineOf table))
+
+-- By a table that could be read or not: one that could not is never taken for an empty one.
+unfoldable pub frontOutcome : Bool → List ℕ → ℕ → ℕ → List ℕ → Outcome
+frontOutcome isTable table minute room net = pick isTable (tableOutcome table minute room net) untabled
+
+-- By an argument, which has to be a number.
+unfoldable pub scheduleOutcome : List ℕ → Bool → List ℕ → ℕ → List ℕ → Outcome
+scheduleOutcome argument isTable table room net = pick (isNumber argument) (frontOutcome isTable table (value argument) room net) miscalled
 
 -- ---- the buffer
 
--- What the buffer holds afterwards, for a table: what it held before, where the calendar is not asked.
-unfoldable pub tableBuffer : List ℕ → List ℕ → ℕ → List ℕ → List ℕ
-tableBuffer table net minute before =
-    pick (eqb (badLineOf table) 0) (bufferAfter (counted net) (windowsOf table) minute before) before
+-- What the buffer holds afterwards, in the same four steps: where the calendar is not asked, what it held before.
+abbrev pub windowsBuffer : List Window → ℕ → List ℕ → List ℕ → List ℕ
+windowsBuffer ws minute before net = bufferAfter (counted net) ws minute before
 
--- The same for an argument.
+unfoldable pub tableBuffer : List ℕ → ℕ → List ℕ → List ℕ → List ℕ
+tableBuffer table minute before net = pick (eqb (badLineOf table) 0) (windowsBuffer (windowsOf table) minute before net) before
+
+unfoldable pub frontBuffer : Bool → List ℕ → ℕ → List ℕ → List ℕ → List ℕ
+frontBuffer isTable table minute before net = pick isTable (tableBuffer table minute before net) before
+
 unfoldable pub scheduleBuffer : List ℕ → Bool → List ℕ → List ℕ → List ℕ → List ℕ
-scheduleBuffer argument isTable table net before =
-    pick (isNumber argument) (pick isTable (tableBuffer table net (value argument) before) before) before
+scheduleBuffer argument isTable table before net = pick (isNumber argument) (frontBuffer isTable table (value argument) before net) before
 
 -- ---- the line
 
@@ -61,24 +70,14 @@ outcomeLine (replied said) done = replyLine said done
 
 -- ---- in code
 
--- A network file was read, so many bytes of it; the network of the minute by these windows stands in its buffer of `room` bytes, and the line at the front of the text's buffer.
-pub record DoneBy (ws : List Window) (minute room : ℕ) (net outBefore outAfter before : List ℕ) (r : Done) (after : List ℕ) : Type 0 where
+-- A network file was read into a buffer, so many bytes of it; the other buffer holds what it should for these bytes, and the line of the outcome stands at the front of the text's buffer.
+pub record DoneAs (outcome : List ℕ → Outcome) (buffer : List ℕ → List ℕ) (net out before : List ℕ) (r : Done) (after : List ℕ) : Type 0 where
   pub net-read : Counts (r .net) net
-  pub out-is : outAfter ≡ bufferAfter (counted (take (r .net) net)) ws minute outBefore
+  pub out-is : out ≡ buffer (take (r .net) net)
   pub line-made : Counts (r .line) after
-  pub line-is : LineIn (replyLine (scheduleReply (counted (take (r .net) net)) ws minute room) (r .saved)) before (r .line) after
+  pub line-is : LineIn (outcomeLine (outcome (take (r .net) net)) (r .saved)) before (r .line) after
 
--- The same by the bytes of a table.
-pub record DoneFor (table : List ℕ) (minute room : ℕ) (net outBefore outAfter before : List ℕ) (r : Done) (after : List ℕ) : Type 0 where
-  pub net-read : Counts (r .net) net
-  pub out-is : outAfter ≡ tableBuffer table (take (r .net) net) minute outBefore
-  pub line-made : Counts (r .line) after
-  pub line-is : LineIn (outcomeLine (tableOutcome table (take (r .net) net) minute room) (r .saved)) before (r .line) after
-
--- The same by an argument and a table that was read, so many bytes of it, or could not be read.
-pub record ScheduledFiles (room : ℕ) (argument table net outBefore outAfter before : List ℕ) (r : Scheduled) (after : List ℕ) : Type 0 where
+-- The same by an argument and a table that was read into its buffer, so many bytes of it, or could not be read; `room` is how many bytes the other buffer has.
+pub record ScheduledFiles (room : ℕ) (argument table net outBefore out before : List ℕ) (r : Scheduled) (after : List ℕ) : Type 0 where
   pub table-read : Counts (r .table) table
-  pub net-read : Counts (r .net) net
-  pub out-is : outAfter ≡ scheduleBuffer argument (r .«is_table») (take (r .table) table) (take (r .net) net) outBefore
-  pub line-made : Counts (r .line) after
-  pub line-is : LineIn (outcomeLine (scheduleOutcome argument (r .«is_table») (take (r .table) table) (take (r .net) net) room) (r .saved)) before (r .line) after
+  pub done : DoneAs (scheduleOutcome argument (r .«is_table») (take (r .table) table) room) (scheduleBuffer argument (r .«is_table») (take (r .table) table) outBefore) net out before (r .done) after

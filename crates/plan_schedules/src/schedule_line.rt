@@ -2,15 +2,17 @@
 ghost use mathlib.Core.Path.{_≡_};
 ghost use mathlib.Core.Bool.{false};
 ghost use Prim.Native.Nat.{min};
-ghost use lib.ListN.{length};
+ghost use lib.ListN.{length, take};
+ghost use Rattle.io.specs.Counts.{Counts};
 ghost use Rattle.format.specs.Replies.{writerSaid};
 ghost use Rattle.tide_windows.specs.Windows.{windowsIn};
 ghost use Rattle.calendar.specs.Schedule.{scheduleReply, bufferAfter};
 ghost use Rattle.program_io.specs.Counted.{counted as inRoom};
-ghost use Rattle.plan_schedules.specs.ScheduleLine.{DoneBy, DoneFor, ScheduledFiles};
+ghost use Rattle.plan_schedules.specs.ScheduleLine.{windowsOutcome, tableOutcome, frontOutcome, windowsBuffer, tableBuffer, frontBuffer, DoneAs, ScheduledFiles};
 use calendar::schedule;
 use format::Written;
 use program_io::counted::counted;
+use program_io::front::Front;
 use program_io::front::read_file;
 use program_io::front::read_front;
 use program_io::line;
@@ -34,6 +36,17 @@ pub struct Done {
     pub line: usize,
 }
 
+// No network file is opened and nothing is saved.
+fn undone(line: usize) -> Done
+    ensures { λ r. ⌜ r ≡ record { net = 0; saved = false; line = line } ⌝ }
+{
+    Done {
+        net: 0,
+        saved: false,
+        line: line,
+    }
+}
+
 // Reads the named network file, writes and saves that of the minute by the windows, and makes the line.
 fn schedule_by(
     windows: &[[u32; 3]],
@@ -44,7 +57,7 @@ fn schedule_by(
     out: &mut [u8],
     text: &mut [u8; 32],
 ) -> Done
-    ensures { λ r. ⌜ DoneBy (windowsIn (now (windows .entry))) minute (length (now (out .entry))) (now (net .exit)) (now (out .entry)) (now (out .exit)) (now (text .entry)) r (now (text .exit)) ⌝ }
+    ensures { λ r. ⌜ DoneAs (windowsOutcome (windowsIn (now (windows .entry))) minute (length (now (out .entry)))) (windowsBuffer (windowsIn (now (windows .entry))) minute (now (out .entry))) (now (net .exit)) (now (out .exit)) (now (text .entry)) r (now (text .exit)) ⌝ }
 {
     let n = read_front(net_name, net);
     let reply = minute_file(&net[..n], windows, minute, out);
@@ -77,44 +90,44 @@ fn schedule_for(
     out: &mut [u8],
     text: &mut [u8; 32],
 ) -> Done
-    ensures { λ r. ⌜ DoneFor (now (table .entry)) minute (length (now (out .entry))) (now (net .exit)) (now (out .entry)) (now (out .exit)) (now (text .entry)) r (now (text .exit)) ⌝ }
+    ensures { λ r. ⌜ DoneAs (tableOutcome (now (table .entry)) minute (length (now (out .entry)))) (tableBuffer (now (table .entry)) minute (now (out .entry))) (now (net .exit)) (now (out .exit)) (now (text .entry)) r (now (text .exit)) ⌝ }
 {
     let mut rows = [[0u32; 3]; 65];
     let found = read_table(table, &mut rows);
     let bad = found.bad;
     if bad != 0 {
-        let k = line::numbered(b"bad line ", bad as u64, text);
-        return Done {
-            net: 0,
-            saved: false,
-            line: k,
-        };
+        return undone(line::numbered(b"bad line ", bad as u64, text));
     }
     let n = rows_kept(found.count);
     schedule_by(&rows[..n], minute, net_name, out_name, net, out, text)
 }
 
-// Whether the tide table could be read, how many bytes of it and of the network file were read into their buffers, whether the file of the minute is
-// saved, and how long the line is.
+// The same by what came of reading a tide table into a buffer.
+fn schedule_front(
+    front: Front,
+    table: &[u8],
+    minute: u32,
+    net_name: &[u8],
+    out_name: &[u8],
+    net: &mut [u8],
+    out: &mut [u8],
+    text: &mut [u8; 32],
+) -> Done
+    requires { ⌜ Counts (front .size) (now table) ⌝ }
+    ensures { λ r. ⌜ DoneAs (frontOutcome (front .«is_read») (take (front .size) (now (table .entry))) minute (length (now (out .entry)))) (frontBuffer (front .«is_read») (take (front .size) (now (table .entry))) minute (now (out .entry))) (now (net .exit)) (now (out .exit)) (now (text .entry)) r (now (text .exit)) ⌝ }
+{
+    if !front.is_read {
+        return undone(line::plain(b"no windows\n", text));
+    }
+    let n = front.size;
+    schedule_for(&table[..n], minute, net_name, out_name, net, out, text)
+}
+
+// Whether the tide table could be read, how many bytes of it were read into its buffer, and what was done.
 pub struct Scheduled {
     pub is_table: bool,
     pub table: usize,
-    pub net: usize,
-    pub saved: bool,
-    pub line: usize,
-}
-
-// What is left to do where the calendar is not asked.
-fn unscheduled(line: usize) -> Scheduled
-    ensures { λ r. ⌜ r ≡ record { «is_table» = false; table = 0; net = 0; saved = false; line = line } ⌝ }
-{
-    Scheduled {
-        is_table: false,
-        table: 0,
-        net: 0,
-        saved: false,
-        line: line,
-    }
+    pub done: Done,
 }
 
 // Reads the named tide table, and goes on by it at the minute that the argument says. No file is opened for an argument that is no number.
@@ -132,15 +145,17 @@ fn schedule_read(
 {
     let minute = number(argument);
     if !minute.is_number {
-        return unscheduled(line::plain(b"usage: schedule MINUTE\n", text));
+        let done = undone(line::plain(b"usage: schedule MINUTE\n", text));
+        return Scheduled {
+            is_table: false,
+            table: 0,
+            done: done,
+        };
     }
     let front = read_file(table_name, table);
-    if !front.is_read {
-        return unscheduled(line::plain(b"no windows\n", text));
-    }
-    let size = front.size;
-    let done = schedule_for(
-        &table[..size],
+    let done = schedule_front(
+        front,
+        table,
         minute.value,
         net_name,
         out_name,
@@ -149,11 +164,9 @@ fn schedule_read(
         text,
     );
     Scheduled {
-        is_table: true,
-        table: size,
-        net: done.net,
-        saved: done.saved,
-        line: done.line,
+        is_table: front.is_read,
+        table: front.size,
+        done: done,
     }
 }
 

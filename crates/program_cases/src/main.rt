@@ -67,7 +67,7 @@ fn print_scheduled(argument: &[u8], table_name: &[u8], net_name: &[u8], out_name
         &mut out,
         &mut text,
     );
-    let n = scheduled.line;
+    let n = scheduled.done.line;
     io::write_all(1, &text[..n]);
 }
 

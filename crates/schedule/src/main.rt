@@ -31,6 +31,6 @@ fn main() {
         &mut out,
         &mut text,
     );
-    let k = scheduled.line;
+    let k = scheduled.done.line;
     io::write_all(1, &text[..k]);
 }

@@ -1,17 +1,17 @@
 -- `schedule_line::schedule_read` meets its contract: the list of bytes is what was read.
 -- Assumes nothing.
-use mathlib.Core.Path.{_≡_, sym, _∙_, ap, subst}
-use mathlib.Core.Bool.{Bool, true}
-use mathlib.Core.List.{List}
-use Prim.Native.Nat.{ℕ}
-use lib.ListN.{length}
+use mathlib.Core.Path.{_≡_, sym, _∙_, ap}
+use mathlib.Core.Bool.{Bool, true, false}
+use mathlib.Core.List.{[]}
+use native.Mathlib.Omega.{arith}
+use lib.ListN.{length, take}
 use borrow.Author.Needs.{needs}
 use borrow.Author.Tests.{not-true, not-false}
+use Rattle.io.proofs.Counting.{counts}
 use Rattle.prelude.specs.Choice.{pick}
 use Rattle.tide_table.specs.Text.{isNumber, value}
-use Rattle.plan_schedules.specs.ScheduleLine.{ScheduledFiles}
-use Rattle.plan_schedules.specs.declared.schedule_line.Scheduled.{Scheduled}
-use Rattle.plan_schedules.proofs.Outcomes.{at-call, at-no-table, at-done}
+use Rattle.plan_schedules.specs.ScheduleLine.{miscalled, frontOutcome, frontBuffer, scheduleOutcome, scheduleBuffer}
+use Rattle.plan_schedules.proofs.Outcomes.{undone, done-same, not-called, called}
 use Rattle.plan_schedules.proofs.schedule_line.schedule_read.Statement.{statement}
 use Rattle.plan_schedules.proofs.schedule_line.schedule_read.Tie as tie
 
@@ -19,30 +19,33 @@ returns : tie.Need-returns
 returns c =
     let s = c .before .before .before .before .before .before .before .before .before .before .before .before .before .before .args in
     let minute = c .before .before .before .before .before .before .number in
-    let plain = c .before .plain in
-    subst (λ (r : Scheduled). ScheduledFiles (length (s .out .now)) (s .argument .now) (s .table .now) (s .net .now) (s .out .now) (s .out .now) (s .text .now) r (plain .last .1 .0)) (sym (c .unscheduled .ensures))
-    (at-call (s .argument .now) (length (s .out .now)) (s .table .now) (s .net .now) (s .out .now) (s .text .now) (plain .last .1 .0) (plain .result) (plain .ensures .0)
-    (sym (minute .ensures .is-number) ∙ not-true _ (c .before .before .before .before .if1 .taken)) (plain .ensures .1))
+    let table = take 0 (s .table .now) in
+    let off = not-called (s .argument .now) false table (s .out .now) [] (length (s .out .now)) (sym (minute .ensures .is-number) ∙ not-true _ (c .before .before .before .before .if1 .taken)) in
+    record {
+      table-read = counts 0 (s .table .now) (omega arith);
+      done = undone (scheduleOutcome (s .argument .now) false table (length (s .out .now))) (scheduleBuffer (s .argument .now) false table (s .out .now)) miscalled _ (s .out .now) (s .text .now) (c .before .plain .result) (c .undone .result) _
+          (off .0) (off .1) (c .undone .ensures) (c .before .plain .ensures .0) (c .before .plain .ensures .1);
+    }
 
 returns-2 : tie.Need-returns-2
 returns-2 c =
-    let front = c .before .before .before .before .before .before .before .before in
-    let minute = front .before .before .before .before .number in
-    let s = front .before .before .before .before .before .before .before .before .before .before .before .before .args in
-    let plain = c .before .plain2 in
-    subst (λ (r : Scheduled). ScheduledFiles (length (s .out .now)) (s .argument .now) (front .read-file .last .1 .0) (s .net .now) (s .out .now) (s .out .now) (s .text .now) r (plain .last .1 .0)) (sym (c .unscheduled2 .ensures))
-    (at-no-table (s .argument .now) (length (s .out .now)) (front .read-file .last .1 .0) (s .net .now) (s .out .now) (s .text .now) (plain .last .1 .0) (plain .result) (plain .ensures .0)
-    (sym (minute .ensures .is-number) ∙ not-false _ (front .before .before .if1 .left)) (plain .ensures .1))
-
-returns-3 : tie.Need-returns-3
-returns-3 c =
     let done = c .before .before .before .before in
-    let front = done .before .before .before .before .before .before .before .before .before in
-    let minute = front .before .before .before .before .number in
-    let s = front .before .before .before .before .before .before .before .before .before .before .before .before .args in
-    let on : isNumber (s .argument .now) ≡ true = sym (minute .ensures .is-number) ∙ not-false _ (front .before .before .if1 .left) in
-    at-done (s .argument .now) (length (s .out .now)) (front .read-file .last .1 .0) _ (s .out .now) _ (s .text .now) _ (minute .result .value) (front .read-file .result .size) (done .schedule-for .result)
-    on (minute .ensures .value ∙ ap (λ (b : Bool). pick b (value (s .argument .now)) 0) on) (front .read-file .ensures) (done .schedule-for .ensures)
+    let read = done .before .before .before .before .before .before .before in
+    let minute = read .before .before .before .before .number in
+    let s = read .before .before .before .before .before .before .before .before .before .before .before .before .args in
+    let front = read .read-file .result in
+    let table = take (front .size) (read .read-file .last .1 .0) in
+    let on : isNumber (s .argument .now) ≡ true = sym (minute .ensures .is-number) ∙ not-false _ (read .before .before .if1 .left) in
+    let is = minute .ensures .value ∙ ap (λ (b : Bool). pick b (value (s .argument .now)) 0) on in
+    let room = length (s .out .now) in
+    record {
+      table-read = read .read-file .ensures;
+      done = done-same (frontOutcome (front .«is_read») table (minute .result .value) room) (scheduleOutcome (s .argument .now) (front .«is_read») table room)
+          (frontBuffer (front .«is_read») table (minute .result .value) (s .out .now)) (scheduleBuffer (s .argument .now) (front .«is_read») table (s .out .now)) _ _ (s .text .now) _ _
+          (λ l. called (s .argument .now) (front .«is_read») table (s .out .now) l room (minute .result .value) on is .0)
+          (λ l. called (s .argument .now) (front .«is_read») table (s .out .now) l room (minute .result .value) on is .1)
+          (done .schedule-front .ensures);
+    }
 
 pub schedule-read-spec : {M : Type 1} → statement M
 schedule-read-spec =
@@ -54,15 +57,8 @@ schedule-read-spec =
     (λ c κs. tt)
     returns
     (λ c κs. tt)
-    (λ c. search needs)
-    (λ c κs. tt)
-    (λ c κs. tt)
-    (λ c. search needs)
-    returns-2
-    (λ c. search needs)
-    (λ c. search needs)
-    (λ c κs. tt)
+    (λ c κs. search needs)
     (λ c. search needs)
     (λ c. search needs)
     (λ c. search needs)
-    returns-3)
+    returns-2)
