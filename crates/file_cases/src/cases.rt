@@ -1,16 +1,16 @@
 // The lines of the script, and the words of a line.
 use super::files::Sizes;
-use super::files::change;
 use super::files::size;
 use super::files::sized;
 use super::outcomes::helped;
-use super::outcomes::judged;
-use super::outcomes::rest_kept;
+use super::outcomes::judged_at;
 use super::sweeps::sweep;
 use file_fields::bytes::byte;
 use testing::answers::NONE;
+use testing::changes::change;
 use testing::files::Files;
 use testing::files::START;
+use testing::files::rest_kept;
 use testing::numbers::minus;
 use testing::numbers::plus;
 use testing::print;
@@ -59,7 +59,7 @@ fn vary(script: &[u8], at: usize, how: u8, f: &mut Files, s: Sizes) {
 fn result(script: &[u8], at: usize, c: u8, f: &mut Files, s: Sizes) -> usize {
     print::before(s.shown);
     if c == b'@' {
-        print::answer(judged(f, s, decimal(script, at)));
+        print::answer(judged_at(f, s, decimal(script, at)));
         return s.ann;
     }
     if c == b'h' {

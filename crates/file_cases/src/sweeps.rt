@@ -1,10 +1,10 @@
 // A file cut to every shorter length, or with every byte of its front changed in every way: how often each outcome comes.
 use super::files::Sizes;
 use super::files::sized;
-use super::files::start;
 use super::outcomes::outcome;
 use super::print::counts;
 use testing::answers::NONE;
+use testing::changes::start;
 use testing::files::Files;
 use testing::files::get;
 use testing::files::put;

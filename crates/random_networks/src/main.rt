@@ -1,7 +1,6 @@
 // Has the helper annotate random networks, judges its annotations at several points, in another order and twisted, and compares every answer
 // with another implementation. A network is wrong that gets any answer but the true one.
 mod annotations;
-mod network_files;
 mod places;
 mod tally;
 mod trial;
@@ -10,12 +9,13 @@ mod twists;
 use reference::instances::network;
 use testing::numbers::at;
 use testing::print;
+use testing::tally::Tally;
 
 // How many networks there are for each question; of every 64 two have all 4096 records.
 const COUNT: usize = 1920;
 
 // One network; names its seed if it is wrong.
-fn turn(question: usize, seed: usize, tally: &mut [usize; 64]) {
+fn turn(question: usize, seed: usize, tally: &mut Tally) {
     let before = at(tally, tally::WRONG);
     trial::run(network(question, seed), tally);
     if before < at(tally, tally::WRONG) {
@@ -24,7 +24,7 @@ fn turn(question: usize, seed: usize, tally: &mut [usize; 64]) {
 }
 
 // All networks of one question.
-fn all(question: usize, tally: &mut [usize; 64]) {
+fn all(question: usize, tally: &mut Tally) {
     let mut seed: usize = 0;
     while seed < COUNT {
         turn(question, seed, tally);

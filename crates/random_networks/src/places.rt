@@ -1,12 +1,11 @@
 // What is known of a network besides its files, the points to judge at, and what judging says there as one number.
 use super::annotations::record_at;
-use points::Point;
+use judged_files::judged;
 use reference::instances::Net;
+use reference::network_files::size;
 use reference::random::below;
-use response_codes::code;
 use testing::files::Files;
 use testing::files::START;
-use testing::numbers::low_word;
 use testing::numbers::minus;
 
 // How many vertices and records it has, its seed, the key of one of its records, and its true answer.
@@ -28,28 +27,14 @@ pub fn known(net: Net, key: usize, answer: usize) -> Case {
     }
 }
 
-// The lengths of the two files.
-pub fn network_size(m: usize) -> usize {
-    11 + 4 * (m % 5000)
-}
-
+// How long an annotation is.
 pub fn annotation_size(n: usize, m: usize) -> usize {
     minus(record_at(n, m), START)
 }
 
-// What comes of judging the two files, of so many bytes, at a point.
-fn judged_parts(f: &[u8], net: usize, ann: usize, point: usize) -> usize {
-    let a = net % START;
-    let b = START + ann % START;
-    if f.len() < 2 * START {
-        return 0;
-    }
-    code(judging::judge(&f[0..a], &f[START..b], Point { r: low_word(point) }))
-}
-
 // What comes of judging, with an annotation of m records.
-pub fn judged(c: Case, f: &Files, m: usize, point: usize) -> usize {
-    judged_parts(f, network_size(c.m), annotation_size(c.n, m), point)
+pub fn judged_with(c: Case, f: &Files, m: usize, point: usize) -> usize {
+    judged(f, size(c.m), annotation_size(c.n, m), point)
 }
 
 // A point that looks random.

@@ -1,14 +1,9 @@
-// Where each thing is counted in an array of counts, and how it is shown. The names are a list on standard input: the three questions,
-// what is counted of the networks, what is counted of twists, and the kinds of twists.
+// Where each thing is counted, after what is counted of every network, and how it is shown. The names are a list on standard input: the
+// three questions, what is counted of the networks, what is counted of twists, and the kinds of twists.
 use super::twists::KINDS;
-use testing::numbers::plus;
 use testing::print;
-
-pub const NETWORKS: usize = 0;
-
-pub const VALUES: usize = 1;
-
-pub const ANSWERED_NONE: usize = 2;
+use testing::tally::NETWORKS;
+use testing::tally::Tally;
 
 pub const JUDGED: usize = 3;
 
@@ -17,19 +12,14 @@ pub const WRONG: usize = 4;
 // Twisted annotations, at 3 × kind from here: those refused, those that are still right, those with another answer.
 pub const TWISTED: usize = 16;
 
-pub fn grow(tally: &mut [usize; 64], place: usize, more: usize) {
-    let i = place % 64;
-    tally[i] = plus(tally[i], more);
-}
-
 // What came of one kind of twist.
-fn kind(names: &[u8], k: u32, tally: &[usize; 64]) {
+fn kind(names: &[u8], k: u32, tally: &Tally) {
     print::text(b"  ");
     print::name(names, std::num::wrapping_add_u32(11, k));
     print::counts(names, 8, 3, tally, TWISTED + 3 * (k as usize));
 }
 
-fn kinds(names: &[u8], tally: &[usize; 64]) {
+fn kinds(names: &[u8], tally: &Tally) {
     let mut k: u32 = 0;
     while k < KINDS {
         kind(names, k, tally);
@@ -38,7 +28,7 @@ fn kinds(names: &[u8], tally: &[usize; 64]) {
 }
 
 // Sums up the networks of one question.
-pub fn show(names: &[u8], question: u32, tally: &[usize; 64]) {
+pub fn show(names: &[u8], question: u32, tally: &Tally) {
     print::name(names, std::num::wrapping_sub_u32(question, 1));
     print::counts(names, 3, 5, tally, NETWORKS);
     kinds(names, tally);

@@ -2,19 +2,21 @@
 use super::annotations::exchange;
 use super::annotations::number_at;
 use super::annotations::record_at;
-use super::network_files;
 use super::places::Case;
+use super::places::annotation_size;
 use super::places::any_point;
-use super::places::judged;
+use super::places::judged_with;
 use super::places::known;
 use super::places::point;
 use super::tally;
-use super::tally::grow;
 use super::twists::LEFT_OUT;
 use super::twists::applies;
 use super::twists::twist;
+use judged_files::LONGEST;
+use judged_files::annotated;
 use reference::arcs::write;
 use reference::instances::Net;
+use reference::network_files;
 use reference::random::below;
 use reference::routes::LENGTH;
 use reference::rows::Rows;
@@ -27,9 +29,13 @@ use reference::truth;
 use testing::answers::NONE;
 use testing::files::Files;
 use testing::files::number;
+use testing::numbers::different;
 use testing::numbers::minus;
 use testing::numbers::plus;
 use testing::numbers::smaller;
+use testing::tally::Tally;
+use testing::tally::count_network;
+use testing::tally::grow;
 
 // How many networks are twisted, each three times in each of 7 ways.
 const TWISTED_NETWORKS: usize = 640;
@@ -39,20 +45,12 @@ const TWISTS: usize = 21;
 // An answer where there has to be a refusal. No true answer is as large.
 const ACCEPTED: usize = 999999999999;
 
-// 1 where two numbers differ, else 0.
-fn different(a: usize, b: usize) -> usize {
-    if a == b {
-        return 0;
-    }
-    1
-}
-
 // Judges at five points: how many answers are not the true one.
 fn everywhere(c: Case, f: &Files) -> usize {
     let mut wrong: usize = 0;
     let mut i: usize = 0;
     while i < 5 {
-        let said = judged(c, f, c.m, point(c, i));
+        let said = judged_with(c, f, c.m, point(c, i));
         wrong = plus(wrong, different(said, c.answer));
         i += 1;
     }
@@ -74,16 +72,16 @@ fn shuffle(c: Case, f: &mut Files) {
 fn wrong_answers(c: Case, f: &mut Files) -> usize {
     let wrong = everywhere(c, f);
     shuffle(c, f);
-    let said = judged(c, f, c.m, any_point(c.seed, 7));
+    let said = judged_with(c, f, c.m, any_point(c.seed, 7));
     plus(wrong, different(said, c.answer))
 }
 
 // What judging says of a twisted annotation: with a record left out at the key of one, where the fingerprints may agree; else anywhere.
 fn said_of(c: Case, f: &Files, t: usize) -> usize {
     if t % 7 == LEFT_OUT {
-        return judged(c, f, minus(c.m, 1), c.key);
+        return judged_with(c, f, minus(c.m, 1), c.key);
     }
-    judged(c, f, c.m, any_point(c.seed, plus(t, 8)))
+    judged_with(c, f, c.m, any_point(c.seed, plus(t, 8)))
 }
 
 // What judging says of twist number t, or ACCEPTED where it had to refuse.
@@ -106,7 +104,7 @@ fn weighed(said: usize, answer: usize) -> usize {
 }
 
 // Twists the annotation once.
-fn twist_once(c: Case, f: &Files, t: usize, tally: &mut [usize; 64]) {
+fn twist_once(c: Case, f: &Files, t: usize, tally: &mut Tally) {
     if applies(t % 7, c.m) {
         let k = weighed(twisted(c, f, t), c.answer);
         grow(tally, plus(tally::TWISTED + 3 * (t % 7), k), 1);
@@ -114,7 +112,7 @@ fn twist_once(c: Case, f: &Files, t: usize, tally: &mut [usize; 64]) {
     }
 }
 
-fn twist_all(c: Case, f: &Files, tally: &mut [usize; 64]) {
+fn twist_all(c: Case, f: &Files, tally: &mut Tally) {
     let mut t: usize = 0;
     while t < TWISTS {
         twist_once(c, f, t, tally);
@@ -123,7 +121,7 @@ fn twist_all(c: Case, f: &Files, tally: &mut [usize; 64]) {
 }
 
 // All that is done with an annotation.
-fn try_all(c: Case, f: &mut Files, tally: &mut [usize; 64]) {
+fn try_all(c: Case, f: &mut Files, tally: &mut Tally) {
     grow(tally, tally::JUDGED, 6);
     grow(tally, tally::WRONG, wrong_answers(c, f));
     if c.seed < TWISTED_NETWORKS {
@@ -166,7 +164,8 @@ fn make(net: Net, a: &mut Rows, f: &mut Files) -> Case {
 
 // Has the helper annotate the network: how many node numbers stray, or 1 for another length.
 fn annotate(net: Net, answer: usize, a: &Rows, f: &mut Files) -> usize {
-    if !network_files::annotate(net, f) {
+    let length = annotated(f, network_files::size(net.m), LONGEST);
+    if length != annotation_size(net.n, net.m) {
         return 1;
     }
     if net.question == 1 {
@@ -175,20 +174,11 @@ fn annotate(net: Net, answer: usize, a: &Rows, f: &mut Files) -> usize {
     0
 }
 
-// Where a network is counted by its answer.
-fn class(answer: usize) -> usize {
-    if answer < NONE {
-        return tally::VALUES;
-    }
-    tally::ANSWERED_NONE
-}
-
-pub fn run(net: Net, tally: &mut [usize; 64]) {
+pub fn run(net: Net, tally: &mut Tally) {
     let mut a = [0usize; 71680];
     let mut f = [255u8; 65536];
     let c = make(net, &mut a, &mut f);
-    grow(tally, tally::NETWORKS, 1);
-    grow(tally, class(c.answer), 1);
+    count_network(tally, c.answer);
     grow(tally, tally::WRONG, annotate(net, c.answer, &a, &mut f));
     try_all(c, &mut f, tally);
 }

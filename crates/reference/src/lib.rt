@@ -6,6 +6,7 @@ pub mod arcs;
 pub mod discharges;
 pub mod instances;
 pub mod matrix;
+pub mod network_files;
 pub mod pairings;
 pub mod pairs;
 pub mod paths;

@@ -1,4 +1,5 @@
-// A response of a step or of judging as one number of the test programs.
+// A response of a step or of judging, and the reply of a writer, as one number of the test programs.
+use format::Written;
 use state::Response;
 use testing::answers::ACCEPTED;
 use testing::answers::NONE;
@@ -10,5 +11,13 @@ pub fn code(response: Response) -> usize {
         Response::Value(v) => v as usize,
         Response::None => NONE,
         Response::Refused(k) => plus(NONE, k as usize),
+    }
+}
+
+// The length, or NONE + k for the refusal k.
+pub fn written(w: Written) -> usize {
+    match w {
+        Written::Length(k) => k as usize,
+        Written::Refused(k) => plus(NONE, k as usize),
     }
 }

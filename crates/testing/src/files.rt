@@ -1,5 +1,6 @@
 // A network file and an annotation file in one array, so that functions lend one thing on: the network from its front on, the
 // annotation from START on.
+use super::answers::NONE;
 use super::numbers::low_byte;
 use super::numbers::minus;
 use super::numbers::plus;
@@ -49,4 +50,36 @@ pub fn put_number(f: &mut Files, at: usize, size: usize, x: usize) {
         put(f, plus(at, minus(size, k)), low_byte(rest));
         rest = rest / 256;
     }
+}
+
+// What the annotation's part is filled with before something is written into it.
+pub const FILLING: u8 = 170;
+
+// Fills the annotation's part.
+pub fn fill(f: &mut Files) {
+    let mut i: usize = START;
+    while i < 65536 {
+        put(f, i, FILLING);
+        i += 1;
+    }
+}
+
+// Are all bytes of the annotation's part from an index on as they were filled?
+fn kept(f: &Files, from: usize) -> bool {
+    let mut i = from;
+    while i < START {
+        if get(f, START + i) != FILLING {
+            return false;
+        }
+        i += 1;
+    }
+    true
+}
+
+// Are the bytes that a writer had to keep as they were filled? It writes as many as it says, and none where it refuses.
+pub fn rest_kept(f: &Files, code: usize) -> bool {
+    if code < NONE {
+        return kept(f, code);
+    }
+    kept(f, 0)
 }

@@ -31,6 +31,14 @@ pub fn smaller(a: usize, b: usize) -> usize {
     b
 }
 
+// 1 where two numbers differ, else 0.
+pub fn different(a: usize, b: usize) -> usize {
+    if a == b {
+        return 0;
+    }
+    1
+}
+
 // The element at an index, 0 past the end.
 pub fn at(a: &[usize], i: usize) -> usize {
     if a.len() <= i {

@@ -1,10 +1,10 @@
--- `random_networks::network_files::write_records` is safe and ends: it goes through the records.
+-- `reference::network_files::write_records` is safe and ends: it goes through the records.
 -- Assumes nothing.
 use Prim.Native.Nat.{_-_}
 use native.Mathlib.Omega.{arith}
 use borrow.Author.Needs.{needs}
-use Rattle.random_networks.proofs.network_files.write_records.Statement.{statement}
-use Rattle.random_networks.proofs.network_files.write_records.Tie as tie
+use Rattle.reference.proofs.network_files.write_records.Statement.{statement}
+use Rattle.reference.proofs.network_files.write_records.Tie as tie
 
 abbrev Inv-loop : tie.InvT-loop
 Inv-loop m a f₀ i₀ f i = Unit {0}

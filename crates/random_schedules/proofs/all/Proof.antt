@@ -1,19 +1,19 @@
--- `file_cases::outcomes::fill` is safe and ends: it goes through the annotation's part.
+-- `random_schedules::all` is safe and ends: it counts to 640.
 -- Assumes nothing.
 use Prim.Native.Nat.{_-_}
 use native.Mathlib.Omega.{arith}
 use borrow.Author.Needs.{needs}
-use Rattle.file_cases.proofs.outcomes.fill.Statement.{statement}
-use Rattle.file_cases.proofs.outcomes.fill.Tie as tie
+use Rattle.random_schedules.proofs.all.Statement.{statement}
+use Rattle.random_schedules.proofs.all.Tie as tie
 
 abbrev Inv-loop : tie.InvT-loop
-Inv-loop f₀ i₀ f i = Unit {0}
+Inv-loop question tally₀ seed₀ tally seed = Unit {0}
 
 abbrev μ-loop : tie.MeasureT-loop
-μ-loop f₀ i₀ f i = 65536 - i
+μ-loop question tally₀ seed₀ tally seed = 640 - seed
 
-pub fill-spec : {M : Type 1} → statement M
-fill-spec =
+pub all-spec : {M : Type 1} → statement M
+all-spec =
     tie.close
     (tie.spec
     Inv-loop

@@ -1,25 +1,26 @@
--- `file_cases::outcomes::kept` is safe and ends: it goes through the annotation's part from an index on.
+-- `random_schedules::trial::same` is safe and ends: it goes through the annotation's part.
 -- Assumes nothing.
 use Prim.Native.Nat.{_-_}
 use native.Mathlib.Omega.{arith}
 use borrow.Author.Needs.{needs}
-use Rattle.file_cases.proofs.outcomes.kept.Statement.{statement}
-use Rattle.file_cases.proofs.outcomes.kept.Tie as tie
+use Rattle.random_schedules.proofs.trial.same.Statement.{statement}
+use Rattle.random_schedules.proofs.trial.same.Tie as tie
 
 abbrev Inv-loop : tie.InvT-loop
-Inv-loop f from i₀ i = Unit {0}
+Inv-loop f g i₀ i = Unit {0}
 
 abbrev μ-loop : tie.MeasureT-loop
-μ-loop f from i₀ i = 32768 - i
+μ-loop f g i₀ i = 32768 - i
 
-pub kept-spec : {M : Type 1} → statement M
-kept-spec =
+pub same-spec : {M : Type 1} → statement M
+same-spec =
     tie.close
     (tie.spec
     Inv-loop
     μ-loop
     (λ c. tt)
     (λ c. omega arith)
+    (λ c κs. search needs)
     (λ c κs. search needs)
     (λ c. search needs)
     (λ c. omega arith)

@@ -1,10 +1,10 @@
--- `file_cases::files::repeat` is safe and ends: it goes through the bytes that are added.
+-- `testing::changes::repeat` is safe and ends: it goes through the bytes that are added.
 -- Assumes nothing.
 use Prim.Native.Nat.{_-_}
 use native.Mathlib.Omega.{arith}
 use borrow.Author.Needs.{needs}
-use Rattle.file_cases.proofs.files.repeat.Statement.{statement}
-use Rattle.file_cases.proofs.files.repeat.Tie as tie
+use Rattle.testing.proofs.changes.repeat.Statement.{statement}
+use Rattle.testing.proofs.changes.repeat.Tie as tie
 
 abbrev Inv-loop : tie.InvT-loop
 Inv-loop kind times f₀ size end width more i₀ f i = Unit {0}

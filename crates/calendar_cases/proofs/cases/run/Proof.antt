@@ -1,0 +1,27 @@
+-- `calendar_cases::cases::run` is safe and ends: it goes through the script.
+-- Assumes nothing.
+use Prim.Native.Nat.{_-_}
+use native.Mathlib.Omega.{arith}
+use lib.ListN.{length}
+use borrow.Author.Needs.{needs}
+use Rattle.calendar_cases.proofs.cases.run.Statement.{statement}
+use Rattle.calendar_cases.proofs.cases.run.Tie as tie
+
+abbrev Inv-loop : tie.InvT-loop
+Inv-loop script net₀ i₀ net i = Unit {0}
+
+abbrev μ-loop : tie.MeasureT-loop
+μ-loop script net₀ i₀ net i = length script - i
+
+pub run-spec : {M : Type 1} → statement M
+run-spec =
+    tie.close
+    (tie.spec
+    Inv-loop
+    μ-loop
+    (λ c. tt)
+    (λ c κs. search needs)
+    (λ c. omega arith)
+    (λ c. omega arith)
+    (λ c. tt)
+    (λ c. search needs))
