@@ -22,7 +22,8 @@ use Rattle.format.proofs.Records.{flat-append, flat-length}
 use Rattle.format.proofs.Codings.{arcs-coded}
 use Rattle.format.proofs.LentRests.{front-and-rest}
 use Rattle.tide_windows.specs.Windows.{Window}
-use Rattle.calendar.specs.Schedule.{emptied, leftFor, leftFrom, leftHeld, RecordsIn, arcsAt, fileAt}
+use Rattle.calendar.specs.Schedule.{emptied, leftFor, leftFrom, arcsAt, fileAt}
+use Rattle.calendar.specs.Records.{leftHeld, RecordsIn}
 use Rattle.calendar.specs.declared.records.Left.{Left}
 use Rattle.calendar.specs.declared.records.Left.the-variants.{One, Nothing}
 use Rattle.calendar.proofs.LeftArcs.{left-length, left-one-more}

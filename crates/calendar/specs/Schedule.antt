@@ -1,22 +1,18 @@
 -- The network of a minute, and the file that the calendar writes of it (PANEL 14).
 -- Assumes nothing.
-use mathlib.Core.Path.{_≡_}
 use mathlib.Core.Bool.{Bool}
-use mathlib.Core.List.{List, [], _∷_, _++_, flatMap}
-use Prim.Native.Nat.{ℕ, suc, _+_, _*_}
+use mathlib.Core.List.{List, [], _∷_, _++_}
+use Prim.Native.Nat.{ℕ, suc}
 use lib.Dec.{leb}
 use lib.ListN.{length, drop}
-use lib.Seq.{sets}
 use Rattle.prelude.specs.Checks.{Check, _unless_, settle}
 use Rattle.prelude.specs.Choice.{pick}
-use Rattle.network.specs.Network.{Arc, arcOf, arcHeld}
+use Rattle.network.specs.Network.{Arc, arcOf}
 use Rattle.network.specs.Question.{Question, shortestPath, maximumFlow, assignment, unasked, asks}
-use Rattle.format.specs.Files.{settingIn, countIn, arcsIn, arcBytes, networkFile}
+use Rattle.format.specs.Files.{settingIn, countIn, arcsIn, networkFile}
 use Rattle.format.specs.Replies.{WriterSaid, wrote, declined}
 use Rattle.acceptance.specs.Acceptance.{acceptanceChecks}
 use Rattle.tide_windows.specs.Windows.{Window, isOpen, windowsChecks}
-use Rattle.calendar.specs.declared.records.Left.{Left}
-use Rattle.calendar.specs.declared.records.Left.the-variants.{One, Nothing}
 
 -- ---- the network of a minute
 
@@ -52,16 +48,6 @@ openFrom opened k (e ∷ net) = pick (opened k) (e ∷ openFrom opened (suc k) n
 -- The arcs that are open at the minute t, with nothing of the closed ones.
 abbrev pub openAlone : List Window → ℕ → List Arc → List Arc
 openAlone ws t net = openFrom (isOpen ws t) 0 net
-
--- What the code says is left of an arc.
-abbrev pub leftHeld : Left → List Arc
-leftHeld (One e) = arcHeld e ∷ []
-leftHeld Nothing = []
-
--- These arcs are written into a part behind its first k records, r is how many there are then, and all other bytes are as they were.
-pub record RecordsIn (arcs : List Arc) (k : ℕ) (before : List ℕ) (r : ℕ) (after : List ℕ) : Type 0 where
-  pub count : r ≡ k + length arcs
-  pub bytes : after ≡ sets before (4 * k) (flatMap arcBytes arcs)
 
 -- ---- its file
 

@@ -5,7 +5,8 @@ use borrow.Author.Needs.{needs}
 use Rattle.network.specs.Question.{questionOf, asks}
 use Rattle.format.specs.Files.{settingIn, arcIn}
 use Rattle.tide_windows.specs.Windows.{windowsIn, isOpen}
-use Rattle.calendar.specs.Schedule.{leftFor, leftHeld}
+use Rattle.calendar.specs.Schedule.{leftFor}
+use Rattle.calendar.specs.Records.{leftHeld}
 use Rattle.calendar.proofs.LeftRecords.{left-written}
 use Rattle.calendar.proofs.records.write_record.Statement.{statement}
 use Rattle.calendar.proofs.records.write_record.Tie as tie
