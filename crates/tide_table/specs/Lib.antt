@@ -1,3 +1,4 @@
 pub mod Text
 pub mod TideTable
 pub mod Reading
+pub mod Promises
