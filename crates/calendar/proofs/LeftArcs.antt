@@ -37,7 +37,7 @@ emptied-allowed : (st : Setting) (e : Arc) → Allowed st e → Allowed st (empt
 emptied-allowed st e h =
     let j = h .joins in
     record {
-      joins = record { tail-below = j .tail-below; head-below = j .head-below; proper = j .proper; sides = emptied-sides (asks st) st e (j .sides) };
+      joins = record { tail-below = j .tail-below; head-below = j .head-below; sides = emptied-sides (asks st) st e (j .sides) };
       weight-within = omega arith;
     }
 

@@ -144,28 +144,21 @@ module _ (st : Setting) (e : Arc) where
   inside : Bool
   inside = ltb (e .tail) (st .n) && ltb (e .head) (st .n)
 
-  differ : Bool
-  differ = not (eqb (e .tail) (e .head))
-
   pub joins-rule : T (joinsOk st e) → Joins st e
-  unfolding inside differ
+  unfolding inside
   joins-rule t =
-      let r = and-left (inside && differ) (sidesFor (asks st) st e) t in
-      let i = and-left inside differ r in
+      let i = and-left inside (sidesFor (asks st) st e) t in
       record {
         tail-below = ltb→lt (e .tail) (st .n) (and-left (ltb (e .tail) (st .n)) (ltb (e .head) (st .n)) i);
         head-below = ltb→lt (e .head) (st .n) (and-right (ltb (e .tail) (st .n)) (ltb (e .head) (st .n)) i);
-        proper = not-eqb (e .tail) (e .head) (and-right inside differ r);
-        sides = sides-rule (asks st) st e (and-right (inside && differ) (sidesFor (asks st) st e) t);
+        sides = sides-rule (asks st) st e (and-right inside (sidesFor (asks st) st e) t);
       }
 
   pub joins-test : Joins st e → T (joinsOk st e)
-  unfolding inside differ
+  unfolding inside
   joins-test h =
-      both (inside && differ) (sidesFor (asks st) st e)
-      (both inside differ
+      both inside (sidesFor (asks st) st e)
       (both (ltb (e .tail) (st .n)) (ltb (e .head) (st .n)) (lt→ltb (e .tail) (st .n) (h .tail-below)) (lt→ltb (e .head) (st .n) (h .head-below)))
-      (eqb-not (e .tail) (e .head) (h .proper)))
       (sides-test (asks st) st e (h .sides))
 
 -- ---- 8

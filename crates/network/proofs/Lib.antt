@@ -5,6 +5,8 @@ pub mod Assignments
 pub mod Orders
 pub mod Rules
 pub mod Sound
+pub mod IdleArcs
+pub mod SelfLoops
 pub mod Append
 pub mod Allowed
 pub mod Tests

@@ -19,7 +19,7 @@ use Rattle.prelude.proofs.Permutations.{perm-sym, perm-every}
 use Rattle.network.specs.Network.{Arc, Load, arcs, delta, sumOf, leaving, entering, balance, degree, cost, total, crosses}
 use Rattle.network.specs.Question.{Question, shortestPath, maximumFlow, assignment, unasked, Setting, asks, pumps, sites, EndsFor, TwoVertices, SidesFor, PumpToSite, Allowed, Opened, Answer, value, none, Walk, ShortestPath, NoWalk, Flow, MaximumFlow, Assignment, CheapestAssignment, NoAssignment, TrueFor, TrueAnswer}
 use Rattle.network.specs.Certificate.{marked, Certified}
-use Rattle.network.proofs.Rules.{Potentials, SourceMarked, SinkUnmarked, WithinCapacity, Feasible, PathCertificate, FlowCertificate, AssignmentCertificate, NoPathCertificate, NoAssignmentCertificate, RulesHold, certified-rules}
+use Rattle.network.proofs.Rules.{Potentials, SourceMarked, SinkUnmarked, WithinCapacity, Feasible, PathBalances, PathCertificate, FlowCertificate, AssignmentCertificate, NoPathCertificate, NoAssignmentCertificate, RulesHold, certified-rules}
 use Rattle.network.proofs.Sums.{Compared, compared, Inside}
 use Rattle.network.proofs.Paths.{walk-above, no-walk, Unit-flow, Found, walk-in}
 use Rattle.network.proofs.Flows.{flow-below-cut}
@@ -91,20 +91,21 @@ module _ (st : Setting) (y : ℕ → ℤ) (range : Potentials st y) where
 
 -- ---- shortest path
 
-module _ (st : Setting) (y : ℕ → ℤ) (f : List Load) (v : ℕ) (ends : TwoVertices st) (inside : Every (Inside (st .n)) (arcs f)) (c : PathCertificate st y f v) where
-  unit-flow : Unit-flow (st .n) (st .s) (st .t) f
-  unit-flow u h = go (compared (st .s) u) (compared (st .t) u)
-    where
-      go : Compared (st .s) u → Compared (st .t) u → leaving u f + delta (st .t) u ≡ entering u f + delta (st .s) u
-      go (inl (e, i)) (inl (d, j)) = absurd (ends .apart (e ∙ sym d))
-      go (inl (e, i)) (inr (d, j)) =
-          omega (signed, rw (eq-eqb u (st .s) (sym e)) at (c .balances u h), balance-parts (leaving u f) (entering u f))
-      go (inr (e, i)) (inl (d, j)) =
-          omega (signed, rw (ne-eqb u (st .s) (λ q. e (sym q)), eq-eqb u (st .t) (sym d)) at (c .balances u h), balance-parts (leaving u f) (entering u f))
-      go (inr (e, i)) (inr (d, j)) =
-          omega (signed, rw (ne-eqb u (st .s) (λ q. e (sym q)), ne-eqb u (st .t) (λ q. d (sym q))) at (c .balances u h), balance-parts (leaving u f) (entering u f))
+-- amounts with the balances of a path are one unit on its way from s to t
+pub unit-flow : (st : Setting) (f : List Load) → TwoVertices st → PathBalances st f → Unit-flow (st .n) (st .s) (st .t) f
+unit-flow st f ends balances u h = go (compared (st .s) u) (compared (st .t) u)
+  where
+    go : Compared (st .s) u → Compared (st .t) u → leaving u f + delta (st .t) u ≡ entering u f + delta (st .s) u
+    go (inl (e, i)) (inl (d, j)) = absurd (ends .apart (e ∙ sym d))
+    go (inl (e, i)) (inr (d, j)) =
+        omega (signed, rw (eq-eqb u (st .s) (sym e)) at (balances u h), balance-parts (leaving u f) (entering u f))
+    go (inr (e, i)) (inl (d, j)) =
+        omega (signed, rw (ne-eqb u (st .s) (λ q. e (sym q)), eq-eqb u (st .t) (sym d)) at (balances u h), balance-parts (leaving u f) (entering u f))
+    go (inr (e, i)) (inr (d, j)) =
+        omega (signed, rw (ne-eqb u (st .s) (λ q. e (sym q)), ne-eqb u (st .t) (λ q. d (sym q))) at (balances u h), balance-parts (leaving u f) (entering u f))
 
-  path-above : (es : List Arc) → Walk st (arcs f) es → v ≤ total es
+module _ (st : Setting) (y : ℕ → ℤ) (f : List Load) (v : ℕ) (ends : TwoVertices st) (inside : Every (Inside (st .n)) (arcs f)) (c : PathCertificate st y f v) where
+  pub path-above : (es : List Arc) → Walk st (arcs f) es → v ≤ total es
   path-above es w =
       omega (
         signed,
@@ -117,7 +118,7 @@ module _ (st : Setting) (y : ℕ → ℤ) (f : List Load) (v : ℕ) (ends : TwoV
 
   path-sound : ShortestPath st (arcs f) v
   path-sound =
-      let w : Found (st .s) (st .t) f = walk-in (sumOf (λ e. 1) f) (st .n) (st .s) (st .t) f (ends .source-below) inside refl unit-flow in
+      let w : Found (st .s) (st .t) f = walk-in (sumOf (λ e. 1) f) (st .n) (st .s) (st .t) f (ends .source-below) inside refl (unit-flow st f ends (c .balances)) in
       let is-walk : Walk st (arcs f) (w .path) = record { over = w .over; leads = w .leads } in
       record { path = w .path; is-walk = is-walk; attained = omega (signed, w .short, path-above (w .path) is-walk, c .sums, c .answer); least = path-above }
 

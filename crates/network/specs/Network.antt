@@ -1,11 +1,12 @@
 -- A network as a list of arcs, amounts on its arcs, and what is summed over them.
 -- Assumes nothing.
+use mathlib.Core.Path.{_≡_}
 use mathlib.Core.Bool.{Bool, not, _&&_}
 use mathlib.Core.List.{List, [], _∷_, map}
 use Prim.Native.Nat.{ℕ, _+_, _*_, _/_, _%_}
 use lib.Dec.{eqb}
 use lib.IntN.{ℤ, pos, _-ℤ_}
-use Rattle.prelude.specs.Choice.{indicator}
+use Rattle.prelude.specs.Choice.{pick, indicator}
 use Rattle.network.specs.declared.Record.{Record}
 
 -- A channel record (PANEL 2): an arc from its tail to its head, whose weight is a length, a capacity or a cost.
@@ -29,6 +30,15 @@ wordArc k = arcOf (k / 16777216 % 256) (k / 65536 % 256) (k % 65536)
 -- The arcs of a list of such numbers, in order.
 abbrev pub wordArcs : List ℕ → List Arc
 wordArcs ks = map wordArc ks
+
+-- A self-loop, an arc from a vertex to itself (PANEL 2): at the gate a storage basin.
+abbrev pub SelfLoop : Arc → Type 0
+SelfLoop e = e .tail ≡ e .head
+
+-- The network without its self-loops: all other arcs, in order.
+unfoldable pub withoutSelfLoops : List Arc → List Arc
+withoutSelfLoops [] = []
+withoutSelfLoops (e ∷ net) = pick (eqb (e .tail) (e .head)) (withoutSelfLoops net) (e ∷ withoutSelfLoops net)
 
 -- The key of an arc (PANEL 4): its three numbers side by side, in 8, 8 and 15 bits.
 abbrev pub key : Arc → ℕ

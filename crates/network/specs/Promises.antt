@@ -2,15 +2,16 @@
 -- Assumes nothing.
 use mathlib.Core.Path.{_≡_}
 use mathlib.Core.Logic.{_↔_}
-use mathlib.Core.List.{List, map}
-use Prim.Native.Nat.{ℕ, _<_}
+use mathlib.Core.Bool.{Bool, false}
+use mathlib.Core.List.{List, _∷_, _++_, map}
+use Prim.Native.Nat.{ℕ, _*_, _≤_, _<_}
 use lib.Dec.{T}
 use lib.IntN.{ℤ}
 use Rattle.prelude.specs.Lists.{Every, Perm}
 use Rattle.field.specs.Field.{p}
-use Rattle.network.specs.Limits.{mostVertices}
-use Rattle.network.specs.Network.{Arc, Load, arcs, key}
-use Rattle.network.specs.Question.{Setting, asks, Asked, Sized, EndsFor, Opened, Joins, Allowed, WeightWithin, Answer, TrueAnswer}
+use Rattle.network.specs.Limits.{mostVertices, mostWeight}
+use Rattle.network.specs.Network.{Arc, arcOf, SelfLoop, withoutSelfLoops, Load, arcs, balance, crosses, key}
+use Rattle.network.specs.Question.{Question, shortestPath, maximumFlow, assignment, unasked, Setting, asks, Asked, Sized, EndsFor, Opened, Joins, Allowed, WeightWithin, Answer, value, none, TrueAnswer}
 use Rattle.network.specs.Certificate.{Claim, MayClaim, claimFor, marked, sumsOf, Certified}
 use Rattle.network.specs.Tests.{isAsked, sizeOk, endsOk, joinsOk, weightOk, claimOk, answerOf, Passed}
 
@@ -27,6 +28,47 @@ abbrev pub Sound : Type 0
 Sound =
     (st : Setting) (net : List Arc) (y : ℕ → ℤ) (f : List Load) (a : Answer)
     → Opened st → Every (Allowed st) net → Perm (arcs f) net → Certified st y f a → TrueAnswer st net a
+
+-- The questions whose arcs may be self-loops and whose answers these do not change (PANEL 3).
+abbrev pub PathOrFlow : Question → Type 0
+PathOrFlow shortestPath = Unit {0}
+PathOrFlow maximumFlow = Unit {0}
+PathOrFlow assignment = ⊥
+PathOrFlow unasked = ⊥
+
+-- Which self-loops reading accepts (PANEL 6, check 7): for a path and a flow all within the limits, for an assignment none, since no vertex is a pump and a site.
+pub record SelfLoopsRead : Type 0 where
+  pub for-path-and-flow : (st : Setting) (v w : ℕ) → PathOrFlow (asks st) → v < st .n → w ≤ mostWeight → Allowed st (arcOf v v w)
+  pub not-for-assignment : (st : Setting) (e : Arc) → asks st ≡ assignment → Joins st e → ¬ (SelfLoop e)
+
+-- What a self-loop carries cancels in every balance, wherever it is repeated (PANEL 5, check 15).
+abbrev pub SelfLoopsCancel : Type 0
+SelfLoopsCancel = (v : ℕ) (f g : List Load) (l : Load) → SelfLoop (l .arc) → balance v (f ++ l ∷ g) ≡ balance v (f ++ g)
+
+-- No self-loop leads out of a set of vertices (PANEL 5, checks 12 and 16).
+abbrev pub SelfLoopsStay : Type 0
+SelfLoopsStay = (inside : ℕ → Bool) (e : Arc) → SelfLoop e → crosses inside e ≡ false
+
+-- Self-loops change no true answer (PANEL 3): of a path and of a flow it is that of the network without them, both ways, for every list of arcs.
+abbrev pub SelfLoopsChangeNothing : Type 0
+SelfLoopsChangeNothing =
+    (st : Setting) (net : List Arc) (a : Answer) → PathOrFlow (asks st) → TrueAnswer st net a ↔ TrueAnswer st (withoutSelfLoops net) a
+
+-- What a self-loop may carry in a certificate (PANEL 5, checks 11 and 16): of a flow whatever its capacity allows; of a path one unit where that costs nothing, and where there is no path nothing.
+abbrev pub MayCarry : Question → Answer → Load → Type 0
+MayCarry shortestPath (value v) l = (l .amount ≤ 1) × (l .amount * l .arc .weight ≡ 0)
+MayCarry shortestPath none l = l .amount ≡ 0
+MayCarry maximumFlow (value v) l = l .amount ≤ l .arc .weight
+MayCarry maximumFlow none l = ⊥
+MayCarry assignment a l = ⊥
+MayCarry unasked a l = ⊥
+
+-- Wherever a self-loop is repeated, with it an annotation certifies the same answers as without it, if what it carries is allowed, and none otherwise.
+abbrev pub SelfLoopsCertified : Type 0
+SelfLoopsCertified =
+    (st : Setting) (y : ℕ → ℤ) (f g : List Load) (l : Load) (a : Answer)
+    → PathOrFlow (asks st) → Opened st → Every (Allowed st) (arcs (f ++ l ∷ g)) → SelfLoop (l .arc)
+    → Certified st y (f ++ l ∷ g) a ↔ (Certified st y (f ++ g) a × MayCarry (asks st) a l)
 
 -- What the tests of opening, of an arc and of a claim mean (PANEL 6): each holds exactly where the rule of its check does.
 pub record TestsMean : Type 0 where

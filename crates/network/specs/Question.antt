@@ -119,11 +119,10 @@ SidesFor maximumFlow st e = Unit {0}
 SidesFor assignment st e = PumpToSite st e
 SidesFor unasked st e = ⊥
 
--- The ends of the arc are two different vertices, on the sides that the question asks for (PANEL 6, check 7).
+-- The ends of the arc are vertices, on the sides that the question asks for (PANEL 6, check 7). Both may be one vertex, but for an assignment, by the sides.
 pub record Joins (st : Setting) (e : Arc) : Type 0 where
   pub tail-below : e .tail < st .n
   pub head-below : e .head < st .n
-  pub proper : e .tail ≢ e .head
   pub sides : SidesFor (asks st) st e
 
 -- The weight is within its limit (PANEL 6, check 8).

@@ -62,9 +62,9 @@ sidesFor maximumFlow st e = true
 sidesFor assignment st e = ltb (e .tail) (pumps st) && leb (pumps st) (e .head)
 sidesFor unasked st e = false
 
--- Are its ends two different vertices, on the sides that the question asks for? (PANEL 6, check 7)
+-- Are its ends vertices, on the sides that the question asks for? (PANEL 6, check 7)
 abbrev pub joinsOk : Setting → Arc → Bool
-joinsOk st e = ((ltb (e .tail) (st .n) && ltb (e .head) (st .n)) && not (eqb (e .tail) (e .head))) && sidesFor (asks st) st e
+joinsOk st e = (ltb (e .tail) (st .n) && ltb (e .head) (st .n)) && sidesFor (asks st) st e
 
 -- Is its weight within the limit? (PANEL 6, check 8)
 abbrev pub weightOk : Arc → Bool

@@ -32,7 +32,7 @@ fn sides_ok(question: Question, st: HeldSetting, arc: Record) -> bool
     }
 }
 
-// 7: are the ends of an arc two different vertices, from a pump to a site for an assignment?
+// 7: are the ends of an arc vertices, from a pump to a site for an assignment?
 fn joins_ok(st: HeldSetting, arc: Record) -> bool
     ensures { λ r. ⌜ r ≡ joinsOk (asked st) (arcHeld arc) ⌝ }
 {
@@ -43,9 +43,6 @@ fn joins_ok(st: HeldSetting, arc: Record) -> bool
         return false;
     }
     if n <= head {
-        return false;
-    }
-    if tail == head {
         return false;
     }
     sides_ok(question_of(st.question as u32), st, arc)

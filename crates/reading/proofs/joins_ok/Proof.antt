@@ -1,7 +1,7 @@
 -- `reading::joins_ok` meets its contract.
 -- Assumes nothing.
 use borrow.Author.Needs.{needs}
-use borrow.Author.Tests.{eq-eqb, ne-eqb, lt-ltb, le-ltb}
+use borrow.Author.Tests.{lt-ltb, le-ltb}
 use Rattle.reading.proofs.joins_ok.Statement.{statement}
 use Rattle.reading.proofs.joins_ok.Tie as tie
 
@@ -12,10 +12,9 @@ joins-ok-spec =
     (λ c. search needs)
     (λ c. rw (le-ltb _ _ (c .if1 .taken)))
     (λ c. rw (lt-ltb _ _ (c .before .if1 .left), le-ltb _ _ (c .if2 .taken)))
-    (λ c. rw (lt-ltb _ _ (c .before .before .if1 .left), lt-ltb _ _ (c .before .if2 .left), eq-eqb _ _ (c .if3 .taken)))
     (λ c. search needs)
     (λ c κs. search needs)
     (λ c κs. search needs)
     (λ c.
     let d = c .before .before .before in
-    rw (lt-ltb _ _ (d .before .before .if1 .left), lt-ltb _ _ (d .before .if2 .left), ne-eqb _ _ (d .if3 .left), ← c .before .question-of .ensures) (c .sides-ok .ensures)))
+    rw (lt-ltb _ _ (d .before .if1 .left), lt-ltb _ _ (d .if2 .left), ← c .before .question-of .ensures) (c .sides-ok .ensures)))
