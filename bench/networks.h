@@ -8,6 +8,8 @@
 
 enum { ROUTE = 1, DISCHARGE = 2, PAIRING = 3 };
 const int NODES = 255, ARCS = 4096, HEAVIEST = 32767;
+/* Of the arcs of a route or a discharge so many are basins, and the rest are other arcs. */
+const int BASINS = 64, OTHERS = ARCS - BASINS;
 const long long NONE = -1;
 
 struct Record { int a, b, w; };
@@ -32,7 +34,7 @@ template <class T> static void mix(std::vector<T> &list) {
     for (int i = (int)list.size() - 1; i > 0; i--) std::swap(list[i], list[below(i + 1)]);
 }
 
-/* A random arc among the vertices low to high - 1. */
+/* A random arc between two of the vertices low to high - 1. */
 static Record anywhere(int low, int high) {
     int a = between(low, high - 1), b = between(low, high - 2);
     return {a, b + (b >= a), below(HEAVIEST + 1)};
@@ -44,9 +46,19 @@ static Instance start(const char *name, int question, int n) {
     return {name, question, n, 0, question == PAIRING ? 0 : n - 1, {}};
 }
 
+/* The basins: at the source, at the sink and anywhere, every fourth without length or capacity. */
+static void add_basins(Instance &x) {
+    for (int i = 0; i < BASINS; i++) {
+        int v = i == 0 ? x.s : i == 1 ? x.t : below(x.n), w = below(HEAVIEST + 1);
+        x.arcs.push_back({v, v, i % 4 == 3 ? 0 : w});
+    }
+}
+
 static Instance random_arcs(const char *name, int question) {
     Instance x = start(name, question, NODES);
-    while ((int)x.arcs.size() < ARCS) x.arcs.push_back(anywhere(0, NODES));
+    while ((int)x.arcs.size() < OTHERS) x.arcs.push_back(anywhere(0, NODES));
+    add_basins(x);
+    mix(x.arcs);
     return x;
 }
 
@@ -54,10 +66,11 @@ static Instance random_arcs(const char *name, int question) {
 static Instance route_chain() {
     Instance x = start("route reversed chain", ROUTE, NODES);
     for (int v = NODES - 1; v > 0; v--) x.arcs.push_back({v - 1, v, between(1, HEAVIEST)});
-    while ((int)x.arcs.size() < ARCS) {
+    while ((int)x.arcs.size() < OTHERS) {
         Record e = anywhere(0, NODES);
         x.arcs.push_back({std::max(e.a, e.b), std::min(e.a, e.b), e.w});
     }
+    add_basins(x);
     return x;
 }
 
@@ -68,6 +81,7 @@ static Instance route_quadratic() {
     for (int v = NODES - 1; v > 0; v--)
         for (int jump = 1; jump <= 16 && jump <= v; jump++)
             x.arcs.push_back({v - jump, v, jump == 1 ? 1 : 2000 * jump + below(100)});
+    add_basins(x);
     return x;
 }
 
@@ -78,21 +92,23 @@ static Instance discharge_fan(const char *name, int k) {
         x.arcs.push_back({0, v, between(1, HEAVIEST)});
         x.arcs.push_back({v, NODES - 1, between(1, HEAVIEST)});
     }
-    while ((int)x.arcs.size() < ARCS) x.arcs.push_back(anywhere(1, NODES - 1));
+    while ((int)x.arcs.size() < OTHERS) x.arcs.push_back(anywhere(1, NODES - 1));
+    add_basins(x);
     mix(x.arcs);
     return x;
 }
 
-/* The source, layers of so many vertices each, the sink; equally many random arcs from each of these to the next. */
+/* The source, layers of so many vertices each, the sink; equally many random arcs from each of these to the next, and basins. */
 static Instance discharge_layered(const char *name, int layers, int width, bool reversed) {
     Instance x = start(name, DISCHARGE, layers * width + 2);
     state = (uint64_t)layers; /* the same network in both orders */
     auto pick = [&](int layer) { return layer == 0 ? 0 : layer > layers ? x.n - 1 : 1 + (layer - 1) * width + below(width); };
     for (int layer = 0; layer <= layers; layer++)
-        for (int i = 0; i < ARCS / (layers + 1); i++) {
+        for (int i = 0; i < OTHERS / (layers + 1); i++) {
             int a = pick(layer), b = pick(layer + 1);
             x.arcs.push_back({a, b, between(1, HEAVIEST)});
         }
+    add_basins(x);
     if (reversed) std::reverse(x.arcs.begin(), x.arcs.end());
     else mix(x.arcs);
     return x;
@@ -113,6 +129,7 @@ static Instance discharge_grid(const char *name, int rows, int columns) {
         if (r + 1 < rows)
             for (int c = 0; c < columns; c++) both(at(r, c), at(r + 1, c));
     }
+    add_basins(x);
     mix(x.arcs);
     return x;
 }

@@ -196,12 +196,17 @@ static void mark_each() {
     }
 }
 
-/* A small plan of each of the five certificates. */
+/* A small plan of each of the five certificates; of routes and discharges also with basins, at the source, at the sink and between. */
 static std::vector<Instance> small_instances() {
     std::vector<Record> arcs = {{0, 1, 2}, {1, 3, 5}, {0, 2, 4}, {2, 3, 2}, {1, 2, 1}};
+    std::vector<Record> basins = {{0, 0, 3}, {0, 1, 2}, {1, 1, 0}, {1, 3, 5}, {0, 2, 4}, {2, 3, 2}, {1, 2, 1}, {3, 3, 1}, {1, 1, 0}};
     return {
         {"route", ROUTE, 4, 0, 3, arcs},
         {"discharge", DISCHARGE, 4, 0, 3, arcs},
+        {"route with basins", ROUTE, 4, 0, 3, basins},
+        {"discharge with basins", DISCHARGE, 4, 0, 3, basins},
+        {"route none with basins", ROUTE, 4, 0, 3, {{0, 0, 2}, {1, 0, 4}, {3, 3, 5}, {2, 2, 0}}},
+        {"basins alone", DISCHARGE, 2, 0, 1, {{0, 0, 3}, {1, 1, 2}}},
         {"pairing", PAIRING, 4, 0, 0, {{0, 2, 3}, {0, 3, 1}, {1, 2, 4}, {1, 3, 5}}},
         {"route none", ROUTE, 4, 0, 3, {{0, 1, 2}, {1, 0, 4}, {3, 2, 5}, {3, 1, 1}}},
         {"pairing none", PAIRING, 4, 0, 0, {{0, 2, 3}, {1, 2, 4}}},

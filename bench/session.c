@@ -7,7 +7,7 @@
 #include "verifier.h"
 
 static uint32_t tail(uint32_t i) { return i % 254; }
-static uint32_t head(uint32_t i) { return 254 - i % 127; }
+static uint32_t head(uint32_t i) { return 254 - i % 128; }
 static uint32_t weight(uint32_t i) { return i % 4681 * 7; }
 
 static uint64_t one(struct session *x, int all) {

@@ -38,7 +38,7 @@ static inline int opening_check(uint32_t question, uint32_t n, uint32_t s, uint3
 }
 
 static inline int arc_check(const struct session *x, uint32_t a, uint32_t b, uint32_t w) {
-    if (a >= x->n || b >= x->n || a == b) return 7;
+    if (a >= x->n || b >= x->n) return 7;
     if (x->question == 3 && (a >= x->n / 2u || b < x->n / 2u)) return 7;
     return w > 32767 ? 8 : 0;
 }

@@ -1,6 +1,6 @@
--- The promises of specs/Promises.antt, kept: what the helper wrote fits the layout, and judging answers it truly; so it does for the file of a minute.
+-- The promises of specs/Promises.antt, kept: what the helper wrote fits the layout, and judging answers it truly; so it does without self-loops and for the file of a minute.
 -- Assumes nothing.
-use mathlib.Core.Path.{_≡_, sym, _∙_, subst}
+use mathlib.Core.Path.{_≡_, sym, _∙_, ap, subst}
 use mathlib.Core.List.{List, [], _∷_}
 use Prim.Native.Nat.{ℕ, suc, _+_, _≤_, _<_}
 use native.Mathlib.Nat.{le-trans}
@@ -17,10 +17,12 @@ use Rattle.prelude.proofs.Settle.{settled, hold-append}
 use Rattle.prelude.proofs.Integers.{signed, parts-mag, parts-min}
 use Rattle.prelude.proofs.Lists.{every-map, every-zip, every-image}
 use Rattle.prelude.proofs.Permutations.{perm-refl}
-use Rattle.network.specs.Network.{Arc, Load, arcs}
+use Rattle.network.specs.Network.{Arc, withoutSelfLoops, Load, arcs}
 use Rattle.network.specs.Question.{Question, shortestPath, maximumFlow, assignment, unasked, Setting, asks, Opened, Allowed, Answer, TrueAnswer}
 use Rattle.network.specs.Certificate.{Claim, ofValue, ofNone, rulesFor, CertifiedBy, claimFor}
 use Rattle.network.specs.Tests.{claimNumber}
+use Rattle.network.proofs.Promises.{one-answer, self-loops-change-nothing}
+use Rattle.network.proofs.SelfLoops.{admissible-without}
 use Rattle.points.specs.Points.{IsPoint, misleadingPoints}
 use Rattle.points.specs.declared.Point.{Point}
 use Rattle.state.specs.Answers.{gives}
@@ -29,6 +31,7 @@ use Rattle.format.specs.Promises.{Signed32, LoadFits}
 use Rattle.acceptance.specs.Acceptance.{acceptanceChecks, AcceptedFile}
 use Rattle.acceptance.specs.Promises.{Says}
 use Rattle.acceptance.proofs.AcceptedFiles.{file-opened, file-allowed}
+use Rattle.acceptance.proofs.Promises.{written-accepted, accepted-means}
 use Rattle.runs.specs.Run.{Wrong}
 use Rattle.judging.specs.Judging.{judged}
 use Rattle.judging.proofs.Promises.{judged-by-steps, few-judged-wrong, certificates-judged}
@@ -36,7 +39,7 @@ use Rattle.format.specs.Replies.{WriterSaid, wrote, declined}
 use Rattle.helper.specs.Helper.{sizeFor, annotateChecks, Annotation, BufferAfter}
 use Rattle.calendar.specs.Schedule.{arcsAt, fileAt}
 use Rattle.calendar.proofs.Promises.{file-accepted, writes, open-alone}
-use Rattle.demands.specs.Promises.{JudgedTruly, HelperServes, ScheduleServes, FewScheduledWrong}
+use Rattle.demands.specs.Promises.{JudgedTruly, HelperServes, fileWithout, SelfLoopsServed, ScheduleServes, FewScheduledWrong}
 
 -- ---- the fields are wide enough for what meets the rules
 
@@ -130,11 +133,31 @@ helper-serves net before after reply h room e held =
     found : Annotation net (take (sizeFor net) after)
     found = subst (λ (d : WriterSaid). BufferAfter d net before after) wrote-size held .annotation
 
--- ---- the file of a minute
+-- ---- what a file says
 
 -- what holds of the setting and the arcs in a file holds of those that it says
 said-in : (P : Setting → List Arc → Type 0) (st : Setting) (net : List Arc) (file : List ℕ) → Says st net file → P (settingIn file) (arcsIn file) → P st net
 said-in P st net file s h = subst (P st) (s .arcs-are) (subst (λ (x : Setting). P x (arcsIn file)) (s .setting-is) h)
+
+-- ---- basins
+
+pub self-loops-served : SelfLoopsServed
+self-loops-served net h q =
+    let st = settingIn net in
+    let bare = withoutSelfLoops (arcsIn net) in
+    let says : Says st bare (fileWithout net) = written-accepted st bare (admissible-without st (arcsIn net) (accepted-means net h)) in
+    record { accepted = says .accepted; alike = λ ann other A B r hr. same says (annotation-judged net ann h A) (annotation-judged (fileWithout net) other (says .accepted) B) r hr }
+  where
+    same : {ann other : List ℕ} → Says (settingIn net) (withoutSelfLoops (arcsIn net)) (fileWithout net) → (J : JudgedTruly net ann) (K : JudgedTruly (fileWithout net) other)
+        → (r : Point) → IsPoint r → judged net ann r ≡ judged (fileWithout net) other r
+    same says J K r hr =
+        let st = settingIn net in
+        let bare = withoutSelfLoops (arcsIn net) in
+        let left = self-loops-change-nothing st (arcsIn net) (J .answer) q .0 (J .is-true) in
+        let right = said-in (λ s l. TrueAnswer s l (K .answer)) st bare (fileWithout net) says (K .is-true) in
+        J .at-every-point r hr ∙ ap gives (one-answer st bare (J .answer) (K .answer) left right) ∙ sym (K .at-every-point r hr)
+
+-- ---- the file of a minute
 
 pub schedule-serves : ScheduleServes
 schedule-serves net ws t k space e file is before after reply room said held =

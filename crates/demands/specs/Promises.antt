@@ -1,15 +1,17 @@
--- The second half of demand 3 (PANEL 12): what the helper writes is judged truly at every point; proofs/Promises.antt keeps it. With FewWrong (runs) and FewJudgedWrong (judging) demand 3 is whole.
+-- The second half of demand 3 (PANEL 12): what the helper writes is judged truly at every point, self-loops change nothing of it, and so it is for the file of a minute; proofs/Promises.antt keeps it. With FewWrong (runs) and FewJudgedWrong (judging) demand 3 is whole.
 -- Assumes nothing.
 use mathlib.Core.Path.{_≡_}
 use mathlib.Core.List.{List}
 use Prim.Native.Nat.{ℕ, _≤_}
 use lib.ListN.{length, take}
 use Rattle.prelude.specs.Lists.{AtMost}
-use Rattle.network.specs.Question.{Answer, TrueAnswer}
+use Rattle.network.specs.Network.{withoutSelfLoops}
+use Rattle.network.specs.Question.{asks, Answer, TrueAnswer}
+use Rattle.network.specs.Promises.{PathOrFlow}
 use Rattle.points.specs.Points.{IsPoint, misleadingPoints}
 use Rattle.points.specs.declared.Point.{Point}
 use Rattle.state.specs.Answers.{gives}
-use Rattle.format.specs.Files.{settingIn, arcsIn}
+use Rattle.format.specs.Files.{settingIn, arcsIn, networkFile}
 use Rattle.acceptance.specs.Acceptance.{AcceptedFile}
 use Rattle.runs.specs.Run.{Wrong}
 use Rattle.judging.specs.Judging.{judged, judgedBySteps}
@@ -37,6 +39,22 @@ HelperServes =
     (net before after : List ℕ) (reply : WriterSaid)
     → AcceptedFile net → sizeFor net ≤ length before → reply ≡ annotated net (length before) → BufferAfter reply net before after
     → Helped net after reply
+
+-- ---- basins (PANEL 3)
+
+-- The file of the same network without its self-loops.
+abbrev pub fileWithout : List ℕ → List ℕ
+fileWithout net = networkFile (settingIn net) (withoutSelfLoops (arcsIn net))
+
+-- The panel accepts the file without self-loops too, and at every point the two files come out as the same, each with any annotation that meets every rule.
+pub record JudgedAlike (net : List ℕ) : Type 0 where
+  pub accepted : AcceptedFile (fileWithout net)
+  pub alike : (ann other : List ℕ) → Annotation net ann → Annotation (fileWithout net) other
+      → (r : Point) → IsPoint r → judged net ann r ≡ judged (fileWithout net) other r
+
+-- Self-loops change nothing of what a file is judged as: so for every accepted network file of a route or a discharge.
+abbrev pub SelfLoopsServed : Type 0
+SelfLoopsServed = (net : List ℕ) → AcceptedFile net → PathOrFlow (asks (settingIn net)) → JudgedAlike net
 
 -- ---- the file of a minute (PANEL 14)
 

@@ -10,13 +10,14 @@ use native.Mathlib.Decide.{ℕ-discrete}
 use borrow.Author.Tests.{eq-eqb, ne-eqb}
 use lib.Dec.{eqb}
 use lib.IntN.{ℤ, pos}
+use lib.ListN.{length}
 use Rattle.prelude.specs.Choice.{pick, indicator}
 use Rattle.prelude.specs.Lists.{Every, Member}
 use Rattle.prelude.proofs.Integers.{signed, parts-add}
 use Rattle.prelude.proofs.Lists.{every-map, every-image, image-every}
 use Rattle.network.specs.Limits.{mostWeight}
 use Rattle.network.specs.Network.{Arc, arcOf, SelfLoop, withoutSelfLoops, Load, arcs, delta, sumOf, leaving, entering, balance, cost, crosses, sumAcross, cut, total}
-use Rattle.network.specs.Question.{Question, shortestPath, maximumFlow, assignment, unasked, Setting, asks, TwoVertices, EndsFor, Opened, SidesFor, Joins, Allowed, Answer, value, none, Leads, Walk, ShortestPath, NoWalk, TrueFor, TrueAnswer}
+use Rattle.network.specs.Question.{Question, shortestPath, maximumFlow, assignment, unasked, Setting, asks, TwoVertices, EndsFor, Opened, SidesFor, Joins, Allowed, Admissible, Answer, value, none, Leads, Walk, ShortestPath, NoWalk, TrueFor, TrueAnswer}
 use Rattle.network.specs.Certificate.{marked, Certified}
 use Rattle.network.specs.Promises.{PathOrFlow, MayCarry}
 use Rattle.network.proofs.Rules.{ZeroOrOne, WithinCapacity, NoAmount, Feasible, Closed, PathBalances, PathCertificate, FlowCertificate, NoPathCertificate, RulesHold, certified-rules, rules-certified}
@@ -89,6 +90,29 @@ loops-padded (e ∷ net) = go (ℕ-discrete (e .tail) (e .head)) (loops-padded n
     go : Dec (SelfLoop e) → Padded (withoutSelfLoops net) net → Padded (withoutSelfLoops (e ∷ net)) (e ∷ net)
     go (yes s) p = rw (without-loop e net s) (pad (loop-idle e s) p)
     go (no s) p = rw (without-other e net s) (keep p)
+
+-- what is left may be read too
+without-every : (P : Arc → Type 0) (net : List Arc) → Every P net → Every P (withoutSelfLoops net)
+unfolding withoutSelfLoops
+without-every P [] h = tt
+without-every P (e ∷ net) h = go (ℕ-discrete (e .tail) (e .head)) (without-every P net (h .1))
+  where
+    go : Dec (SelfLoop e) → Every P (withoutSelfLoops net) → Every P (withoutSelfLoops (e ∷ net))
+    go (yes s) k = rw (without-loop e net s) k
+    go (no s) k = rw (without-other e net s) (h .0, k)
+
+without-fewer : (net : List Arc) → length (withoutSelfLoops net) ≤ length net
+unfolding withoutSelfLoops
+without-fewer [] = omega arith
+without-fewer (e ∷ net) = go (ℕ-discrete (e .tail) (e .head)) (without-fewer net)
+  where
+    go : Dec (SelfLoop e) → length (withoutSelfLoops net) ≤ length net → length (withoutSelfLoops (e ∷ net)) ≤ length (e ∷ net)
+    go (yes s) k = rw (without-loop e net s) (omega (arith, k))
+    go (no s) k = rw (without-other e net s) (omega (arith, k))
+
+pub admissible-without : (st : Setting) (net : List Arc) → Admissible st net → Admissible st (withoutSelfLoops net)
+admissible-without st net h =
+    record { opened = h .opened; allowed = without-every (Allowed st) net (h .allowed); few = omega (arith, without-fewer net, h .few) }
 
 -- ---- walks
 

@@ -5,13 +5,13 @@ use points::Point;
 use session::Session;
 use state::Response;
 
-// The tail, head and weight of the i-th channel.
+// The tail, head and weight of the i-th channel; 32 of 4096 are basins.
 fn tail(i: u32) -> u32 {
     i % 254
 }
 
 fn head(i: u32) -> u32 {
-    254 - i % 127
+    254 - i % 128
 }
 
 fn weight(i: u32) -> u32 {
