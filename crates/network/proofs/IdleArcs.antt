@@ -28,11 +28,18 @@ empty-idle e z x v h =
 pub loop-idle : (e : Arc) → SelfLoop e → Idle e
 loop-idle e q x v h = ap (λ (u : ℕ). x * delta u v) q
 
--- The second list is the first with idle arcs put in anywhere.
-pub data Padded : List Arc → List Arc → Type 0 where
-  end : Padded [] []
-  keep : {e : Arc} {xs ys : List Arc} → Padded xs ys → Padded (e ∷ xs) (e ∷ ys)
-  pad : {e : Arc} {xs ys : List Arc} → Idle e → Padded xs ys → Padded xs (e ∷ ys)
+-- The two lists are the same but for idle arcs, which each may have anywhere.
+pub data SameButIdle : List Arc → List Arc → Type 0 where
+  end : SameButIdle [] []
+  keep : {e : Arc} {xs ys : List Arc} → SameButIdle xs ys → SameButIdle (e ∷ xs) (e ∷ ys)
+  first : {e : Arc} {xs ys : List Arc} → Idle e → SameButIdle xs ys → SameButIdle (e ∷ xs) ys
+  second : {e : Arc} {xs ys : List Arc} → Idle e → SameButIdle xs ys → SameButIdle xs (e ∷ ys)
+
+turned : {xs ys : List Arc} → SameButIdle xs ys → SameButIdle ys xs
+turned end = end
+turned (keep p) = keep (turned p)
+turned (first i p) = second i (turned p)
+turned (second i p) = first i (turned p)
 
 -- ---- amounts carried over
 
@@ -47,42 +54,22 @@ record Carried (f : List Load) (net : List Arc) : Type 0 where
   within : Within loads
   even : (v : ℕ) → leaving v loads + entering v f ≡ entering v loads + leaving v f
 
-none-carried : Carried [] []
+-- What idle arcs carry is left out, and those that come in get the amount 0.
+carried : {xs ys : List Arc} → SameButIdle xs ys → (f : List Load) → arcs f ≡ xs → Within f → Carried f ys
 unfolding sumOf
-none-carried = record { loads = []; each = refl; within = tt; even = λ v. omega arith }
-
--- One load more, before both.
-one-carried : (l : Load) {f : List Load} {e : Arc} {net : List Arc} → l .arc ≡ e → l .amount ≤ l .arc .weight → Carried f net → Carried (l ∷ f) (e ∷ net)
-unfolding sumOf
-one-carried l q w r = record {
-  loads = l ∷ r .loads;
-  each = ap₂ _∷_ q (r .each);
-  within = (w, r .within);
-  even = λ v. omega (arith, r .even v);
-}
-
--- What the padding carries is left out.
-left-out : {xs ys : List Arc} → Padded xs ys → (f : List Load) → arcs f ≡ ys → Within f → Carried f xs
-unfolding sumOf
-left-out end [] e w = none-carried
-left-out end (l ∷ f) e w = absurd (cons≢nil e)
-left-out (keep p) [] e w = absurd (nil≢cons e)
-left-out (keep p) (l ∷ f) e w = one-carried l (head-eq-of-cons-eq e) (w .0) (left-out p f (tail-eq-of-cons-eq e) (w .1))
-left-out (pad i p) [] e w = absurd (nil≢cons e)
-left-out (pad i p) (l ∷ f) e w =
-    let r = left-out p f (tail-eq-of-cons-eq e) (w .1) in
+carried end [] e w = record { loads = []; each = refl; within = tt; even = λ v. omega arith }
+carried end (l ∷ f) e w = absurd (cons≢nil e)
+carried (keep p) [] e w = absurd (nil≢cons e)
+carried (keep p) (l ∷ f) e w =
+    let r = carried p f (tail-eq-of-cons-eq e) (w .1) in
+    record { loads = l ∷ r .loads; each = ap₂ _∷_ (head-eq-of-cons-eq e) (r .each); within = (w .0, r .within); even = λ v. omega (arith, r .even v) }
+carried (first i p) [] e w = absurd (nil≢cons e)
+carried (first i p) (l ∷ f) e w =
+    let r = carried p f (tail-eq-of-cons-eq e) (w .1) in
     let idle : Idle (l .arc) = rw (head-eq-of-cons-eq e) i in
     record { loads = r .loads; each = r .each; within = r .within; even = λ v. omega (arith, r .even v, idle (l .amount) v (w .0)) }
-
--- The padding gets the amount 0.
-put-in : {xs ys : List Arc} → Padded xs ys → (f : List Load) → arcs f ≡ xs → Within f → Carried f ys
-unfolding sumOf
-put-in end [] e w = none-carried
-put-in end (l ∷ f) e w = absurd (cons≢nil e)
-put-in (keep p) [] e w = absurd (nil≢cons e)
-put-in (keep p) (l ∷ f) e w = one-carried l (head-eq-of-cons-eq e) (w .0) (put-in p f (tail-eq-of-cons-eq e) (w .1))
-put-in (pad {e = d} i p) f e w =
-    let r = put-in p f e w in
+carried (second {e = d} i p) f e w =
+    let r = carried p f e w in
     record {
       loads = record { arc = d; amount = 0 } ∷ r .loads;
       each = ap (λ (l : List Arc). d ∷ l) (r .each);
@@ -100,12 +87,12 @@ module _ (st : Setting) where
   balance-carried v f r =
       omega (signed, r .even v, balance-parts (leaving v (r .loads)) (entering v (r .loads)), balance-parts (leaving v f) (entering v f))
 
-  -- Where amounts are carried over both ways, a maximum flow has the same value.
-  maximum-carried : {net new : List Arc} (v : ℕ)
-      → ((f : List Load) → Flow st net f → Carried f new) → ((f : List Load) → Flow st new f → Carried f net)
-      → MaximumFlow st net v → MaximumFlow st new v
-  maximum-carried {net} {new} v over back h =
-      let r = over (h .flow) (h .is-flow) in
+  over : {xs ys : List Arc} → SameButIdle xs ys → (f : List Load) → Flow st xs f → Carried f ys
+  over p f c = carried p f (c .each) (c .within)
+
+  maximum-carried : {xs ys : List Arc} → SameButIdle xs ys → (v : ℕ) → MaximumFlow st xs v → MaximumFlow st ys v
+  maximum-carried {xs} {ys} p v h =
+      let r = over p (h .flow) (h .is-flow) in
       record {
         flow = r .loads;
         is-flow = flow-carried (h .flow) (h .is-flow) r;
@@ -113,13 +100,10 @@ module _ (st : Setting) where
         greatest = most;
       }
     where
-      most : (f : List Load) → Flow st new f → balance (st .s) f ≤ℤ pos v
+      most : (f : List Load) → Flow st ys f → balance (st .s) f ≤ℤ pos v
       most f c =
-          let r = back f c in
+          let r = over (turned p) f c in
           rw (balance-carried (st .s) f r) at (h .greatest (r .loads) (flow-carried f c r))
 
-  pub padded-maximum : {xs ys : List Arc} → Padded xs ys → (v : ℕ) → MaximumFlow st ys v ↔ MaximumFlow st xs v
-  padded-maximum {xs} {ys} p v =
-      let out : (f : List Load) → Flow st ys f → Carried f xs = λ f c. left-out p f (c .each) (c .within) in
-      let back : (f : List Load) → Flow st xs f → Carried f ys = λ f c. put-in p f (c .each) (c .within) in
-      (maximum-carried v out back, maximum-carried v back out)
+  pub same-maximum : {xs ys : List Arc} → SameButIdle xs ys → (v : ℕ) → MaximumFlow st xs v ↔ MaximumFlow st ys v
+  same-maximum p v = (maximum-carried p v, maximum-carried (turned p) v)

@@ -24,7 +24,7 @@ use Rattle.network.proofs.Rules.{ZeroOrOne, WithinCapacity, NoAmount, F
 use Rattle.network.proofs.Sums.{Inside}
 use Rattle.network.proofs.Paths.{walk-in}
 use Rattle.network.proofs.Sound.{balance-parts, unit-flow, path-above}
-use Rattle.network.proofs.IdleArcs.{Padded, end, keep, pad, loop-idle, padded-maximum}
+use Rattle.network.proofs.IdleArcs.{SameButIdle, end, keep, first, loop-idle, same-maximum}
 
 -- ---- which are read
 
@@ -82,13 +82,13 @@ without-other : (e : Arc) (net : List Arc) → ¬ (SelfLoop e) → withoutSelfLo
 unfolding withoutSelfLoops
 without-other e net s = rw (ne-eqb (e .tail) (e .head) s) refl
 
-loops-padded : (net : List Arc) → Padded (withoutSelfLoops net) net
+loops-idle : (net : List Arc) → SameButIdle net (withoutSelfLoops net)
 unfolding withoutSelfLoops
-loops-padded [] = end
-loops-padded (e ∷ net) = go (ℕ-discrete (e .tail) (e .head)) (loops-padded net)
+loops-idle [] = end
+loops-idle (e ∷ net) = go (ℕ-discrete (e .tail) (e .head)) (loops-idle net)
   where
-    go : Dec (SelfLoop e) → Padded (withoutSelfLoops net) net → Padded (withoutSelfLoops (e ∷ net)) (e ∷ net)
-    go (yes s) p = rw (without-loop e net s) (pad (loop-idle e s) p)
+    go : Dec (SelfLoop e) → SameButIdle net (withoutSelfLoops net) → SameButIdle (e ∷ net) (withoutSelfLoops (e ∷ net))
+    go (yes s) p = rw (without-loop e net s) (first (loop-idle e s) p)
     go (no s) p = rw (without-other e net s) (keep p)
 
 -- what is left may be read too
@@ -199,7 +199,7 @@ module _ (st : Setting) (net : List Arc) where
   same-for : (q : Question) (a : Answer) → PathOrFlow q → TrueFor q st net a ↔ TrueFor q st (withoutSelfLoops net) a
   same-for shortestPath (value v) h = (path-without v, path-with v)
   same-for shortestPath none h = (λ k es w. k es (walk-back es w), λ k es w. let r = walk-shorter es w in k (r .path) (walk-of r))
-  same-for maximumFlow (value v) h = padded-maximum st (loops-padded net) v
+  same-for maximumFlow (value v) h = same-maximum st (loops-idle net) v
   same-for maximumFlow none h = (λ k. k, λ k. k)
   same-for assignment a h = absurd h
   same-for unasked a h = absurd h
