@@ -212,7 +212,7 @@ R8 = record { read = arcOf 0 1 2 ∷ arcOf 0 1 5 ∷ []; repeated = arcOf 0 1 3 
 abbrev pub R9 : Meeting
 R9 = record { read = arcOf 0 1 2 ∷ arcOf 0 1 4 ∷ []; repeated = arcOf 0 1 3 ∷ arcOf 0 1 3 ∷ []; points = [] }
 
--- R10: the greatest key.
+-- R10: the greatest key of an arc between two vertices.
 abbrev pub R10 : Product
 R10 = record { arc = arcOf 254 253 32767; key = 2139029503; prints = [] }
 
