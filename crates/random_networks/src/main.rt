@@ -2,6 +2,7 @@
 // with another implementation. A network is wrong that gets any answer but the true one.
 mod annotations;
 mod places;
+mod self_loops;
 mod tally;
 mod trial;
 mod twists;

@@ -8,8 +8,9 @@ use testing::files::Files;
 use testing::files::START;
 use testing::numbers::minus;
 
-// How many vertices and records it has, its seed, the key of one of its records, and its true answer.
+// Its question, how many vertices and records it has, its seed, the key of one of its records, and its true answer.
 pub struct Case {
+    pub question: usize,
     pub n: usize,
     pub m: usize,
     pub seed: usize,
@@ -19,6 +20,7 @@ pub struct Case {
 
 pub fn known(net: Net, key: usize, answer: usize) -> Case {
     Case {
+        question: net.question,
         n: net.n,
         m: net.m,
         seed: net.seed,

@@ -7,7 +7,9 @@ use testing::tally::Tally;
 
 pub const JUDGED: usize = 3;
 
-pub const WRONG: usize = 4;
+pub const BASINS: usize = 4;
+
+pub const WRONG: usize = 5;
 
 // Twisted annotations, at 3 × kind from here: those refused, those that are still right, those with another answer.
 pub const TWISTED: usize = 16;
@@ -15,8 +17,8 @@ pub const TWISTED: usize = 16;
 // What came of one kind of twist.
 fn kind(names: &[u8], k: u32, tally: &Tally) {
     print::text(b"  ");
-    print::name(names, std::num::wrapping_add_u32(11, k));
-    print::counts(names, 8, 3, tally, TWISTED + 3 * (k as usize));
+    print::name(names, std::num::wrapping_add_u32(12, k));
+    print::counts(names, 9, 3, tally, TWISTED + 3 * (k as usize));
 }
 
 fn kinds(names: &[u8], tally: &Tally) {
@@ -30,6 +32,6 @@ fn kinds(names: &[u8], tally: &Tally) {
 // Sums up the networks of one question.
 pub fn show(names: &[u8], question: u32, tally: &Tally) {
     print::name(names, std::num::wrapping_sub_u32(question, 1));
-    print::counts(names, 3, 5, tally, NETWORKS);
+    print::counts(names, 3, 6, tally, NETWORKS);
     kinds(names, tally);
 }

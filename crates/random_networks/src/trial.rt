@@ -8,8 +8,12 @@ use super::places::any_point;
 use super::places::judged_with;
 use super::places::known;
 use super::places::point;
+use super::self_loops;
 use super::tally;
+use super::twists::EITHER;
 use super::twists::LEFT_OUT;
+use super::twists::REFUSED;
+use super::twists::RIGHT;
 use super::twists::applies;
 use super::twists::twist;
 use judged_files::LONGEST;
@@ -37,13 +41,10 @@ use testing::tally::Tally;
 use testing::tally::count_network;
 use testing::tally::grow;
 
-// How many networks are twisted, each three times in each of 7 ways.
+// How many networks are twisted, each three times in each of 8 ways.
 const TWISTED_NETWORKS: usize = 640;
 
-const TWISTS: usize = 21;
-
-// An answer where there has to be a refusal. No true answer is as large.
-const ACCEPTED: usize = 999999999999;
+const TWISTS: usize = 24;
 
 // Judges at five points: how many answers are not the true one.
 fn everywhere(c: Case, f: &Files) -> usize {
@@ -78,36 +79,36 @@ fn wrong_answers(c: Case, f: &mut Files) -> usize {
 
 // What judging says of a twisted annotation: with a record left out at the key of one, where the fingerprints may agree; else anywhere.
 fn said_of(c: Case, f: &Files, t: usize) -> usize {
-    if t % 7 == LEFT_OUT {
+    if t % 8 == LEFT_OUT {
         return judged_with(c, f, minus(c.m, 1), c.key);
     }
     judged_with(c, f, c.m, any_point(c.seed, plus(t, 8)))
 }
 
-// What judging says of twist number t, or ACCEPTED where it had to refuse.
-fn twisted(c: Case, f: &Files, t: usize) -> usize {
-    let mut other = *f;
-    let free = twist(t % 7, t / 7, c, &mut other);
-    let said = said_of(c, &other, t);
-    if free || NONE < said {
-        return said;
-    }
-    ACCEPTED
-}
-
-// What was said of a twisted annotation: 0 a refusal, 1 the true answer still, 2 another.
+// What was said of a twisted annotation: REFUSED, RIGHT, or 2 for another answer.
 fn weighed(said: usize, answer: usize) -> usize {
     if NONE < said {
-        return 0;
+        return REFUSED;
     }
-    plus(1, different(said, answer))
+    plus(RIGHT, different(said, answer))
+}
+
+// What came of twist number t, and 2 for what ought not to come of it.
+fn twisted(c: Case, f: &Files, t: usize) -> usize {
+    let mut other = *f;
+    let due = twist(t % 8, t / 8, c, &mut other);
+    let k = weighed(said_of(c, &other, t), c.answer);
+    if due == EITHER || due == k {
+        return k;
+    }
+    2
 }
 
 // Twists the annotation once.
 fn twist_once(c: Case, f: &Files, t: usize, tally: &mut Tally) {
-    if applies(t % 7, c.m) {
-        let k = weighed(twisted(c, f, t), c.answer);
-        grow(tally, plus(tally::TWISTED + 3 * (t % 7), k), 1);
+    if applies(t % 8, c, f) {
+        let k = twisted(c, f, t);
+        grow(tally, plus(tally::TWISTED + 3 * (t % 8), k), 1);
         grow(tally, tally::WRONG, k / 2);
     }
 }
@@ -179,6 +180,7 @@ pub fn run(net: Net, tally: &mut Tally) {
     let mut f = [255u8; 65536];
     let c = make(net, &mut a, &mut f);
     count_network(tally, c.answer);
+    grow(tally, tally::BASINS, self_loops::count(net.m, &a));
     grow(tally, tally::WRONG, annotate(net, c.answer, &a, &mut f));
     try_all(c, &mut f, tally);
 }

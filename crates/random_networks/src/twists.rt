@@ -3,7 +3,9 @@ use super::annotations::exchange;
 use super::annotations::number_at;
 use super::annotations::record_at;
 use super::places::Case;
+use super::self_loops;
 use reference::random::below;
+use reference::rows::weight;
 use testing::files::Files;
 use testing::files::START;
 use testing::files::get;
@@ -15,14 +17,26 @@ use testing::numbers::minus;
 use testing::numbers::modulo;
 use testing::numbers::plus;
 
-// An amount, a node number, a weight, a record left out, the claim, another record in place of one, two weights.
-pub const KINDS: u32 = 7;
+// An amount, a node number, a weight, a record left out, the claim, another record in place of one, two weights, a basin's amount.
+pub const KINDS: u32 = 8;
 
 pub const LEFT_OUT: usize = 3;
 
+const BASIN_FILLED: usize = 7;
+
+// What has to come of a twisted annotation: a refusal, the true answer still, or either.
+pub const REFUSED: usize = 0;
+
+pub const RIGHT: usize = 1;
+
+pub const EITHER: usize = 2;
+
 // Is there anything to change? Without records there is a node number and the claim.
-pub fn applies(kind: usize, m: usize) -> bool {
-    kind == 1 || kind == 4 || m != 0
+pub fn applies(kind: usize, c: Case, f: &Files) -> bool {
+    if kind == BASIN_FILLED {
+        return self_loops::next(c, f, 0) < c.m;
+    }
+    kind == 1 || kind == 4 || c.m != 0
 }
 
 // The record to change, by the round.
@@ -93,20 +107,66 @@ fn another(c: Case, e: usize, round: usize) -> usize {
     modulo(plus(e, steps), c.m)
 }
 
-// Changes one record with another; may the annotation be right still?
-fn with_other(kind: usize, f: &mut Files, at: usize, from: usize) -> bool {
+// Changes one record, or two; are the records the same then, in any order?
+fn same_records(kind: usize, f: &mut Files, at: usize, from: usize) -> bool {
     if kind == 5 {
         return replace(f, at, from);
     }
     two_weights(f, at, from)
 }
 
-// Changes one thing of a kind somewhere; may the annotation be right still?
-pub fn twist(kind: usize, round: usize, c: Case, f: &mut Files) -> bool {
+// The same; what has to come of it.
+fn with_other(kind: usize, f: &mut Files, at: usize, from: usize) -> usize {
+    if same_records(kind, f, at, from) {
+        return EITHER;
+    }
+    REFUSED
+}
+
+// The amount that a basin of weight w is given, by the round: 1, its weight, or one more.
+fn filling(round: usize, w: usize) -> usize {
+    match round {
+        0 => 1,
+        1 => w,
+        _ => plus(w, 1),
+    }
+}
+
+// Gives a basin an amount.
+fn fill(f: &mut Files, at: usize, round: usize) {
+    let w = weight(number(f, at, 4));
+    put_number(f, plus(at, 4), 2, filling(round, w));
+}
+
+// What has to come of it if only the amount of the record at a place was changed, which cancels in a basin and nowhere else.
+fn with_amount(c: Case, f: &Files, at: usize) -> usize {
+    if self_loops::is_allowed(c, f, at) {
+        return RIGHT;
+    }
+    REFUSED
+}
+
+// Changes bits of an amount, a node number, a weight or the claim; what has to come of it.
+fn flipped(kind: usize, round: usize, c: Case, f: &mut Files) -> usize {
+    flip(f, place(kind, round, c), bits(kind, round));
+    match kind {
+        0 => with_amount(c, f, record_at(c.n, chosen(c, round))),
+        1 => EITHER,
+        _ => REFUSED,
+    }
+}
+
+// Changes one thing of a kind somewhere; what has to come of it.
+pub fn twist(kind: usize, round: usize, c: Case, f: &mut Files) -> usize {
     let e = chosen(c, round);
     if kind == LEFT_OUT {
         leave_out(f, c, e);
-        return false;
+        return REFUSED;
+    }
+    if kind == BASIN_FILLED {
+        let at = record_at(c.n, self_loops::next(c, f, e));
+        fill(f, at, round);
+        return with_amount(c, f, at);
     }
     if 4 < kind {
         return with_other(
@@ -116,6 +176,5 @@ pub fn twist(kind: usize, round: usize, c: Case, f: &mut Files) -> bool {
             record_at(c.n, another(c, e, round)),
         );
     }
-    flip(f, place(kind, round, c), bits(kind, round));
-    kind == 1
+    flipped(kind, round, c, f)
 }

@@ -1,11 +1,15 @@
 // The records of a network, each found from the network's description and the record's place.
 use super::instances::Net;
+use super::instances::self_loop_period;
 use super::pairs;
+use super::pairs::rounds;
 use super::random::below;
 use super::rows::Rows;
 use super::rows::joined;
 use super::rows::put_record;
 use super::shapes;
+use testing::numbers::minus;
+use testing::numbers::plus;
 
 // Few different weights, any, the highest, 0, small, extremes, and 32767 alone.
 fn weight(kind: usize, seed: usize, i: usize) -> usize {
@@ -31,12 +35,22 @@ fn place(question: usize, shape: usize, i: usize) -> usize {
     i
 }
 
-// The ends of record i.
+// How many basins come before record i: they stand at equal distances, the first anywhere.
+fn self_loops_before(seed: usize, i: usize) -> usize {
+    let period = self_loop_period(seed);
+    rounds(period, plus(i, below(period, seed, 0, 0)))
+}
+
+// The ends of record i. The basins of a route or a discharge stand between the records of its shape, so that a chain stays whole.
 fn ends(net: Net, i: usize) -> usize {
     if net.question == 3 {
         return pairs::ends(net.shape, net.n / 2, net.seed, i);
     }
-    shapes::ends(net.shape, net.n, net.seed, i, net.s, net.t)
+    let before = self_loops_before(net.seed, i);
+    if before < self_loops_before(net.seed, plus(i, 1)) {
+        return shapes::self_loop(net.n, net.seed, i, net.s, net.t);
+    }
+    shapes::ends(net.shape, net.n, net.seed, minus(i, before), net.s, net.t)
 }
 
 // Writes all records of a network.

@@ -1,4 +1,4 @@
-// Which network a seed stands for: its size, its source and sink, the shape of its arcs and the kind of its weights.
+// Which network a seed stands for: its size, its source and sink, the shape of its arcs and the kind of its weights, and its basins.
 use super::random::below;
 use testing::numbers::plus;
 
@@ -65,6 +65,17 @@ fn kind(seed: usize) -> usize {
         return seed / 128 % 7;
     }
     below(7, seed, 0, 3)
+}
+
+// One in so many records of a route or a discharge is a basin: all in one network of sixteen, none, for 0, in two. One in three leaves
+// enough of 400 arcs for a chain over 255 vertices.
+pub fn self_loop_period(seed: usize) -> usize {
+    match plus(seed, seed / 64) % 16 {
+        0 => 1,
+        1 | 2 => 0,
+        3 | 4 | 5 | 6 => 3,
+        _ => 8,
+    }
 }
 
 // Does the shape lead from the first vertex to the last?

@@ -46,7 +46,7 @@ fn band(h: usize, seed: usize, i: usize) -> usize {
 }
 
 // How many whole rounds of h come before i.
-fn rounds(h: usize, i: usize) -> usize {
+pub fn rounds(h: usize, i: usize) -> usize {
     if h == 0 {
         return 0;
     }

@@ -52,6 +52,11 @@ pub fn weight(r: usize) -> usize {
     r % 65536
 }
 
+// Is the record a basin?
+pub fn is_self_loop(r: usize) -> bool {
+    tail(r) == head(r)
+}
+
 // Two ends as one number.
 pub fn pair(a: usize, b: usize) -> usize {
     a % 256 * 256 + b % 256

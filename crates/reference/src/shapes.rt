@@ -77,6 +77,22 @@ fn both_ways(n: usize, seed: usize, i: usize) -> usize {
     back(n, plus(a, plus(steps, 1)), steps)
 }
 
+// The vertex of basin i: often the source or the sink, else any.
+fn basin(n: usize, seed: usize, i: usize, s: usize, t: usize) -> usize {
+    let x = below(65536, seed, plus(i, 1), 0);
+    match x % 4 {
+        0 => s,
+        1 => t,
+        _ => modulo(x / 4, n),
+    }
+}
+
+// The ends of record i where it is a basin.
+pub fn self_loop(n: usize, seed: usize, i: usize, s: usize, t: usize) -> usize {
+    let v = basin(n, seed, i, s, t);
+    pair(v, v)
+}
+
 // The ends of record i of a network of a shape, from s to t.
 pub fn ends(shape: usize, n: usize, seed: usize, i: usize, s: usize, t: usize) -> usize {
     match shape {

@@ -1,4 +1,4 @@
--- `random_networks::tally::kinds` is safe and ends: it counts to 7.
+-- `random_networks::tally::kinds` is safe and ends: it counts to 8.
 -- Assumes nothing.
 use Prim.Native.Nat.{_-_}
 use native.Mathlib.Omega.{arith}
@@ -10,7 +10,7 @@ abbrev Inv-loop : tie.InvT-loop
 Inv-loop names tally k₀ k = Unit {0}
 
 abbrev μ-loop : tie.MeasureT-loop
-μ-loop names tally k₀ k = 7 - k
+μ-loop names tally k₀ k = 8 - k
 
 pub kinds-spec : {M : Type 1} → statement M
 kinds-spec =

@@ -1,4 +1,4 @@
--- `random_networks::trial::twist_all` is safe and ends: it counts to 21.
+-- `random_networks::trial::twist_all` is safe and ends: it counts to 24.
 -- Assumes nothing.
 use Prim.Native.Nat.{_-_}
 use native.Mathlib.Omega.{arith}
@@ -10,7 +10,7 @@ abbrev Inv-loop : tie.InvT-loop
 Inv-loop c f tally₀ t₀ tally t = Unit {0}
 
 abbrev μ-loop : tie.MeasureT-loop
-μ-loop c f tally₀ t₀ tally t = 21 - t
+μ-loop c f tally₀ t₀ tally t = 24 - t
 
 pub twist-all-spec : {M : Type 1} → statement M
 twist-all-spec =
