@@ -148,14 +148,14 @@ self-loops-served net h q =
     let says : Says st bare (fileWithout net) = written-accepted st bare (admissible-without st (arcsIn net) (accepted-means net h)) in
     record { accepted = says .accepted; alike = λ ann other A B r hr. same says (annotation-judged net ann h A) (annotation-judged (fileWithout net) other (says .accepted) B) r hr }
   where
-    same : {ann other : List ℕ} → Says (settingIn net) (withoutSelfLoops (arcsIn net)) (fileWithout net) → (J : JudgedTruly net ann) (K : JudgedTruly (fileWithout net) other)
+    same : {ann other : List ℕ} → Says (settingIn net) (withoutSelfLoops (arcsIn net)) (fileWithout net) → (whole : JudgedTruly net ann) (rest : JudgedTruly (fileWithout net) other)
         → (r : Point) → IsPoint r → judged net ann r ≡ judged (fileWithout net) other r
-    same says J K r hr =
+    same says whole rest r hr =
         let st = settingIn net in
         let bare = withoutSelfLoops (arcsIn net) in
-        let left = self-loops-change-nothing st (arcsIn net) (J .answer) q .0 (J .is-true) in
-        let right = said-in (λ s l. TrueAnswer s l (K .answer)) st bare (fileWithout net) says (K .is-true) in
-        J .at-every-point r hr ∙ ap gives (one-answer st bare (J .answer) (K .answer) left right) ∙ sym (K .at-every-point r hr)
+        let left = self-loops-change-nothing st (arcsIn net) (whole .answer) q .0 (whole .is-true) in
+        let right = said-in (λ s l. TrueAnswer s l (rest .answer)) st bare (fileWithout net) says (rest .is-true) in
+        whole .at-every-point r hr ∙ ap gives (one-answer st bare (whole .answer) (rest .answer) left right) ∙ sym (rest .at-every-point r hr)
 
 -- ---- the file of a minute
 

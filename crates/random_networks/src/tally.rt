@@ -7,7 +7,7 @@ use testing::tally::Tally;
 
 pub const JUDGED: usize = 3;
 
-pub const BASINS: usize = 4;
+pub const SELF_LOOPS: usize = 4;
 
 pub const WRONG: usize = 5;
 

@@ -180,7 +180,7 @@ pub fn run(net: Net, tally: &mut Tally) {
     let mut f = [255u8; 65536];
     let c = make(net, &mut a, &mut f);
     count_network(tally, c.answer);
-    grow(tally, tally::BASINS, self_loops::count(net.m, &a));
+    grow(tally, tally::SELF_LOOPS, self_loops::count(net.m, &a));
     grow(tally, tally::WRONG, annotate(net, c.answer, &a, &mut f));
     try_all(c, &mut f, tally);
 }

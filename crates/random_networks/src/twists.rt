@@ -22,7 +22,7 @@ pub const KINDS: u32 = 8;
 
 pub const LEFT_OUT: usize = 3;
 
-const BASIN_FILLED: usize = 7;
+const SELF_LOOP_FILLED: usize = 7;
 
 // What has to come of a twisted annotation: a refusal, the true answer still, or either.
 pub const REFUSED: usize = 0;
@@ -33,7 +33,7 @@ pub const EITHER: usize = 2;
 
 // Is there anything to change? Without records there is a node number and the claim.
 pub fn applies(kind: usize, c: Case, f: &Files) -> bool {
-    if kind == BASIN_FILLED {
+    if kind == SELF_LOOP_FILLED {
         return self_loops::next(c, f, 0) < c.m;
     }
     kind == 1 || kind == 4 || c.m != 0
@@ -163,7 +163,7 @@ pub fn twist(kind: usize, round: usize, c: Case, f: &mut Files) -> usize {
         leave_out(f, c, e);
         return REFUSED;
     }
-    if kind == BASIN_FILLED {
+    if kind == SELF_LOOP_FILLED {
         let at = record_at(c.n, self_loops::next(c, f, e));
         fill(f, at, round);
         return with_amount(c, f, at);

@@ -78,7 +78,7 @@ fn both_ways(n: usize, seed: usize, i: usize) -> usize {
 }
 
 // The vertex of basin i: often the source or the sink, else any.
-fn basin(n: usize, seed: usize, i: usize, s: usize, t: usize) -> usize {
+fn self_loop_vertex(n: usize, seed: usize, i: usize, s: usize, t: usize) -> usize {
     let x = below(65536, seed, plus(i, 1), 0);
     match x % 4 {
         0 => s,
@@ -89,7 +89,7 @@ fn basin(n: usize, seed: usize, i: usize, s: usize, t: usize) -> usize {
 
 // The ends of record i where it is a basin.
 pub fn self_loop(n: usize, seed: usize, i: usize, s: usize, t: usize) -> usize {
-    let v = basin(n, seed, i, s, t);
+    let v = self_loop_vertex(n, seed, i, s, t);
     pair(v, v)
 }
 
