@@ -11,6 +11,7 @@ use Rattle.prelude.specs.Lists.{Every}
 use Rattle.prelude.proofs.Integers.{signed}
 use Rattle.network.specs.Network.{Arc, SelfLoop, Load, arcs, delta, sumOf, leaving, entering, balance}
 use Rattle.network.specs.Question.{Setting, Flow, MaximumFlow}
+use Rattle.network.proofs.Rules.{WithinCapacity}
 use Rattle.network.proofs.Sound.{balance-parts}
 
 -- ---- arcs that carry nothing from vertex to vertex
@@ -19,14 +20,14 @@ use Rattle.network.proofs.Sound.{balance-parts}
 abbrev pub Idle : Arc → Type 0
 Idle e = (x v : ℕ) → x ≤ e .weight → x * delta (e .tail) v ≡ x * delta (e .head) v
 
--- It is so with the capacity 0, and for a self-loop.
+-- It is so with the capacity 0, and for a self-loop whatever it carries.
 pub empty-idle : (e : Arc) → e .weight ≡ 0 → Idle e
 empty-idle e z x v h =
     let none : x ≡ 0 = omega arith in
     rw none (omega arith)
 
-pub loop-idle : (e : Arc) → SelfLoop e → Idle e
-loop-idle e q x v h = ap (λ (u : ℕ). x * delta u v) q
+pub loop-even : (e : Arc) → SelfLoop e → (x v : ℕ) → x * delta (e .tail) v ≡ x * delta (e .head) v
+loop-even e q x v = ap (λ (u : ℕ). x * delta u v) q
 
 -- The two lists are the same but for idle arcs, which each may have anywhere.
 pub data SameButIdle : List Arc → List Arc → Type 0 where
@@ -43,19 +44,15 @@ turned (second i p) = first i (turned p)
 
 -- ---- amounts carried over
 
--- Each amount is within the capacity of its arc.
-abbrev Within : List Load → Type 0
-Within f = Every (λ l. l .amount ≤ l .arc .weight) f
-
 -- Amounts within the capacities of other arcs, with the balances of the amounts f.
 record Carried (f : List Load) (net : List Arc) : Type 0 where
   loads : List Load
   each : arcs loads ≡ net
-  within : Within loads
+  within : Every WithinCapacity loads
   even : (v : ℕ) → leaving v loads + entering v f ≡ entering v loads + leaving v f
 
 -- What idle arcs carry is left out, and those that come in get the amount 0.
-carried : {xs ys : List Arc} → SameButIdle xs ys → (f : List Load) → arcs f ≡ xs → Within f → Carried f ys
+carried : {xs ys : List Arc} → SameButIdle xs ys → (f : List Load) → arcs f ≡ xs → Every WithinCapacity f → Carried f ys
 unfolding sumOf
 carried end [] e w = record { loads = []; each = refl; within = tt; even = λ v. omega arith }
 carried end (l ∷ f) e w = absurd (cons≢nil e)

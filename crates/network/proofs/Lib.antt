@@ -5,9 +5,9 @@ pub mod Assignments
 pub mod Orders
 pub mod Rules
 pub mod Sound
+pub mod Append
 pub mod IdleArcs
 pub mod SelfLoops
-pub mod Append
 pub mod Allowed
 pub mod Tests
 pub mod Keys

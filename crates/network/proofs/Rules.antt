@@ -197,7 +197,7 @@ every-true (l ∷ f) = (tt, every-true f)
 -- ---- where the tests of a row hold, its rules do
 
 module _ (st : Setting) (y : ℕ → ℤ) (f : List Load) where
-  path-rules : (v : ℕ) → TwoVertices st → CertifiedBy pathRules shortestPath st y f (value v) → PathCertificate st y f v
+  pub path-rules : (v : ℕ) → TwoVertices st → CertifiedBy pathRules shortestPath st y f (value v) → PathCertificate st y f v
   path-rules v e c =
       let sums = eqZ→eq (pos (cost f)) (y (st .t)) (c .sums) in
       record {

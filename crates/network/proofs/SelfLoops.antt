@@ -1,30 +1,33 @@
 -- Self-loops: which are read, that they change no balance, no cut and no true answer, and what they may carry in a certificate.
 -- Assumes nothing.
-use mathlib.Core.Path.{_≡_, refl, sym, _∙_, ap}
+use mathlib.Core.Path.{_≡_, refl, sym, _∙_, ap, fun-ext, subst}
 use mathlib.Core.Logic.{_≢_, _↔_, inl, inr}
 use mathlib.Core.Bool.{Bool, true, false, not, _&&_}
-use mathlib.Core.List.{List, [], _∷_, _++_}
+use mathlib.Core.List.{List, [], _∷_, _++_, map-append}
 use Prim.Native.Nat.{ℕ, _+_, _*_, _≤_, _<_}
 use native.Mathlib.Omega.{arith}
 use native.Mathlib.Decide.{ℕ-discrete}
 use borrow.Author.Tests.{eq-eqb, ne-eqb}
-use lib.Dec.{eqb}
-use lib.IntN.{ℤ, pos}
+use lib.Dec.{T, eqb}
+use lib.IntN.{ℤ, pos, _+ℤ_}
 use lib.ListN.{length}
+use lib.Signed.{_≤ℤ_}
 use Rattle.prelude.specs.Choice.{pick, indicator}
 use Rattle.prelude.specs.Lists.{Every, Member}
-use Rattle.prelude.proofs.Integers.{signed, parts-add}
-use Rattle.prelude.proofs.Lists.{every-map, every-image, image-every}
+use Rattle.prelude.proofs.Booleans.{false→not}
+use Rattle.prelude.proofs.Integers.{signed, parts-add, parts-sub}
+use Rattle.prelude.proofs.Lists.{every-map, every-image, image-every, every-insert, every-of}
 use Rattle.network.specs.Limits.{mostWeight}
-use Rattle.network.specs.Network.{Arc, arcOf, SelfLoop, withoutSelfLoops, Load, arcs, delta, sumOf, leaving, entering, balance, cost, crosses, sumAcross, cut, total}
-use Rattle.network.specs.Question.{Question, shortestPath, maximumFlow, assignment, unasked, Setting, asks, TwoVertices, EndsFor, Opened, SidesFor, Joins, Allowed, Admissible, Answer, value, none, Leads, Walk, ShortestPath, NoWalk, TrueFor, TrueAnswer}
-use Rattle.network.specs.Certificate.{marked, Certified}
+use Rattle.network.specs.Network.{Arc, arcOf, SelfLoop, withoutSelfLoops, Load, arcs, delta, sumOf, balance, crosses, sumAcross, total}
+use Rattle.network.specs.Question.{Question, shortestPath, maximumFlow, assignment, unasked, Setting, asks, unitCost, unitsMost, TwoVertices, EndsFor, Opened, SidesFor, Joins, Allowed, Admissible, Answer, value, none, Leads, Walk, ShortestPath, NoWalk, TrueFor, TrueAnswer}
+use Rattle.network.specs.Certificate.{marked, endsOf, Sums, sumsOf, Rules, noShortcut, staysInside, pathRules, flowRules, noPathRules, rulesFor, CertifiedBy, claimFor, Certified}
 use Rattle.network.specs.Promises.{PathOrFlow, MayCarry}
-use Rattle.network.proofs.Rules.{ZeroOrOne, WithinCapacity, NoAmount, Feasible, Closed, PathBalances, PathCertificate, FlowCertificate, NoPathCertificate, RulesHold, certified-rules, rules-certified}
+use Rattle.network.proofs.Rules.{PathBalances, PathCertificate, path-rules}
 use Rattle.network.proofs.Sums.{Inside}
 use Rattle.network.proofs.Paths.{walk-in}
-use Rattle.network.proofs.Sound.{balance-parts, unit-flow, path-above}
-use Rattle.network.proofs.IdleArcs.{SameButIdle, end, keep, first, loop-idle, same-maximum}
+use Rattle.network.proofs.Sound.{unit-flow, path-above}
+use Rattle.network.proofs.Append.{sumOf-insert, across-insert, balance-insert}
+use Rattle.network.proofs.IdleArcs.{SameButIdle, end, keep, first, loop-even, same-maximum}
 
 -- ---- which are read
 
@@ -45,24 +48,16 @@ loop-refused st e q j s =
 
 -- ---- balances and cuts
 
--- a load among others: what it adds to a sum
-pub sumOf-insert : (g : Arc → ℕ) (f k : List Load) (l : Load) → sumOf g (f ++ l ∷ k) ≡ sumOf g (f ++ k) + l .amount * g (l .arc)
-unfolding sumOf
-sumOf-insert g [] k l = omega arith
-sumOf-insert g (d ∷ f) k l = omega (arith, sumOf-insert g f k l)
-
-loop-amount : (v : ℕ) (l : Load) → SelfLoop (l .arc) → l .amount * delta (l .arc .tail) v ≡ l .amount * delta (l .arc .head) v
-loop-amount v l s = ap (λ (u : ℕ). l .amount * delta u v) s
-
 pub loop-cancels : (v : ℕ) (f k : List Load) (l : Load) → SelfLoop (l .arc) → balance v (f ++ l ∷ k) ≡ balance v (f ++ k)
 loop-cancels v f k l s =
+    let put = pos (l .amount * delta (l .arc .tail) v) in
+    let taken = pos (l .amount * delta (l .arc .head) v) in
     omega (
       signed,
-      balance-parts (leaving v (f ++ l ∷ k)) (entering v (f ++ l ∷ k)),
-      balance-parts (leaving v (f ++ k)) (entering v (f ++ k)),
-      sumOf-insert (λ e. delta (e .tail) v) f k l,
-      sumOf-insert (λ e. delta (e .head) v) f k l,
-      loop-amount v l s,
+      balance-insert v f k l,
+      parts-add (balance v (f ++ k)) put,
+      parts-sub (balance v (f ++ k) +ℤ put) taken,
+      loop-even (l .arc) s (l .amount) v,
     )
 
 never-both : (b : Bool) → (b && not b) ≡ false
@@ -88,7 +83,7 @@ loops-idle [] = end
 loops-idle (e ∷ net) = go (ℕ-discrete (e .tail) (e .head)) (loops-idle net)
   where
     go : Dec (SelfLoop e) → SameButIdle net (withoutSelfLoops net) → SameButIdle (e ∷ net) (withoutSelfLoops (e ∷ net))
-    go (yes s) p = rw (without-loop e net s) (first (loop-idle e s) p)
+    go (yes s) p = rw (without-loop e net s) (first (λ x v h. loop-even e s x v) p)
     go (no s) p = rw (without-other e net s) (keep p)
 
 -- what is left may be read too
@@ -209,140 +204,102 @@ module _ (st : Setting) (net : List Arc) where
 
 -- ---- certificates
 
--- what holds of every load, with one among them and without it
-every-insert : {A : Type 0} (P : A → Type 0) (f k : List A) (l : A) → P l → Every P (f ++ k) → Every P (f ++ l ∷ k)
-every-insert P [] k l p h = (p, h)
-every-insert P (d ∷ f) k l p h = (h .0, every-insert P f k l p (h .1))
-
-every-of : {A : Type 0} (P : A → Type 0) (f k : List A) (l : A) → Every P (f ++ l ∷ k) → P l × Every P (f ++ k)
-every-of P [] k l h = (h .0, h .1)
-every-of P (d ∷ f) k l h = let r = every-of P f k l (h .1) in (r .0, (h .0, r .1))
-
 member-insert : (a : Arc) (f k : List Load) (l : Load) → Member a (arcs (f ++ k)) → Member a (arcs (f ++ l ∷ k))
 member-insert a [] k l m = inr m
 member-insert a (d ∷ f) k l (inl q) = inl q
 member-insert a (d ∷ f) k l (inr m) = inr (member-insert a f k l m)
-
-cut-insert : (g : Arc → ℕ) (inside : ℕ → Bool) (f k : List Load) (l : Load) → SelfLoop (l .arc)
-    → sumAcross g inside (arcs (f ++ l ∷ k)) ≡ sumAcross g inside (arcs (f ++ k))
-unfolding sumAcross
-cut-insert g inside [] k l s = rw (loop-stays inside (l .arc) s) (omega arith)
-cut-insert g inside (d ∷ f) k l s = omega (arith, cut-insert g inside f k l s)
 
 -- the arcs of the loads, one among them left out
 arcs-of : (P : Arc → Type 0) (f k : List Load) (l : Load) → Every P (arcs (f ++ l ∷ k)) → Every P (arcs (f ++ k))
 arcs-of P f k l h = image-every (λ d. d .arc) P (f ++ k) (every-of (λ d. P (d .arc)) f k l (every-image (λ d. d .arc) P (f ++ l ∷ k) h) .1)
 
 module _ (st : Setting) (y : ℕ → ℤ) (f k : List Load) (l : Load) (s : SelfLoop (l .arc)) where
-  loop-feasible : Feasible y l
-  loop-feasible = rw s (omega (signed, parts-add (y (l .arc .head)) (pos (l .arc .weight))))
-
-  length-insert : cost (f ++ l ∷ k) ≡ cost (f ++ k) + l .amount * l .arc .weight
-  length-insert = sumOf-insert (λ e. e .weight) f k l
-
   -- the path goes on without the self-loop, so what that carries has no length
   loop-free : (v : ℕ) → TwoVertices st → Every (Inside (st .n)) (arcs (f ++ l ∷ k)) → PathCertificate st y (f ++ l ∷ k) v → l .amount * l .arc .weight ≡ 0
   loop-free v ends inside c =
       let kept : PathBalances st (f ++ k) = λ u h. sym (loop-cancels u f k l s) ∙ c .balances u h in
       let w = walk-in (sumOf (λ e. 1) (f ++ k)) (st .n) (st .s) (st .t) (f ++ k) (ends .source-below) (arcs-of (Inside (st .n)) f k l inside) refl (unit-flow st (f ++ k) ends kept) in
       let walk : Walk st (arcs (f ++ l ∷ k)) (w .path) = record { over = every-map (λ a m. member-insert a f k l m) (w .path) (w .over); leads = w .leads } in
-      omega (signed, w .short, path-above st y (f ++ l ∷ k) v ends inside c (w .path) walk, length-insert, c .sums, c .answer)
+      omega (signed, w .short, path-above st y (f ++ l ∷ k) v ends inside c (w .path) walk, sumOf-insert (λ e. e .weight) f k l, c .sums, c .answer)
 
-  path-put : (v : ℕ) → PathCertificate st y (f ++ k) v → MayCarry shortestPath (value v) l → PathCertificate st y (f ++ l ∷ k) v
-  path-put v c m = record {
-    potentials = c .potentials;
-    source = c .source;
-    amounts = every-insert ZeroOrOne f k l (m .0) (c .amounts);
-    feasible = every-insert (Feasible y) f k l loop-feasible (c .feasible);
-    balances = λ u h. loop-cancels u f k l s ∙ c .balances u h;
-    sums = omega (signed, length-insert, m .1, c .sums);
-    answer = c .answer;
-  }
+  same-cut : (g : Arc → ℕ) (m : ℕ → Bool) → sumAcross g m (arcs (f ++ l ∷ k)) ≡ sumAcross g m (arcs (f ++ k))
+  same-cut g m =
+      rw (map-append (λ d. d .arc) f (l ∷ k), map-append (λ d. d .arc) f k)
+      (omega (arith, rw (loop-stays m (l .arc) s) at (across-insert g m (arcs f) (arcs k) (l .arc))))
 
-  path-took : (v : ℕ) → l .amount * l .arc .weight ≡ 0 → PathCertificate st y (f ++ l ∷ k) v → PathCertificate st y (f ++ k) v × MayCarry shortestPath (value v) l
-  path-took v z c = (
-    record {
-      potentials = c .potentials;
-      source = c .source;
-      amounts = every-of ZeroOrOne f k l (c .amounts) .1;
-      feasible = every-of (Feasible y) f k l (c .feasible) .1;
-      balances = λ u h. sym (loop-cancels u f k l s) ∙ c .balances u h;
-      sums = omega (signed, length-insert, z, c .sums);
-      answer = c .answer;
-    },
-    (every-of ZeroOrOne f k l (c .amounts) .0, z),
-  )
+  -- where the self-loop carries nothing that costs, no sum knows of it
+  module _ (q : Question) (free : l .amount * unitCost q (l .arc) ≡ 0) where
+    same-cost : sumOf (unitCost q) (f ++ l ∷ k) ≡ sumOf (unitCost q) (f ++ k)
+    same-cost = omega (arith, free, sumOf-insert (unitCost q) f k l)
 
-  no-path-put : NoPathCertificate st y (f ++ k) → l .amount ≡ 0 → NoPathCertificate st y (f ++ l ∷ k)
-  no-path-put c m = record {
-    marks = c .marks;
-    source = c .source;
-    sink = c .sink;
-    amounts = every-insert NoAmount f k l m (c .amounts);
-    closed = every-insert (Closed y) f k l (loop-stays (marked y) (l .arc) s) (c .closed);
-  }
+    same-sums : sumsOf q (marked y) (f ++ l ∷ k) ≡ sumsOf q (marked y) (f ++ k)
+    same-sums = λ i. record {
+      balances = fun-ext (λ v. loop-cancels v f k l s) i;
+      cost = ap pos same-cost i;
+      cut = ap pos (same-cut (unitsMost q) (marked y)) i;
+    }
 
-  no-path-took : NoPathCertificate st y (f ++ l ∷ k) → NoPathCertificate st y (f ++ k) × (l .amount ≡ 0)
-  no-path-took c = (
-    record {
-      marks = c .marks;
-      source = c .source;
-      sink = c .sink;
-      amounts = every-of NoAmount f k l (c .amounts) .1;
-      closed = every-of (Closed y) f k l (c .closed) .1;
-    },
-    every-of NoAmount f k l (c .amounts) .0,
-  )
+    took : (rules : Rules) (a : Answer) → CertifiedBy rules q st y (f ++ l ∷ k) a → CertifiedBy rules q st y (f ++ k) a
+    took rules a c = record {
+      admitted = c .admitted;
+      nodes = c .nodes;
+      amounts = every-of (λ d. d .amount ≤ rules .most (d .arc)) f k l (c .amounts) .1;
+      on-arcs = every-of (λ d. T (rules .onArc (endsOf y (marked y) (d .arc)) d)) f k l (c .on-arcs) .1;
+      balances = λ v h. subst (λ (b : ℤ). T (rules .onBalance st v b)) (loop-cancels v f k l s) (c .balances v h);
+      sums = subst (λ (u : Sums). T (rules .onSums st y (marked y) u)) same-sums (c .sums);
+      answer = c .answer ∙ ap (rules .answer) same-sums;
+    }
 
-  same-cut : cut (marked y) (arcs (f ++ l ∷ k)) ≡ cut (marked y) (arcs (f ++ k))
-  same-cut = cut-insert (λ e. e .weight) (marked y) f k l s
+    put : (rules : Rules) (a : Answer) → l .amount ≤ rules .most (l .arc) → T (rules .onArc (endsOf y (marked y) (l .arc)) l)
+        → CertifiedBy rules q st y (f ++ k) a → CertifiedBy rules q st y (f ++ l ∷ k) a
+    put rules a m r c = record {
+      admitted = c .admitted;
+      nodes = c .nodes;
+      amounts = every-insert (λ d. d .amount ≤ rules .most (d .arc)) f k l m (c .amounts);
+      on-arcs = every-insert (λ d. T (rules .onArc (endsOf y (marked y) (d .arc)) d)) f k l r (c .on-arcs);
+      balances = λ v h. subst (λ (b : ℤ). T (rules .onBalance st v b)) (sym (loop-cancels v f k l s)) (c .balances v h);
+      sums = subst (λ (u : Sums). T (rules .onSums st y (marked y) u)) (sym same-sums) (c .sums);
+      answer = c .answer ∙ ap (rules .answer) (sym same-sums);
+    }
 
-  flow-put : (v : ℕ) → FlowCertificate st y (f ++ k) v → l .amount ≤ l .arc .weight → FlowCertificate st y (f ++ l ∷ k) v
-  flow-put v c m = record {
-    marks = c .marks;
-    source = c .source;
-    sink = c .sink;
-    amounts = every-insert WithinCapacity f k l m (c .amounts);
-    balances = λ u h a b. loop-cancels u f k l s ∙ c .balances u h a b;
-    sums = loop-cancels (st .s) f k l s ∙ c .sums ∙ ap pos (sym same-cut);
-    answer = loop-cancels (st .s) f k l s ∙ c .answer;
-  }
+  -- the rule on an arc holds of it, for potentials and for marks
+  no-shortcut : T (noShortcut (endsOf y (marked y) (l .arc)) l)
+  no-shortcut =
+      let fact : y (l .arc .head) ≤ℤ (y (l .arc .tail) +ℤ pos (l .arc .weight)) = rw s (omega (signed, parts-add (y (l .arc .head)) (pos (l .arc .weight)))) in
+      fact .le
 
-  flow-took : (v : ℕ) → FlowCertificate st y (f ++ l ∷ k) v → FlowCertificate st y (f ++ k) v × (l .amount ≤ l .arc .weight)
-  flow-took v c = (
-    record {
-      marks = c .marks;
-      source = c .source;
-      sink = c .sink;
-      amounts = every-of WithinCapacity f k l (c .amounts) .1;
-      balances = λ u h a b. sym (loop-cancels u f k l s) ∙ c .balances u h a b;
-      sums = sym (loop-cancels (st .s) f k l s) ∙ c .sums ∙ ap pos same-cut;
-      answer = sym (loop-cancels (st .s) f k l s) ∙ c .answer;
-    },
-    every-of WithinCapacity f k l (c .amounts) .0,
-  )
+  stays : T (staysInside (endsOf y (marked y) (l .arc)) l)
+  stays = false→not (crosses (marked y) (l .arc)) (loop-stays (marked y) (l .arc) s)
 
-  rules-took : (q : Question) (a : Answer) → PathOrFlow q → EndsFor q st → Every (Inside (st .n)) (arcs (f ++ l ∷ k))
-      → RulesHold q st y (f ++ l ∷ k) a → RulesHold q st y (f ++ k) a × MayCarry q a l
-  rules-took shortestPath (value v) q ends inside c = path-took v (loop-free v ends inside c) c
-  rules-took shortestPath none q ends inside c = no-path-took c
-  rules-took maximumFlow (value v) q ends inside c = flow-took v c
-  rules-took maximumFlow none q ends inside c = absurd c
-  rules-took assignment a q ends inside c = absurd q
-  rules-took unasked a q ends inside c = absurd q
+  none-carried : l .amount ≡ 0 → l .amount * l .arc .weight ≡ 0
+  none-carried z = rw z (omega arith)
 
-  rules-put : (q : Question) (a : Answer) → RulesHold q st y (f ++ k) a → MayCarry q a l → RulesHold q st y (f ++ l ∷ k) a
-  rules-put shortestPath (value v) c m = path-put v c m
-  rules-put shortestPath none c m = no-path-put c m
-  rules-put maximumFlow (value v) c m = flow-put v c m
-  rules-put maximumFlow none c m = absurd m
-  rules-put assignment a c m = absurd m
-  rules-put unasked a c m = absurd m
+  took-for : (q : Question) (a : Answer) → PathOrFlow q → EndsFor q st → Every (Inside (st .n)) (arcs (f ++ l ∷ k))
+      → CertifiedBy (rulesFor q (claimFor a)) q st y (f ++ l ∷ k) a → CertifiedBy (rulesFor q (claimFor a)) q st y (f ++ k) a × MayCarry q a l
+  took-for shortestPath (value v) h ends inside c =
+      let free = loop-free v ends inside (path-rules st y (f ++ l ∷ k) v ends c) in
+      (took shortestPath free pathRules (value v) c, (every-of (λ d. d .amount ≤ 1) f k l (c .amounts) .0, free))
+  took-for shortestPath none h ends inside c =
+      let most : l .amount ≤ 0 = every-of (λ d. d .amount ≤ 0) f k l (c .amounts) .0 in
+      let zero : l .amount ≡ 0 = omega arith in
+      (took shortestPath (none-carried zero) noPathRules none c, zero)
+  took-for maximumFlow (value v) h ends inside c =
+      (took maximumFlow (omega arith) flowRules (value v) c, every-of (λ d. d .amount ≤ d .arc .weight) f k l (c .amounts) .0)
+  took-for maximumFlow none h ends inside c = absurd (c .admitted)
+  took-for assignment a h ends inside c = absurd h
+  took-for unasked a h ends inside c = absurd h
+
+  put-for : (q : Question) (a : Answer) → CertifiedBy (rulesFor q (claimFor a)) q st y (f ++ k) a → MayCarry q a l
+      → CertifiedBy (rulesFor q (claimFor a)) q st y (f ++ l ∷ k) a
+  put-for shortestPath (value v) c m = put shortestPath (m .1) pathRules (value v) (m .0) no-shortcut c
+  put-for shortestPath none c m = put shortestPath (none-carried m) noPathRules none (omega arith) stays c
+  put-for maximumFlow (value v) c m = put maximumFlow (omega arith) flowRules (value v) m tt c
+  put-for maximumFlow none c m = absurd m
+  put-for assignment a c m = absurd m
+  put-for unasked a c m = absurd m
 
   pub loop-certified : (a : Answer) → PathOrFlow (asks st) → Opened st → Every (Allowed st) (arcs (f ++ l ∷ k))
       → Certified st y (f ++ l ∷ k) a ↔ (Certified st y (f ++ k) a × MayCarry (asks st) a l)
   loop-certified a q o allowed =
-      let inside : Every (Inside (st .n)) (arcs (f ++ l ∷ k)) = every-map (λ e (h : Allowed st e). (h .joins .tail-below, h .joins .head-below)) (arcs (f ++ l ∷ k)) allowed in (
-        λ c. let r = rules-took (asks st) a q (o .ends) inside (certified-rules st y (f ++ l ∷ k) a (o .ends) c) in (rules-certified st y (f ++ k) a (r .0), r .1),
-        λ c. rules-certified st y (f ++ l ∷ k) a (rules-put (asks st) a (certified-rules st y (f ++ k) a (o .ends) (c .0)) (c .1)),
-      )
+      let inside : Every (Inside (st .n)) (arcs (f ++ l ∷ k)) = every-map (λ e (h : Allowed st e). (h .joins .tail-below, h .joins .head-below)) (arcs (f ++ l ∷ k)) allowed in
+      (λ c. took-for (asks st) a q (o .ends) inside c, λ c. put-for (asks st) a (c .0) (c .1))

@@ -3,7 +3,7 @@
 use mathlib.Core.Path.{_≡_, refl, sym, _∙_, ap, ap₂, subst}
 use mathlib.Core.Logic.{inl, inr}
 use mathlib.Core.Bool.{Bool}
-use mathlib.Core.List.{List, [], _∷_, _++_, map, append-assoc}
+use mathlib.Core.List.{List, [], _∷_, _++_, map, append-assoc, append-nil}
 use Prim.Native.Nat.{ℕ, zero, suc, _≤_, _<_, suc-le-suc}
 use native.Mathlib.Nat.{le-refl}
 use native.Mathlib.Decide.{ℕ-discrete}
@@ -77,9 +77,17 @@ without {A} dec k (x ∷ xs) d = go (dec k x) (without dec k xs (d .1))
           size = suc-le-suc (w .size);
         }
 
+-- one element among others, put in and left out
+pub every-insert : {A : Type 0} (P : A → Type 0) (xs ys : List A) (a : A) → P a → Every P (xs ++ ys) → Every P (xs ++ a ∷ ys)
+every-insert P [] ys a p h = (p, h)
+every-insert P (x ∷ xs) ys a p h = (h .0, every-insert P xs ys a p (h .1))
+
+pub every-of : {A : Type 0} (P : A → Type 0) (xs ys : List A) (a : A) → Every P (xs ++ a ∷ ys) → P a × Every P (xs ++ ys)
+every-of P [] ys a h = (h .0, h .1)
+every-of P (x ∷ xs) ys a h = let r = every-of P xs ys a (h .1) in (r .0, (h .0, r .1))
+
 pub every-snoc : {A : Type 0} (P : A → Type 0) (l : List A) (a : A) → Every P l → P a → Every P (l ++ a ∷ [])
-every-snoc P [] a e p = (p, tt)
-every-snoc P (b ∷ l) a e p = (e .0, every-snoc P l a (e .1) p)
+every-snoc P l a e p = every-insert P l [] a p (rw (append-nil l) e)
 
 pub every-append : {A : Type 0} (P : A → Type 0) (xs ys : List A) → Every P xs → Every P ys → Every P (xs ++ ys)
 every-append P [] ys e f = f
