@@ -2,7 +2,7 @@
 ghost use mathlib.Core.Path.{_≡_};
 ghost use Rattle.prelude.specs.Checks.{firstBroken};
 ghost use Rattle.network.specs.Question.{pumps};
-ghost use Rattle.network.specs.Tests.{isAsked, evenFor, sizeOk, twoVertices, endsFor, openingChecks};
+ghost use Rattle.network.specs.Tests.{isAsked, evenFor, sizeOk, twoVertices, bothZero, endsFor, openingChecks};
 ghost use Rattle.checks.specs.Held.{handed, asked, questionHeld};
 use network::MOST_VERTICES;
 use rows::Question;
@@ -41,6 +41,7 @@ fn is_asked(question: Question) -> bool
         Question::Path => true,
         Question::Flow => true,
         Question::Assignment => true,
+        Question::Acyclicity => true,
         Question::Unasked => false,
     }
 }
@@ -53,6 +54,7 @@ fn even_for(question: Question, n: u32) -> bool
         Question::Path => true,
         Question::Flow => true,
         Question::Assignment => n % 2 == 0,
+        Question::Acyclicity => true,
         Question::Unasked => true,
     }
 }
@@ -87,21 +89,25 @@ fn two_vertices(o: Opening) -> bool
     s != t
 }
 
-// 3: are s and t two different vertices, or both 0 for an assignment?
+// 3: are s and t both 0?
+fn both_zero(o: Opening) -> bool
+    ensures { λ r. ⌜ r ≡ bothZero (handed o) ⌝ }
+{
+    if o.s != 0 {
+        return false;
+    }
+    o.t == 0
+}
+
+// 3: are s and t what the question asks for?
 fn ends_ok(question: Question, o: Opening) -> bool
     ensures { λ r. ⌜ r ≡ endsFor (questionHeld question) (handed o) ⌝ }
 {
-    let s = o.s;
-    let t = o.t;
     match question {
         Question::Path => two_vertices(o),
         Question::Flow => two_vertices(o),
-        Question::Assignment => {
-            if s != 0 {
-                return false;
-            }
-            t == 0
-        }
+        Question::Assignment => both_zero(o),
+        Question::Acyclicity => both_zero(o),
         Question::Unasked => false,
     }
 }

@@ -7,21 +7,24 @@ ghost use Rattle.network.specs.Tests.{claimOf};
 ghost use Rattle.checks.specs.Held.{questionHeld, rulesHeld};
 use network::Record;
 
-// The three questions, and no question.
+// The four questions, and no question.
 pub enum Question {
     Path,
     Flow,
     Assignment,
+    Acyclicity,
     Unasked,
 }
 
-// The five certificates, and no certificate.
+// The seven certificates, and no certificate.
 pub enum Row {
     PathValue,
     FlowValue,
     AssignmentValue,
     PathNone,
     AssignmentNone,
+    AcyclicityValue,
+    AcyclicityNone,
     Nothing,
 }
 
@@ -37,6 +40,9 @@ pub fn question_of(number: u32) -> Question
     }
     if number == 3 {
         return Question::Assignment;
+    }
+    if number == 4 {
+        return Question::Acyclicity;
     }
     Question::Unasked
 }
@@ -65,6 +71,12 @@ pub fn row_of(question: u8, claim: u32) -> Row
             }
             Row::AssignmentNone
         }
+        Question::Acyclicity => {
+            if claim == 1 {
+                return Row::AcyclicityValue;
+            }
+            Row::AcyclicityNone
+        }
         Question::Unasked => Row::Nothing,
     }
 }
@@ -77,6 +89,7 @@ pub fn unit_cost(question: Question, arc: Record) -> u32
         Question::Path => arc.weight,
         Question::Flow => 0,
         Question::Assignment => arc.weight,
+        Question::Acyclicity => 1,
         Question::Unasked => 0,
     }
 }
@@ -89,6 +102,7 @@ pub fn units_most(question: Question, arc: Record) -> u32
         Question::Path => 1,
         Question::Flow => arc.weight,
         Question::Assignment => 1,
+        Question::Acyclicity => 1,
         Question::Unasked => 0,
     }
 }

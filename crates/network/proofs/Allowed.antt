@@ -7,7 +7,7 @@ use mathlib.Core.List.{List, [], _∷_, _++_}
 use Prim.Native.Nat.{ℕ, suc, _+_, _%_, _≤_}
 use native.Mathlib.Nat.{add-zero}
 use native.Mathlib.Omega.{arith}
-use native.Mathlib.Decide.{ℕ-discrete}
+use native.Mathlib.Decide.{ℕ-discrete, decLe}
 use borrow.Author.Tests.{eq-eqb, ne-eqb}
 use lib.Dec.{T, eqb, leb, ltb, eqb→eq, eqb-refl, leb→le, le→leb, ltb→lt, lt→ltb}
 use Rattle.prelude.proofs.Booleans.{and-left, and-right, both, false→not}
@@ -17,9 +17,9 @@ use Rattle.prelude.specs.Lists.{Every}
 use Rattle.prelude.proofs.Settle.{hold-append, Numbered, numbered-append}
 use Rattle.network.specs.Limits.{mostVertices, mostArcs, mostWeight}
 use Rattle.network.specs.Network.{Arc}
-use Rattle.network.specs.Question.{Question, shortestPath, maximumFlow, assignment, questionOf, unasked, Setting, asks, pumps, Asked, EvenFor, Sized, TwoVertices, EndsFor, Opened, SidesFor, Joins, WeightWithin, Allowed}
+use Rattle.network.specs.Question.{Question, shortestPath, maximumFlow, assignment, acyclicity, questionOf, unasked, Setting, asks, pumps, Asked, EvenFor, Sized, TwoVertices, BothZero, EndsFor, Opened, SidesFor, Joins, WeightWithin, Allowed}
 use Rattle.network.specs.Certificate.{rulesFor, MayClaim}
-use Rattle.network.specs.Tests.{isAsked, evenFor, sizeOk, twoVertices, endsFor, endsOk, openingChecks, sidesFor, joinsOk, weightOk, arcChecks, readingChecks, readingAll, claimOf, claimOk}
+use Rattle.network.specs.Tests.{isAsked, evenFor, sizeOk, twoVertices, bothZero, endsFor, endsOk, openingChecks, sidesFor, joinsOk, weightOk, arcChecks, readingChecks, readingAll, claimOf, claimOk}
 
 -- ---- numbers that differ
 
@@ -38,23 +38,24 @@ pub asked-rule : (q : Question) → T (isAsked q) → Asked q
 asked-rule shortestPath t = tt
 asked-rule maximumFlow t = tt
 asked-rule assignment t = tt
+asked-rule acyclicity t = tt
 asked-rule unasked t = absurd t
 
 pub asked-test : (q : Question) → Asked q → T (isAsked q)
 asked-test shortestPath h = tt
 asked-test maximumFlow h = tt
 asked-test assignment h = tt
+asked-test acyclicity h = tt
 asked-test unasked h = absurd h
 
--- a number that asks a question is 1, 2 or 3
-pub asked-least : (k : ℕ) → T (isAsked (questionOf k)) → k ≤ 3
-asked-least k t = go (ℕ-discrete k 1) (ℕ-discrete k 2) (ℕ-discrete k 3)
+-- a number that asks a question is 1 to 4
+pub asked-least : (k : ℕ) → T (isAsked (questionOf k)) → k ≤ 4
+asked-least k t = go (decLe k 4)
   where
-    go : Dec (k ≡ 1) → Dec (k ≡ 2) → Dec (k ≡ 3) → k ≤ 3
-    go (yes e) d f = omega arith
-    go (no n1) (yes e) f = omega arith
-    go (no n1) (no n2) (yes e) = omega arith
-    go (no n1) (no n2) (no n3) = absurd (rw (ne-eqb k 1 n1, ne-eqb k 2 n2, ne-eqb k 3 n3) at t)
+    go : Dec (k ≤ 4) → k ≤ 4
+    go (yes h) = h
+    go (no h) =
+        absurd (rw (ne-eqb k 1 (λ e. h (omega arith)), ne-eqb k 2 (λ e. h (omega arith)), ne-eqb k 3 (λ e. h (omega arith)), ne-eqb k 4 (λ e. h (omega arith))) at t)
 
 -- ---- 2
 
@@ -62,12 +63,14 @@ even-rule : (q : Question) (n : ℕ) → T (evenFor q n) → EvenFor q n
 even-rule shortestPath n t = tt
 even-rule maximumFlow n t = tt
 even-rule assignment n t = eqb→eq (n % 2) 0 t
+even-rule acyclicity n t = tt
 even-rule unasked n t = tt
 
 even-test : (q : Question) (n : ℕ) → EvenFor q n → T (evenFor q n)
 even-test shortestPath n h = tt
 even-test maximumFlow n h = tt
 even-test assignment n h = eq→T (n % 2) 0 h
+even-test acyclicity n h = tt
 even-test unasked n h = tt
 
 pub size-rule : (st : Setting) → T (sizeOk st) → Sized st
@@ -102,17 +105,25 @@ two-test st h =
     (both (ltb (st .s) (st .n)) (ltb (st .t) (st .n)) (lt→ltb (st .s) (st .n) (h .source-below)) (lt→ltb (st .t) (st .n) (h .sink-below)))
     (eqb-not (st .s) (st .t) (h .apart))
 
+zero-rule : (st : Setting) → T (bothZero st) → BothZero st
+zero-rule st t =
+    record { source-zero = eqb→eq (st .s) 0 (and-left (eqb (st .s) 0) (eqb (st .t) 0) t); sink-zero = eqb→eq (st .t) 0 (and-right (eqb (st .s) 0) (eqb (st .t) 0) t) }
+
+zero-test : (st : Setting) → BothZero st → T (bothZero st)
+zero-test st h = both (eqb (st .s) 0) (eqb (st .t) 0) (eq→T (st .s) 0 (h .source-zero)) (eq→T (st .t) 0 (h .sink-zero))
+
 ends-rule-for : (q : Question) (st : Setting) → T (endsFor q st) → EndsFor q st
 ends-rule-for shortestPath st t = two-rule st t
 ends-rule-for maximumFlow st t = two-rule st t
-ends-rule-for assignment st t =
-    record { source-zero = eqb→eq (st .s) 0 (and-left (eqb (st .s) 0) (eqb (st .t) 0) t); sink-zero = eqb→eq (st .t) 0 (and-right (eqb (st .s) 0) (eqb (st .t) 0) t) }
+ends-rule-for assignment st t = zero-rule st t
+ends-rule-for acyclicity st t = zero-rule st t
 ends-rule-for unasked st t = absurd t
 
 ends-test-for : (q : Question) (st : Setting) → EndsFor q st → T (endsFor q st)
 ends-test-for shortestPath st h = two-test st h
 ends-test-for maximumFlow st h = two-test st h
-ends-test-for assignment st h = both (eqb (st .s) 0) (eqb (st .t) 0) (eq→T (st .s) 0 (h .source-zero)) (eq→T (st .t) 0 (h .sink-zero))
+ends-test-for assignment st h = zero-test st h
+ends-test-for acyclicity st h = zero-test st h
 ends-test-for unasked st h = absurd h
 
 pub ends-rule : (st : Setting) → T (endsOk st) → EndsFor (asks st) st
@@ -131,6 +142,7 @@ sides-rule assignment st e t =
       from-pump = ltb→lt (e .tail) (pumps st) (and-left (ltb (e .tail) (pumps st)) (leb (pumps st) (e .head)) t);
       to-site = leb→le (pumps st) (e .head) (and-right (ltb (e .tail) (pumps st)) (leb (pumps st) (e .head)) t);
     }
+sides-rule acyclicity st e t = tt
 sides-rule unasked st e t = absurd t
 
 sides-test : (q : Question) (st : Setting) (e : Arc) → SidesFor q st e → T (sidesFor q st e)
@@ -138,6 +150,7 @@ sides-test shortestPath st e h = tt
 sides-test maximumFlow st e h = tt
 sides-test assignment st e h =
     both (ltb (e .tail) (pumps st)) (leb (pumps st) (e .head)) (lt→ltb (e .tail) (pumps st) (h .from-pump)) (le→leb (pumps st) (e .head) (h .to-site))
+sides-test acyclicity st e h = tt
 sides-test unasked st e h = absurd h
 
 module _ (st : Setting) (e : Arc) where
@@ -184,6 +197,7 @@ claim-rule-for shortestPath k d a = d
 claim-rule-for maximumFlow k (inl e) a = e
 claim-rule-for maximumFlow k (inr e) a = absurd (rw e at a)
 claim-rule-for assignment k d a = d
+claim-rule-for acyclicity k d a = d
 claim-rule-for unasked k d a = a
 
 pub claim-rule : (st : Setting) (k : ℕ) → T (claimOk st k) → MayClaim (asks st) k
@@ -197,6 +211,8 @@ claim-test-for shortestPath k (inr e) = rw e tt
 claim-test-for maximumFlow k e = rw e tt
 claim-test-for assignment k (inl e) = rw e tt
 claim-test-for assignment k (inr e) = rw e tt
+claim-test-for acyclicity k (inl e) = rw e tt
+claim-test-for acyclicity k (inr e) = rw e tt
 claim-test-for unasked k h = absurd h
 
 pub claim-test : (st : Setting) (k : ℕ) → MayClaim (asks st) k → T (claimOk st k)

@@ -1,5 +1,6 @@
 pub mod Sums
 pub mod Paths
+pub mod ClosedWalks
 pub mod Flows
 pub mod Assignments
 pub mod Orders

@@ -6,12 +6,12 @@ use Prim.Native.Nat.{ℕ, _≤_}
 use native.Mathlib.Omega.{arith}
 use lib.IntN.{pos}
 use lib.Signed.{_≤ℤ_}
-use Rattle.prelude.specs.Lists.{Perm, none, keep, swap, then}
+use Rattle.prelude.specs.Lists.{Every, Member, Perm, none, keep, swap, then}
 use Rattle.prelude.proofs.Integers.{signed}
 use Rattle.prelude.proofs.Lists.{every-map}
 use Rattle.prelude.proofs.Permutations.{perm-sym, perm-every, perm-some, perm-lift}
 use Rattle.network.specs.Network.{Arc, Load, arcs, delta, sumOf, balance, cost}
-use Rattle.network.specs.Question.{Question, shortestPath, maximumFlow, assignment, unasked, Setting, asks, Answer, value, Walk, Flow, Assignment, TrueFor, TrueAnswer}
+use Rattle.network.specs.Question.{Question, shortestPath, maximumFlow, assignment, acyclicity, unasked, Setting, asks, Answer, value, Walk, Flow, Assignment, ClosedWalk, TrueFor, TrueAnswer}
 use Rattle.network.specs.Question.{none as no-answer}
 
 -- ---- one answer
@@ -31,6 +31,10 @@ unique-for assignment st net (value v) (value w) h k =
 unique-for assignment st net (value v) no-answer h k = absurd (k (h .chosen) (h .is-assignment))
 unique-for assignment st net no-answer (value w) h k = absurd (h (k .chosen) (k .is-assignment))
 unique-for assignment st net no-answer no-answer h k = refl
+unique-for acyclicity st net (value v) (value w) h k = ap value (h .zero ∙ sym (k .zero))
+unique-for acyclicity st net (value v) no-answer h k = absurd (h .no-closed-walk k)
+unique-for acyclicity st net no-answer (value w) h k = absurd (k .no-closed-walk h)
+unique-for acyclicity st net no-answer no-answer h k = refl
 unique-for unasked st net a b h k = absurd h
 
 pub unique : (st : Setting) (net : List Arc) (a b : Answer) → TrueAnswer st net a → TrueAnswer st net b → a ≡ b
@@ -52,8 +56,14 @@ Moved f net = (k : List Load) × Perm f k × (arcs k ≡ net)
 moved : {net new : List Arc} → Perm net new → (f : List Load) → arcs f ≡ net → Moved f new
 moved d f e = perm-lift (λ l. l .arc) d f e
 
+over-moved : {net new : List Arc} → Perm net new → (es : List Arc) → Every (λ e. Member e net) es → Every (λ e. Member e new) es
+over-moved d es h = every-map (λ a m. perm-some (λ b. a ≡ b) d m) es h
+
 walk-moved : (st : Setting) {net new : List Arc} → Perm net new → (es : List Arc) → Walk st net es → Walk st new es
-walk-moved st d es w = record { over = every-map (λ a h. perm-some (λ b. a ≡ b) d h) es (w .over); leads = w .leads }
+walk-moved st d es w = record { over = over-moved d es (w .over); leads = w .leads }
+
+closed-moved : {net new : List Arc} → Perm net new → ClosedWalk net → ClosedWalk new
+closed-moved d c = record { vertex = c .vertex; walk = c .walk; nonempty = c .nonempty; over = over-moved d (c .walk) (c .over); leads = c .leads }
 
 flow-moved : (st : Setting) {net new : List Arc} (f : List Load) → Flow st net f → (r : Moved f new) → Flow st new (r .0)
 flow-moved st f c r = record {
@@ -104,6 +114,8 @@ any-order-for assignment st {net} {new} d (value v) h =
         rw (cost-moved f r) at (h .least (r .0) (assignment-moved st f c r))
 any-order-for assignment st {net} d no-answer h =
     λ f c. let r : Moved f net = moved (perm-sym d) f (c .each) in h (r .0) (assignment-moved st f c r)
+any-order-for acyclicity st d (value v) h = record { no-closed-walk = λ c. h .no-closed-walk (closed-moved (perm-sym d) c); zero = h .zero }
+any-order-for acyclicity st d no-answer h = closed-moved d h
 any-order-for unasked st d a h = absurd h
 
 pub any-order : (st : Setting) {net new : List Arc} → Perm net new → (a : Answer) → TrueAnswer st net a → TrueAnswer st new a

@@ -38,41 +38,52 @@ no-walk st m net ms mt rule es w = false≢true (sym mt ∙ walk-inside m net ru
 
 -- ---- amounts with the balances of a path hold a walk
 
--- an arc that leaves u with an amount above 0, and the amounts with one less of it
-record Taken (u : ℕ) (f : List Load) : Type 0 where
-  arc : Arc
-  rest : List Load
-  same : arcs rest ≡ arcs f
-  known : Member arc (arcs f)
-  starts : arc .tail ≡ u
-  sums : (g : Arc → ℕ) → sumOf g f ≡ sumOf g rest + g arc
+-- an arc that the sum of g counts, with an amount above 0, and the amounts with one less of it
+pub record Taken (g : Arc → ℕ) (f : List Load) : Type 0 where
+  pub arc : Arc
+  pub rest : List Load
+  pub same : arcs rest ≡ arcs f
+  pub known : Member arc (arcs f)
+  pub counted : 0 < g arc
+  pub sums : (h : Arc → ℕ) → sumOf h f ≡ sumOf h rest + h arc
 
-take-one : (u : ℕ) (f : List Load) → 0 < leaving u f → Taken u f
+pub take-one : (g : Arc → ℕ) (f : List Load) → 0 < sumOf g f → Taken g f
 unfolding sumOf
-take-one u [] h = absurd (omega arith)
-take-one u (l ∷ f) h = go (l .amount) refl (compared (l .arc .tail) u) (λ (p : 0 < leaving u f). take-one u f p)
+take-one g [] h = absurd (omega arith)
+take-one g (l ∷ f) h = go (l .amount) (g (l .arc)) refl refl (λ (p : 0 < sumOf g f). take-one g f p)
   where
-    later : Taken u f → Taken u (l ∷ f)
+    later : Taken g f → Taken g (l ∷ f)
     later r = record {
       arc = r .arc;
       rest = l ∷ r .rest;
       same = ap (λ (es : List Arc). l .arc ∷ es) (r .same);
       known = inr (r .known);
-      starts = r .starts;
-      sums = λ g. omega (arith, r .sums g);
+      counted = r .counted;
+      sums = λ k. omega (arith, r .sums k);
     }
 
-    go : (k : ℕ) → l .amount ≡ k → Compared (l .arc .tail) u → (0 < leaving u f → Taken u f) → Taken u (l ∷ f)
-    go zero e c below = later (below (omega (arith, rw e at h)))
-    go (suc k) e (inl (s, i)) below = record {
+    go : (x k : ℕ) → l .amount ≡ x → g (l .arc) ≡ k → (0 < sumOf g f → Taken g f) → Taken g (l ∷ f)
+    go zero k e d below = later (below (omega (arith, rw e at h)))
+    go (suc x) zero e d below = later (below (omega (arith, rw d at h)))
+    go (suc x) (suc k) e d below = record {
       arc = l .arc;
-      rest = record { arc = l .arc; amount = k } ∷ f;
+      rest = record { arc = l .arc; amount = x } ∷ f;
       same = refl;
       known = inl refl;
-      starts = s;
-      sums = λ g. rw e (omega arith);
+      counted = omega (arith, d);
+      sums = λ j. rw e (omega arith);
     }
-    go (suc k) e (inr (s, i)) below = later (below (omega (arith, rw i at h)))
+
+-- an arc that leaves u
+abbrev Leaving : ℕ → Arc → ℕ
+Leaving u e = delta (e .tail) u
+
+starts : (u : ℕ) (f : List Load) (r : Taken (Leaving u) f) → r .arc .tail ≡ u
+starts u f r = go (compared (r .arc .tail) u)
+  where
+    go : Compared (r .arc .tail) u → r .arc .tail ≡ u
+    go (inl (s, i)) = s
+    go (inr (s, i)) = absurd (omega (arith, r .counted, i))
 
 -- a walk over the arcs from u to t, no longer than the amounts' cost
 pub record Found (u t : ℕ) (f : List Load) : Type 0 where
@@ -86,25 +97,25 @@ abbrev pub Unit-flow : ℕ → ℕ → ℕ → List Load → Type 0
 Unit-flow n u t f = (v : ℕ) → v < n → leaving v f + delta t v ≡ entering v f + delta u v
 
 -- one arc further
-further : (u t : ℕ) (f : List Load) (r : Taken u f) → Found (r .arc .head) t (r .rest) → Found u t f
+further : (u t : ℕ) (f : List Load) (r : Taken (Leaving u) f) → Found (r .arc .head) t (r .rest) → Found u t f
 unfolding total
 further u t f r w = record {
   path = r .arc ∷ w .path;
   over = (r .known, rw (r .same) at (w .over));
-  leads = (r .starts, w .leads);
+  leads = (starts u f r, w .leads);
   short = omega (arith, r .sums (λ e. e .weight), w .short);
 }
 
-unit-after : (n u t : ℕ) (f : List Load) (r : Taken u f) → Unit-flow n u t f → Unit-flow n (r .arc .head) t (r .rest)
-unit-after n u t f r kept v h = omega (arith, kept v h, rw (r .starts) at (r .sums (λ e. delta (e .tail) v)), r .sums (λ e. delta (e .head) v))
+unit-after : (n u t : ℕ) (f : List Load) (r : Taken (Leaving u) f) → Unit-flow n u t f → Unit-flow n (r .arc .head) t (r .rest)
+unit-after n u t f r kept v h = omega (arith, kept v h, rw (starts u f r) at (r .sums (λ e. delta (e .tail) v)), r .sums (λ e. delta (e .head) v))
 
-walk-on : (n u t : ℕ) (f : List Load) → u < n → Unit-flow n u t f → ((r : Taken u f) → Found (r .arc .head) t (r .rest)) → Dec (u ≡ t) → Found u t f
+walk-on : (n u t : ℕ) (f : List Load) → u < n → Unit-flow n u t f → ((r : Taken (Leaving u) f) → Found (r .arc .head) t (r .rest)) → Dec (u ≡ t) → Found u t f
 unfolding total
 walk-on n u t f hu kept next (yes e) = record { path = []; over = tt; leads = e; short = omega arith }
 walk-on n u t f hu kept next (no h) = further u t f r (next r)
   where
-    r : Taken u f
-    r = take-one u f (omega (arith, kept u hu, delta-other t u (λ e. h (sym e)), delta-same u u refl))
+    r : Taken (Leaving u) f
+    r = take-one (Leaving u) f (omega (arith, kept u hu, delta-other t u (λ e. h (sym e)), delta-same u u refl))
 
 -- by the sum of the amounts, k
 pub walk-in : (k n u t : ℕ) (f : List Load) → u < n → Every (Inside n) (arcs f) → sumOf (λ e. 1) f ≡ k → Unit-flow n u t f → Found u t f

@@ -1,11 +1,11 @@
 -- The promises of specs/Promises.antt, kept.
 -- Assumes nothing.
 use Rattle.network.specs.Question.{asks}
-use Rattle.network.specs.Promises.{OneAnswer, AnyOrder, Sound, SelfLoopsRead, SelfLoopsCancel, SelfLoopsStay, SelfLoopsChangeNothing, SelfLoopsCertified, TestsMean, TestsSuffice, TestsNeeded, KeysTell, KeysBelow, KeysDiffer}
+use Rattle.network.specs.Promises.{OneAnswer, AnyOrder, Sound, SelfLoopsRead, SelfLoopsCancel, SelfLoopsStay, SelfLoopsChangeNothing, SelfLoopsAreLoops, SelfLoopsCertified, TestsMean, TestsSuffice, TestsNeeded, KeysTell, KeysBelow, KeysDiffer}
 use Rattle.network.proofs.Allowed.{asked-rule, asked-test, size-rule, size-test, ends-rule, ends-test, joins-rule, joins-test, weight-rule, weight-test, claim-rule, claim-test}
 use Rattle.network.proofs.Orders.{unique, any-order}
 use Rattle.network.proofs.Sound.{sound}
-use Rattle.network.proofs.SelfLoops.{loop-allowed, loop-refused, loop-cancels, loop-stays, same-without, loop-certified}
+use Rattle.network.proofs.SelfLoops.{loop-allowed, loop-refused, loop-cancels, loop-stays, same-without, loop-is-loop, loop-certified}
 use Rattle.network.proofs.Tests.{passed-certified, certified-passed, certified-answer}
 use Rattle.network.proofs.Keys.{keys-tell}
 use Rattle.network.proofs.Keys.{keys-below as below, keys-differ as differ}
@@ -20,7 +20,7 @@ pub certificates-sound : Sound
 certificates-sound = sound
 
 pub self-loops-read : SelfLoopsRead
-self-loops-read = record { for-path-and-flow = loop-allowed; not-for-assignment = loop-refused }
+self-loops-read = record { for-others = loop-allowed; not-for-assignment = loop-refused }
 
 pub self-loops-cancel : SelfLoopsCancel
 self-loops-cancel = loop-cancels
@@ -30,6 +30,9 @@ self-loops-stay = loop-stays
 
 pub self-loops-change-nothing : SelfLoopsChangeNothing
 self-loops-change-nothing = same-without
+
+pub self-loops-are-loops : SelfLoopsAreLoops
+self-loops-are-loops = loop-is-loop
 
 pub self-loops-certified : SelfLoopsCertified
 self-loops-certified st y f g l a q o h s = loop-certified st y f g l s a q o h

@@ -1,4 +1,4 @@
--- The rules of the five certificates as propositions: what soundness argues with, and what a solver has to show. A certificate meets its row exactly where they hold.
+-- The rules of the seven certificates as propositions: what soundness argues with, and what a solver has to show. A certificate meets its row exactly where they hold.
 -- Assumes nothing.
 use mathlib.Core.Path.{_≡_, refl, sym, _∙_, ap}
 use mathlib.Core.Logic.{_≢_}
@@ -10,7 +10,7 @@ use native.Mathlib.Decide.{ℕ-discrete}
 use borrow.Author.Tests.{eq-eqb, ne-eqb}
 use lib.Dec.{T, eqb, ltb, eqb→eq, ltb→lt, lt→ltb}
 use lib.IntN.{ℤ, pos, negℤ, _+ℤ_}
-use lib.Signed.{_≤ℤ_, leZ, leZ-yes}
+use lib.Signed.{_≤ℤ_, _<ℤ_, leZ, leZ-yes, ltZ-yes}
 use Rattle.prelude.specs.Choice.{pick, implies}
 use Rattle.prelude.specs.Integers.{eqZ, between}
 use Rattle.prelude.specs.Lists.{Every}
@@ -18,9 +18,9 @@ use Rattle.prelude.proofs.Booleans.{and-left, and-right, both, implied, if-so, 
 use Rattle.prelude.proofs.Integers.{eqZ→eq, eq→eqZ, signed}
 use Rattle.prelude.proofs.Lists.{every-map}
 use Rattle.network.specs.Limits.{mostPotential}
-use Rattle.network.specs.Network.{Load, arcs, balance, cost, crosses, cut}
-use Rattle.network.specs.Question.{Question, shortestPath, maximumFlow, assignment, unasked, Setting, asks, TwoVertices, EndsFor, Answer, value, none}
-use Rattle.network.specs.Certificate.{Rules, pathRules, flowRules, assignmentRules, noPathRules, noAssignmentRules, rulesFor, marked, separates, pathBalance, assignmentBalance, potentialGap, markedPumps, markedSites, nodeMeets, CertifiedBy, claimFor, Certified}
+use Rattle.network.specs.Network.{Load, arcs, sumOf, balance, cost, crosses, cut}
+use Rattle.network.specs.Question.{Question, shortestPath, maximumFlow, assignment, acyclicity, unasked, Setting, asks, TwoVertices, EndsFor, Answer, value, none}
+use Rattle.network.specs.Certificate.{Rules, pathRules, flowRules, assignmentRules, noPathRules, noAssignmentRules, acyclicRules, cyclicRules, rulesFor, marked, separates, pathBalance, assignmentBalance, potentialGap, markedPumps, markedSites, nodeMeets, CertifiedBy, claimFor, Certified}
 
 -- ---- the rules
 
@@ -59,6 +59,9 @@ Feasible y l = y (l .arc .head) ≤ℤ (y (l .arc .tail) +ℤ pos (l .arc .weigh
 abbrev pub Closed : (ℕ → ℤ) → Load → Type 0
 Closed y l = crosses (marked y) (l .arc) ≡ false
 
+abbrev pub Rises : (ℕ → ℤ) → Load → Type 0
+Rises y l = y (l .arc .tail) <ℤ y (l .arc .head)
+
 abbrev pub PathBalances : Setting → List Load → Type 0
 PathBalances st f = (v : ℕ) → v < st .n → balance v f ≡ pathBalance st v
 
@@ -67,6 +70,9 @@ Conserved st f = (v : ℕ) → v < st .n → v ≢ st .s → v ≢ st .t → bal
 
 abbrev pub AssignmentBalances : Setting → List Load → Type 0
 AssignmentBalances st f = (v : ℕ) → v < st .n → balance v f ≡ assignmentBalance st v
+
+abbrev pub Circulates : Setting → List Load → Type 0
+Circulates st f = (v : ℕ) → v < st .n → balance v f ≡ pos 0
 
 abbrev pub LengthIsPotential : Setting → (ℕ → ℤ) → List Load → Type 0
 LengthIsPotential st y f = pos (cost f) ≡ y (st .t)
@@ -80,7 +86,10 @@ CostIsGap st y f = pos (cost f) ≡ potentialGap st y
 abbrev pub MorePumps : Setting → (ℕ → ℤ) → Type 0
 MorePumps st y = markedSites st (marked y) < markedPumps st (marked y)
 
--- ---- the five certificates
+abbrev pub SomeAmount : List Load → Type 0
+SomeAmount f = 0 < sumOf (λ e. 1) f
+
+-- ---- the seven certificates
 
 pub record PathCertificate (st : Setting) (y : ℕ → ℤ) (f : List Load) (v : ℕ) : Type 0 where
   pub potentials : Potentials st y
@@ -121,6 +130,18 @@ pub record NoAssignmentCertificate (st : Setting) (y : ℕ → ℤ) (f : List Lo
   pub closed : Every (Closed y) f
   pub more-pumps : MorePumps st y
 
+pub record AcyclicCertificate (st : Setting) (y : ℕ → ℤ) (f : List Load) (v : ℕ) : Type 0 where
+  pub potentials : Potentials st y
+  pub amounts : Every NoAmount f
+  pub rising : Every (Rises y) f
+  pub answer : v ≡ 0
+
+pub record CyclicCertificate (st : Setting) (y : ℕ → ℤ) (f : List Load) : Type 0 where
+  pub zeros : (v : ℕ) → v < st .n → InRange (pos 0) (pos 0) (y v)
+  pub amounts : Every ZeroOrOne f
+  pub balances : Circulates st f
+  pub some : SomeAmount f
+
 abbrev pub RulesHold : Question → Setting → (ℕ → ℤ) → List Load → Answer → Type 0
 RulesHold shortestPath st y f (value v) = PathCertificate st y f v
 RulesHold shortestPath st y f none = NoPathCertificate st y f
@@ -128,6 +149,8 @@ RulesHold maximumFlow st y f (value v) = FlowCertificate st y f v
 RulesHold maximumFlow st y f none = ⊥
 RulesHold assignment st y f (value v) = AssignmentCertificate st y f v
 RulesHold assignment st y f none = NoAssignmentCertificate st y f
+RulesHold acyclicity st y f (value v) = AcyclicCertificate st y f v
+RulesHold acyclicity st y f none = CyclicCertificate st y f
 RulesHold unasked st y f a = ⊥
 
 -- ---- tests and propositions
@@ -250,6 +273,22 @@ module _ (st : Setting) (y : ℕ → ℤ) (f : List Load) where
     more-pumps = ltb→lt (markedSites st (marked y)) (markedPumps st (marked y)) (c .sums);
   }
 
+  acyclic-rules : (v : ℕ) → CertifiedBy acyclicRules acyclicity st y f (value v) → AcyclicCertificate st y f v
+  acyclic-rules v c = record {
+    potentials = node-range acyclicRules st y (c .nodes);
+    amounts = every-map (λ l (h : l .amount ≤ 0). omega arith) f (c .amounts);
+    rising = every-map (λ l h. ltZ-yes h) f (c .on-arcs);
+    answer = same-value (c .answer);
+  }
+
+  cyclic-rules : CertifiedBy cyclicRules acyclicity st y f none → CyclicCertificate st y f
+  cyclic-rules c = record {
+    zeros = node-range cyclicRules st y (c .nodes);
+    amounts = c .amounts;
+    balances = λ v h. eqZ→eq (balance v f) (pos 0) (c .balances v h);
+    some = ltb→lt 0 (sumOf (λ e. 1) f) (c .sums);
+  }
+
   rules-for : (q : Question) (a : Answer) → EndsFor q st → CertifiedBy (rulesFor q (claimFor a)) q st y f a → RulesHold q st y f a
   rules-for shortestPath (value v) e c = path-rules v e c
   rules-for shortestPath none e c = no-path-rules e c
@@ -257,6 +296,8 @@ module _ (st : Setting) (y : ℕ → ℤ) (f : List Load) where
   rules-for maximumFlow none e c = c .admitted
   rules-for assignment (value v) e c = assignment-rules v c
   rules-for assignment none e c = no-assignment-rules c
+  rules-for acyclicity (value v) e c = acyclic-rules v c
+  rules-for acyclicity none e c = cyclic-rules c
   rules-for unasked a e c = e
 
   -- ---- and where its rules hold, the tests do
@@ -306,6 +347,24 @@ module _ (st : Setting) (y : ℕ → ℤ) (f : List Load) where
     on-arcs = every-map (λ l h. false→not (crosses (marked y) (l .arc)) h) f (c .closed);
     balances = λ v h. tt;
     sums = lt→ltb (markedSites st (marked y)) (markedPumps st (marked y)) (c .more-pumps);
+    answer = refl;
+  }
+  tests-for acyclicity (value v) c = record {
+    admitted = tt;
+    nodes = node-tests acyclicRules st y (c .potentials) (λ v. tt);
+    amounts = every-map (λ l (h : NoAmount l). omega arith) f (c .amounts);
+    on-arcs = every-map (λ l (h : Rises y l). h .lt) f (c .rising);
+    balances = λ v h. tt;
+    sums = tt;
+    answer = ap value (c .answer);
+  }
+  tests-for acyclicity none c = record {
+    admitted = tt;
+    nodes = node-tests cyclicRules st y (c .zeros) (λ v. tt);
+    amounts = c .amounts;
+    on-arcs = every-true f;
+    balances = λ v h. eq→eqZ (balance v f) (pos 0) (c .balances v h);
+    sums = lt→ltb 0 (sumOf (λ e. 1) f) (c .some);
     answer = refl;
   }
   tests-for unasked a c = absurd c

@@ -19,27 +19,29 @@ use Rattle.prelude.proofs.Integers.{signed, parts-add, parts-sub}
 use Rattle.prelude.proofs.Lists.{every-map, every-image, image-every, every-insert, every-of}
 use Rattle.network.specs.Limits.{mostWeight}
 use Rattle.network.specs.Network.{Arc, arcOf, SelfLoop, withoutSelfLoops, Load, arcs, delta, sumOf, balance, crosses, sumAcross, total}
-use Rattle.network.specs.Question.{Question, shortestPath, maximumFlow, assignment, unasked, Setting, asks, unitCost, unitsMost, TwoVertices, EndsFor, Opened, SidesFor, Joins, Allowed, Admissible, Answer, value, none, Leads, Walk, ShortestPath, NoWalk, TrueFor, TrueAnswer}
+use Rattle.network.specs.Question.{Question, shortestPath, maximumFlow, assignment, acyclicity, unasked, Setting, asks, Asked, unitCost, unitsMost, TwoVertices, EndsFor, Opened, SidesFor, Joins, Allowed, Admissible, Answer, value, none, Leads, Walk, ShortestPath, NoWalk, TrueFor, TrueAnswer}
 use Rattle.network.specs.Certificate.{marked, endsOf, Sums, sumsOf, Rules, noShortcut, staysInside, pathRules, flowRules, noPathRules, rulesFor, CertifiedBy, claimFor, Certified}
 use Rattle.network.specs.Promises.{PathOrFlow, MayCarry}
 use Rattle.network.proofs.Rules.{PathBalances, PathCertificate, path-rules}
 use Rattle.network.proofs.Sums.{Inside}
 use Rattle.network.proofs.Paths.{walk-in}
+use Rattle.network.proofs.ClosedWalks.{loop-closed}
 use Rattle.network.proofs.Sound.{unit-flow, path-above}
 use Rattle.network.proofs.Append.{sumOf-insert, across-insert, balance-insert}
 use Rattle.network.proofs.IdleArcs.{SameButIdle, end, keep, first, loop-even, same-maximum}
 
 -- ---- which are read
 
-loop-sides : (q : Question) (st : Setting) (e : Arc) → PathOrFlow q → SidesFor q st e
-loop-sides shortestPath st e h = tt
-loop-sides maximumFlow st e h = tt
-loop-sides assignment st e h = absurd h
-loop-sides unasked st e h = absurd h
+loop-sides : (q : Question) (st : Setting) (e : Arc) → Asked q → q ≢ assignment → SidesFor q st e
+loop-sides shortestPath st e h other = tt
+loop-sides maximumFlow st e h other = tt
+loop-sides assignment st e h other = absurd (other refl)
+loop-sides acyclicity st e h other = tt
+loop-sides unasked st e h other = absurd h
 
-pub loop-allowed : (st : Setting) (v w : ℕ) → PathOrFlow (asks st) → v < st .n → w ≤ mostWeight → Allowed st (arcOf v v w)
-loop-allowed st v w q h k =
-    record { joins = record { tail-below = h; head-below = h; sides = loop-sides (asks st) st (arcOf v v w) q }; weight-within = k }
+pub loop-allowed : (st : Setting) (v w : ℕ) → Asked (asks st) → asks st ≢ assignment → v < st .n → w ≤ mostWeight → Allowed st (arcOf v v w)
+loop-allowed st v w q other h k =
+    record { joins = record { tail-below = h; head-below = h; sides = loop-sides (asks st) st (arcOf v v w) q other }; weight-within = k }
 
 pub loop-refused : (st : Setting) (e : Arc) → asks st ≡ assignment → Joins st e → ¬ (SelfLoop e)
 loop-refused st e q j s =
@@ -47,6 +49,9 @@ loop-refused st e q j s =
     absurd (omega (arith, sides .from-pump, sides .to-site))
 
 -- ---- balances and cuts
+
+pub loop-is-loop : (st : Setting) (net : List Arc) (e : Arc) → asks st ≡ acyclicity → SelfLoop e → Member e net → TrueAnswer st net none
+loop-is-loop st net e q s m = rw q (loop-closed net e s m)
 
 pub loop-cancels : (v : ℕ) (f k : List Load) (l : Load) → SelfLoop (l .arc) → balance v (f ++ l ∷ k) ≡ balance v (f ++ k)
 loop-cancels v f k l s =
@@ -197,6 +202,7 @@ module _ (st : Setting) (net : List Arc) where
   same-for maximumFlow (value v) h = same-maximum st (loops-idle net) v
   same-for maximumFlow none h = (λ k. k, λ k. k)
   same-for assignment a h = absurd h
+  same-for acyclicity a h = absurd h
   same-for unasked a h = absurd h
 
   pub same-without : (a : Answer) → PathOrFlow (asks st) → TrueAnswer st net a ↔ TrueAnswer st (withoutSelfLoops net) a
@@ -287,6 +293,7 @@ module _ (st : Setting) (y : ℕ → ℤ) (f k : List Load) (l : Load) (s : Self
       (took maximumFlow (omega arith) flowRules (value v) c, every-of (λ d. d .amount ≤ d .arc .weight) f k l (c .amounts) .0)
   took-for maximumFlow none h ends inside c = absurd (c .admitted)
   took-for assignment a h ends inside c = absurd h
+  took-for acyclicity a h ends inside c = absurd h
   took-for unasked a h ends inside c = absurd h
 
   put-for : (q : Question) (a : Answer) → CertifiedBy (rulesFor q (claimFor a)) q st y (f ++ k) a → MayCarry q a l
@@ -296,6 +303,7 @@ module _ (st : Setting) (y : ℕ → ℤ) (f k : List Load) (l : Load) (s : Self
   put-for maximumFlow (value v) c m = put maximumFlow (omega arith) flowRules (value v) m tt c
   put-for maximumFlow none c m = absurd m
   put-for assignment a c m = absurd m
+  put-for acyclicity a c m = absurd m
   put-for unasked a c m = absurd m
 
   pub loop-certified : (a : Answer) → PathOrFlow (asks st) → Opened st → Every (Allowed st) (arcs (f ++ l ∷ k))

@@ -9,7 +9,7 @@ use native.Mathlib.Omega.{arith}
 use native.Mathlib.Decide.{decLt}
 use borrow.Author.Tests.{eq-eqb, ne-eqb, lt-ltb, le-ltb}
 use lib.IntN.{ℤ, pos, _-ℤ_}
-use lib.Signed.{_≤ℤ_}
+use lib.Signed.{_≤ℤ_, _<ℤ_}
 use Rattle.prelude.specs.Integers.{eqZ}
 use Rattle.prelude.specs.Lists.{Every, Perm}
 use Rattle.prelude.specs.Sums.{sumTo, sumToℤ}
@@ -17,11 +17,12 @@ use Rattle.prelude.proofs.Integers.{posPart, negPart, parts-add, parts-sub, sig
 use Rattle.prelude.proofs.Lists.{every-map, every-zip, image-every}
 use Rattle.prelude.proofs.Permutations.{perm-sym, perm-every}
 use Rattle.network.specs.Network.{Arc, Load, arcs, delta, sumOf, leaving, entering, balance, degree, cost, total, crosses}
-use Rattle.network.specs.Question.{Question, shortestPath, maximumFlow, assignment, unasked, Setting, asks, pumps, sites, EndsFor, TwoVertices, SidesFor, PumpToSite, Allowed, Opened, Answer, value, none, Walk, ShortestPath, NoWalk, Flow, MaximumFlow, Assignment, CheapestAssignment, NoAssignment, TrueFor, TrueAnswer}
+use Rattle.network.specs.Question.{Question, shortestPath, maximumFlow, assignment, acyclicity, unasked, Setting, asks, pumps, sites, EndsFor, TwoVertices, SidesFor, PumpToSite, Allowed, Opened, Answer, value, none, Walk, ShortestPath, NoWalk, Flow, MaximumFlow, Assignment, CheapestAssignment, NoAssignment, ClosedWalk, Acyclic, TrueFor, TrueAnswer}
 use Rattle.network.specs.Certificate.{marked, Certified}
-use Rattle.network.proofs.Rules.{Potentials, SourceMarked, SinkUnmarked, WithinCapacity, Feasible, PathBalances, PathCertificate, FlowCertificate, AssignmentCertificate, NoPathCertificate, NoAssignmentCertificate, RulesHold, certified-rules}
+use Rattle.network.proofs.Rules.{Potentials, SourceMarked, SinkUnmarked, WithinCapacity, Feasible, PathBalances, PathCertificate, FlowCertificate, AssignmentCertificate, NoPathCertificate, NoAssignmentCertificate, AcyclicCertificate, CyclicCertificate, RulesHold, certified-rules}
 use Rattle.network.proofs.Sums.{Compared, compared, Inside}
 use Rattle.network.proofs.Paths.{walk-above, no-walk, Unit-flow, Found, walk-in}
+use Rattle.network.proofs.ClosedWalks.{rising-excludes, circulation-closes}
 use Rattle.network.proofs.Flows.{flow-below-cut}
 use Rattle.network.proofs.Assignments.{Between, enters-no-pump, leaves-no-site, assignment-above, closed-fewer}
 use Rattle.network.proofs.Orders.{any-order}
@@ -173,7 +174,18 @@ no-assignment-sound st y f rule c g a =
       closed-fewer st (pumps st) (sites st) (whole st) (arcs f) rule g a (marked y) (image-every (λ l. l .arc) (λ e. crosses (marked y) e ≡ false) f (c .closed)),
     )
 
--- ---- all five, for the arcs in the order of the loads
+-- ---- acyclicity
+
+acyclic-sound : (st : Setting) (y : ℕ → ℤ) (f : List Load) (v : ℕ) → AcyclicCertificate st y f v → Acyclic (arcs f) v
+acyclic-sound st y f v c = record {
+  no-closed-walk = rising-excludes (arcs f) y (image-every (λ l. l .arc) (λ e. y (e .tail) <ℤ y (e .head)) f (c .rising));
+  zero = c .answer;
+}
+
+cyclic-sound : (st : Setting) (y : ℕ → ℤ) (f : List Load) → Every (Inside (st .n)) (arcs f) → CyclicCertificate st y f → ClosedWalk (arcs f)
+cyclic-sound st y f inside c = circulation-closes (st .n) f inside (c .balances) (c .some)
+
+-- ---- all seven, for the arcs in the order of the loads
 
 certified-for : (q : Question) (st : Setting) (y : ℕ → ℤ) (f : List Load) (a : Answer) → EndsFor q st → Every (Inside (st .n)) (arcs f) → Every (SidesFor q st) (arcs f)
     → RulesHold q st y f a → TrueFor q st (arcs f) a
@@ -185,6 +197,8 @@ certified-for assignment st y f (value v) ends inside sides c =
     assignment-sound st y f v inside (every-zip (λ e i p. between st e i p) (arcs f) inside sides) c
 certified-for assignment st y f none ends inside sides c =
     no-assignment-sound st y f (every-zip (λ e i p. between st e i p) (arcs f) inside sides) c
+certified-for acyclicity st y f (value v) ends inside sides c = acyclic-sound st y f v c
+certified-for acyclicity st y f none ends inside sides c = cyclic-sound st y f inside c
 certified-for unasked st y f a ends inside sides c = absurd c
 
 pub certified-true : (st : Setting) (y : ℕ → ℤ) (f : List Load) (a : Answer) → Opened st → Every (Allowed st) (arcs f) → Certified st y f a → TrueAnswer st (arcs f) a

@@ -9,7 +9,7 @@ use Rattle.prelude.specs.Lists.{all}
 use Rattle.prelude.proofs.Lists.{all→every, every→all}
 use Rattle.prelude.proofs.Sums.{allTo-at, at-allTo}
 use Rattle.network.specs.Network.{Load, balance}
-use Rattle.network.specs.Question.{Question, shortestPath, maximumFlow, assignment, unasked, Setting, asks, Answer, value, none}
+use Rattle.network.specs.Question.{Question, shortestPath, maximumFlow, assignment, acyclicity, unasked, Setting, asks, Answer, value, none}
 use Rattle.network.specs.Certificate.{Claim, ofValue, ofNone, Rules, rulesFor, marked, endsOf, sumsOf, nodeMeets, CertifiedBy, claimFor, Certified}
 use Rattle.network.specs.Tests.{answerOf, PassedFor, Passed}
 
@@ -44,6 +44,8 @@ met-for maximumFlow ofValue st y f p = met (rulesFor maximumFlow ofValue) maximu
 met-for maximumFlow ofNone st y f p = absurd (p .claim)
 met-for assignment ofValue st y f p = met (rulesFor assignment ofValue) assignment st y f p
 met-for assignment ofNone st y f p = met (rulesFor assignment ofNone) assignment st y f p
+met-for acyclicity ofValue st y f p = met (rulesFor acyclicity ofValue) acyclicity st y f p
+met-for acyclicity ofNone st y f p = met (rulesFor acyclicity ofNone) acyclicity st y f p
 met-for unasked c st y f p = absurd (p .claim)
 
 -- An annotation that passes every test meets every rule for its answer.

@@ -7,14 +7,14 @@ use mathlib.Core.List.{List}
 use Prim.Native.Nat.{ℕ, _+_, _≤_, _<_}
 use lib.Dec.{T, eqb, ltb}
 use lib.IntN.{ℤ, pos, negℤ, _+ℤ_, _-ℤ_}
-use lib.Signed.{leZ}
+use lib.Signed.{leZ, ltZ}
 use Rattle.prelude.specs.Choice.{pick, implies}
 use Rattle.prelude.specs.Integers.{eqZ, between, natural}
 use Rattle.prelude.specs.Lists.{Every}
 use Rattle.prelude.specs.Sums.{sumToℤ, count}
 use Rattle.network.specs.Limits.{mostPotential}
 use Rattle.network.specs.Network.{Arc, Load, arcs, balance, sumOf, sumAcross}
-use Rattle.network.specs.Question.{Question, shortestPath, maximumFlow, assignment, unasked, Setting, asks, pumps, sites, unitCost, unitsMost, Answer, value, none}
+use Rattle.network.specs.Question.{Question, shortestPath, maximumFlow, assignment, acyclicity, unasked, Setting, asks, pumps, sites, unitCost, unitsMost, Answer, value, none}
 
 -- ---- what the rules speak of
 
@@ -38,7 +38,7 @@ pub record Ends : Type 0 where
 abbrev pub endsOf : (ℕ → ℤ) → (ℕ → Bool) → Arc → Ends
 endsOf y m e = record { tail-number = y (e .tail); head-number = y (e .head); tail-marked = m (e .tail); head-marked = m (e .head) }
 
--- The sums over the repeated arcs (PANEL 5, checks 15 and 16): the balance of each vertex, the total cost, and the capacity of the cut that the marks make.
+-- The sums over the repeated arcs (PANEL 5, checks 15 and 16): the balance of each vertex, the total cost (for acyclicity the sum of the amounts), and the capacity of the cut that the marks make.
 pub record Sums : Type 0 where
   pub balances : ℕ → ℤ
   pub cost : ℤ
@@ -71,6 +71,10 @@ noShortcut e l = leZ (e .head-number) (e .tail-number +ℤ pos (l .arc .weight))
 abbrev pub staysInside : Ends → Load → Bool
 staysInside e l = not (e .tail-marked && not (e .head-marked))
 
+-- The number of the head is above that of the tail (PANEL 5, check 12).
+abbrev pub rises : Ends → Load → Bool
+rises e l = ltZ (e .tail-number) (e .head-number)
+
 -- The number of s is the mark 1, and that of t the mark 0 (PANEL 5, check 10).
 abbrev pub separates : Setting → ℕ → ℤ → Bool
 separates st v z = implies (eqb v (st .s)) (eqZ z (pos 1)) && implies (eqb v (st .t)) (eqZ z (pos 0))
@@ -95,7 +99,7 @@ markedPumps st m = count m (pumps st)
 abbrev pub markedSites : Setting → (ℕ → Bool) → ℕ
 markedSites st m = count (λ i. m (pumps st + i)) (sites st)
 
--- ---- the five certificates: the columns of PANEL 5, from left to right
+-- ---- the seven certificates: the columns of PANEL 5, from left to right
 
 -- Route, value (PANEL 5).
 abbrev pub pathRules : Rules
@@ -167,6 +171,34 @@ noAssignmentRules = record {
   answer = λ u. none;
 }
 
+-- Loops, value (PANEL 5): the node numbers are a topological order.
+abbrev pub acyclicRules : Rules
+acyclicRules = record {
+  admitted = true;
+  lowest = negℤ (pos mostPotential);
+  highest = pos mostPotential;
+  onNode = λ st v z. true;
+  most = λ e. 0;
+  onArc = rises;
+  onBalance = λ st v b. true;
+  onSums = λ st y m u. true;
+  answer = λ u. value 0;
+}
+
+-- Loops, none (PANEL 5): the amounts are a circulation, and some amount is above 0.
+abbrev pub cyclicRules : Rules
+cyclicRules = record {
+  admitted = true;
+  lowest = pos 0;
+  highest = pos 0;
+  onNode = λ st v z. true;
+  most = λ e. 1;
+  onArc = λ e l. true;
+  onBalance = λ st v b. eqZ b (pos 0);
+  onSums = λ st y m u. ltZ (pos 0) (u .cost);
+  answer = λ u. none;
+}
+
 -- Where there is no certificate, nothing passes: check 9 refuses the claim (PANEL 6).
 abbrev pub noRules : Rules
 noRules = record {
@@ -189,6 +221,8 @@ rulesFor maximumFlow ofValue = flowRules
 rulesFor maximumFlow ofNone = noRules
 rulesFor assignment ofValue = assignmentRules
 rulesFor assignment ofNone = noAssignmentRules
+rulesFor acyclicity ofValue = acyclicRules
+rulesFor acyclicity ofNone = cyclicRules
 rulesFor unasked c = noRules
 
 -- The rules for the question of a setting and a claim.
@@ -200,6 +234,7 @@ abbrev pub MayClaim : Question → ℕ → Type 0
 MayClaim shortestPath k = (k ≡ 1) ⊎ (k ≡ 2)
 MayClaim maximumFlow k = k ≡ 1
 MayClaim assignment k = (k ≡ 1) ⊎ (k ≡ 2)
+MayClaim acyclicity k = (k ≡ 1) ⊎ (k ≡ 2)
 MayClaim unasked k = ⊥
 
 -- ---- meeting a certificate

@@ -1,17 +1,17 @@
 -- What is promised of questions and certificates; proofs/Promises.antt keeps it.
 -- Assumes nothing.
 use mathlib.Core.Path.{_≡_}
-use mathlib.Core.Logic.{_↔_}
+use mathlib.Core.Logic.{_↔_, _≢_}
 use mathlib.Core.Bool.{Bool, false}
 use mathlib.Core.List.{List, _∷_, _++_, map}
 use Prim.Native.Nat.{ℕ, _*_, _≤_, _<_}
 use lib.Dec.{T}
 use lib.IntN.{ℤ}
-use Rattle.prelude.specs.Lists.{Every, Perm}
+use Rattle.prelude.specs.Lists.{Every, Member, Perm}
 use Rattle.field.specs.Field.{p}
 use Rattle.network.specs.Limits.{mostVertices, mostWeight}
 use Rattle.network.specs.Network.{Arc, arcOf, SelfLoop, withoutSelfLoops, Load, arcs, balance, crosses, key}
-use Rattle.network.specs.Question.{Question, shortestPath, maximumFlow, assignment, unasked, Setting, asks, Asked, Sized, EndsFor, Opened, Joins, Allowed, WeightWithin, Answer, value, none, TrueAnswer}
+use Rattle.network.specs.Question.{Question, shortestPath, maximumFlow, assignment, acyclicity, unasked, Setting, asks, Asked, Sized, EndsFor, Opened, Joins, Allowed, WeightWithin, Answer, value, none, TrueAnswer}
 use Rattle.network.specs.Certificate.{Claim, MayClaim, claimFor, marked, sumsOf, Certified}
 use Rattle.network.specs.Tests.{isAsked, sizeOk, endsOk, joinsOk, weightOk, claimOk, answerOf, Passed}
 
@@ -29,16 +29,17 @@ Sound =
     (st : Setting) (net : List Arc) (y : ℕ → ℤ) (f : List Load) (a : Answer)
     → Opened st → Every (Allowed st) net → Perm (arcs f) net → Certified st y f a → TrueAnswer st net a
 
--- The questions whose arcs may be self-loops and whose answers these do not change (PANEL 3).
+-- The questions whose answers self-loops do not change (PANEL 3), though they are read.
 abbrev pub PathOrFlow : Question → Type 0
 PathOrFlow shortestPath = Unit {0}
 PathOrFlow maximumFlow = Unit {0}
 PathOrFlow assignment = ⊥
+PathOrFlow acyclicity = ⊥
 PathOrFlow unasked = ⊥
 
--- Which self-loops reading accepts (PANEL 6, check 7): for a path and a flow all within the limits, for an assignment none, since no vertex is a pump and a site.
+-- Which self-loops reading accepts (PANEL 6, check 7): for an assignment none, since no vertex is a pump and a site; for the other questions all within the limits.
 pub record SelfLoopsRead : Type 0 where
-  pub for-path-and-flow : (st : Setting) (v w : ℕ) → PathOrFlow (asks st) → v < st .n → w ≤ mostWeight → Allowed st (arcOf v v w)
+  pub for-others : (st : Setting) (v w : ℕ) → Asked (asks st) → asks st ≢ assignment → v < st .n → w ≤ mostWeight → Allowed st (arcOf v v w)
   pub not-for-assignment : (st : Setting) (e : Arc) → asks st ≡ assignment → Joins st e → ¬ (SelfLoop e)
 
 -- What a self-loop carries cancels in every balance, wherever it is repeated (PANEL 5, check 15).
@@ -54,6 +55,10 @@ abbrev pub SelfLoopsChangeNothing : Type 0
 SelfLoopsChangeNothing =
     (st : Setting) (net : List Arc) (a : Answer) → PathOrFlow (asks st) → TrueAnswer st net a ↔ TrueAnswer st (withoutSelfLoops net) a
 
+-- A self-loop is a closed walk by itself (PANEL 3): where loops are asked for and one is read, none is true.
+abbrev pub SelfLoopsAreLoops : Type 0
+SelfLoopsAreLoops = (st : Setting) (net : List Arc) (e : Arc) → asks st ≡ acyclicity → SelfLoop e → Member e net → TrueAnswer st net none
+
 -- What a self-loop may carry in a certificate (PANEL 5, checks 11 and 16): of a flow whatever its capacity allows; of a path one unit where that costs nothing, and where there is no path nothing.
 abbrev pub MayCarry : Question → Answer → Load → Type 0
 MayCarry shortestPath (value v) l = (l .amount ≤ 1) × (l .amount * l .arc .weight ≡ 0)
@@ -61,6 +66,7 @@ MayCarry shortestPath none l = l .amount ≡ 0
 MayCarry maximumFlow (value v) l = l .amount ≤ l .arc .weight
 MayCarry maximumFlow none l = ⊥
 MayCarry assignment a l = ⊥
+MayCarry acyclicity a l = ⊥
 MayCarry unasked a l = ⊥
 
 -- Wherever a self-loop is repeated, with it an annotation certifies the same answers as without it, if what it carries is allowed, and none otherwise.

@@ -15,16 +15,17 @@ use Rattle.network.specs.Network.{Arc, Load, arcs, leaving, entering, ba
 
 -- ---- what is asked
 
--- The three questions (PANEL 3), and no question.
+-- The four questions (PANEL 3), and no question.
 pub data Question : Type 0 where
   shortestPath : Question
   maximumFlow : Question
   assignment : Question
+  acyclicity : Question
   unasked : Question
 
--- The question of a number (PANEL 3): 1 route, 2 discharge, 3 pairing; any other number asks nothing.
+-- The question of a number (PANEL 3): 1 route, 2 discharge, 3 pairing, 4 loops; any other number asks nothing.
 abbrev pub questionOf : ℕ → Question
-questionOf k = pick (eqb k 1) shortestPath (pick (eqb k 2) maximumFlow (pick (eqb k 3) assignment unasked))
+questionOf k = pick (eqb k 1) shortestPath (pick (eqb k 2) maximumFlow (pick (eqb k 3) assignment (pick (eqb k 4) acyclicity unasked)))
 
 -- What opening is handed but for the point: the question's number, the number n of vertices 0 to n - 1, the source s and the sink t.
 pub record Setting : Type 0 where
@@ -47,11 +48,12 @@ sites st = st .n - pumps st
 
 -- ---- what the weight of an arc means, by the question
 
--- What a unit on the arc costs: the length for a path, nothing for a flow, the cost for an assignment.
+-- What a unit on the arc costs: the length for a path, nothing for a flow, the cost for an assignment. For acyclicity every unit counts 1, whatever the weight.
 abbrev pub unitCost : Question → Arc → ℕ
 unitCost shortestPath e = e .weight
 unitCost maximumFlow e = 0
 unitCost assignment e = e .weight
+unitCost acyclicity e = 1
 unitCost unasked e = 0
 
 -- How many units the arc may carry: the capacity for a flow; elsewhere an arc is used or not.
@@ -59,6 +61,7 @@ abbrev pub unitsMost : Question → Arc → ℕ
 unitsMost shortestPath e = 1
 unitsMost maximumFlow e = e .weight
 unitsMost assignment e = 1
+unitsMost acyclicity e = 1
 unitsMost unasked e = 0
 
 -- ---- what opening and reading allow
@@ -68,6 +71,7 @@ abbrev pub Asked : Question → Type 0
 Asked shortestPath = Unit {0}
 Asked maximumFlow = Unit {0}
 Asked assignment = Unit {0}
+Asked acyclicity = Unit {0}
 Asked unasked = ⊥
 
 -- The number of vertices is even for an assignment (PANEL 6, check 2).
@@ -75,6 +79,7 @@ abbrev pub EvenFor : Question → ℕ → Type 0
 EvenFor shortestPath n = Unit {0}
 EvenFor maximumFlow n = Unit {0}
 EvenFor assignment n = n % 2 ≡ 0
+EvenFor acyclicity n = Unit {0}
 EvenFor unasked n = Unit {0}
 
 -- There are 2 to 255 vertices, an even number for an assignment (PANEL 6, check 2).
@@ -99,6 +104,7 @@ abbrev pub EndsFor : Question → Setting → Type 0
 EndsFor shortestPath st = TwoVertices st
 EndsFor maximumFlow st = TwoVertices st
 EndsFor assignment st = BothZero st
+EndsFor acyclicity st = BothZero st
 EndsFor unasked st = ⊥
 
 -- A setting that opening accepts (PANEL 6, checks 1 to 3).
@@ -117,6 +123,7 @@ abbrev pub SidesFor : Question → Setting → Arc → Type 0
 SidesFor shortestPath st e = Unit {0}
 SidesFor maximumFlow st e = Unit {0}
 SidesFor assignment st e = PumpToSite st e
+SidesFor acyclicity st e = Unit {0}
 SidesFor unasked st e = ⊥
 
 -- The ends of the arc are vertices, on the sides that the question asks for (PANEL 6, check 7). Both may be one vertex, but for an assignment, by the sides.
@@ -204,9 +211,24 @@ pub record CheapestAssignment (st : Setting) (net : List Arc) (v : ℕ) : Type 0
 abbrev pub NoAssignment : Setting → List Arc → Type 0
 NoAssignment st net = (f : List Load) → ¬ (Assignment st net f)
 
+-- ---- 4, loops: acyclicity
+
+-- A closed walk (PANEL 3), at the gate a loop: arcs of the network, one at least, that lead from a vertex back to it. A self-loop is one by itself.
+pub record ClosedWalk (net : List Arc) : Type 0 where
+  pub vertex : ℕ
+  pub walk : List Arc
+  pub nonempty : walk ≢ []
+  pub over : Every (λ e. Member e net) walk
+  pub leads : Leads vertex walk vertex
+
+-- The value v is true of a network without loops (PANEL 3): there is no closed walk, and v is 0.
+pub record Acyclic (net : List Arc) (v : ℕ) : Type 0 where
+  pub no-closed-walk : ¬ (ClosedWalk net)
+  pub zero : v ≡ 0
+
 -- ---- the true answer
 
--- Which answer is true, by the question (PANEL 3). A maximum flow always exists, so none is never true of it.
+-- Which answer is true, by the question (PANEL 3). A maximum flow always exists, so none is never true of it; of loops none is true exactly where there is a closed walk.
 abbrev pub TrueFor : Question → Setting → List Arc → Answer → Type 0
 TrueFor shortestPath st net (value v) = ShortestPath st net v
 TrueFor shortestPath st net none = NoWalk st net
@@ -214,6 +236,8 @@ TrueFor maximumFlow st net (value v) = MaximumFlow st net v
 TrueFor maximumFlow st net none = ⊥
 TrueFor assignment st net (value v) = CheapestAssignment st net v
 TrueFor assignment st net none = NoAssignment st net
+TrueFor acyclicity st net (value v) = Acyclic net v
+TrueFor acyclicity st net none = ClosedWalk net
 TrueFor unasked st net a = ⊥
 
 -- The answer is the true one for the setting and the network (PANEL 12).

@@ -11,7 +11,7 @@ use Rattle.prelude.specs.Lists.{all}
 use Rattle.prelude.specs.Sums.{allTo}
 use Rattle.network.specs.Limits.{mostVertices, mostArcs, mostWeight}
 use Rattle.network.specs.Network.{Arc, Load, balance}
-use Rattle.network.specs.Question.{Question, shortestPath, maximumFlow, assignment, unasked, Setting, asks, pumps, Answer}
+use Rattle.network.specs.Question.{Question, shortestPath, maximumFlow, assignment, acyclicity, unasked, Setting, asks, pumps, Answer}
 use Rattle.network.specs.Certificate.{Claim, ofValue, ofNone, marked, endsOf, Sums, sumsOf, Rules, rulesOf, nodeMeets}
 
 -- ---- opening
@@ -21,6 +21,7 @@ abbrev pub isAsked : Question → Bool
 isAsked shortestPath = true
 isAsked maximumFlow = true
 isAsked assignment = true
+isAsked acyclicity = true
 isAsked unasked = false
 
 -- Is the number of vertices even, for an assignment? (PANEL 6, check 2)
@@ -28,6 +29,7 @@ abbrev pub evenFor : Question → ℕ → Bool
 evenFor shortestPath n = true
 evenFor maximumFlow n = true
 evenFor assignment n = eqb (n % 2) 0
+evenFor acyclicity n = true
 evenFor unasked n = true
 
 -- Are there 2 to 255 vertices, an even number for an assignment? (PANEL 6, check 2)
@@ -38,11 +40,16 @@ sizeOk st = (leb 2 (st .n) && leb (st .n) mostVertices) && evenFor (asks st) (st
 abbrev pub twoVertices : Setting → Bool
 twoVertices st = (ltb (st .s) (st .n) && ltb (st .t) (st .n)) && not (eqb (st .s) (st .t))
 
+-- Are s and t both 0? (PANEL 6, check 3)
+abbrev pub bothZero : Setting → Bool
+bothZero st = eqb (st .s) 0 && eqb (st .t) 0
+
 -- Are s and t what the question asks for? (PANEL 6, check 3)
 abbrev pub endsFor : Question → Setting → Bool
 endsFor shortestPath st = twoVertices st
 endsFor maximumFlow st = twoVertices st
-endsFor assignment st = eqb (st .s) 0 && eqb (st .t) 0
+endsFor assignment st = bothZero st
+endsFor acyclicity st = bothZero st
 endsFor unasked st = false
 
 -- The same for the question of the setting.
@@ -60,6 +67,7 @@ abbrev pub sidesFor : Question → Setting → Arc → Bool
 sidesFor shortestPath st e = true
 sidesFor maximumFlow st e = true
 sidesFor assignment st e = ltb (e .tail) (pumps st) && leb (pumps st) (e .head)
+sidesFor acyclicity st e = true
 sidesFor unasked st e = false
 
 -- Are its ends vertices, on the sides that the question asks for? (PANEL 6, check 7)
@@ -123,7 +131,7 @@ numberingChecks st c i z = 5 unless ltb i (st .n) ∷ 10 unless nodeOk st c i z 
 abbrev pub amountOk : Setting → Claim → Load → Bool
 amountOk st c l = leb (l .amount) (rulesOf st c .most (l .arc))
 
--- Does the arc meet the rule on potentials or on marks? (PANEL 6, check 12)
+-- Does the arc meet the rule on potentials, on marks or on ranks? (PANEL 6, check 12)
 abbrev pub ruleOk : Setting → Numbers → Load → Bool
 ruleOk st a l = rulesOf st (a .claim) .onArc (endsOf (a .number) (a .mark) (l .arc)) l
 

@@ -2,11 +2,11 @@
 -- Assumes nothing.
 use mathlib.Core.Path.{_≡_, refl, ap}
 use mathlib.Core.Bool.{Bool, true, false, not, cond}
-use Prim.Native.Nat.{ℕ, zero, suc, _+_, _-_, _*_, _≤_, min, max, pred}
+use Prim.Native.Nat.{ℕ, zero, suc, _+_, _-_, _*_, _≤_, _<_, min, max, pred}
 use native.Mathlib.Omega.{arith}
 use lib.Dec.{T, ltb, eqb→eq, eqb-refl, leb→le, le→leb, ltb→lt, nltb→le}
 use lib.IntN.{ℤ, pos, negsuc, negℤ, subℕ, _+ℤ_, _-ℤ_, _*ℤ_}
-use lib.Signed.{_≤ℤ_, leZ, mag}
+use lib.Signed.{_≤ℤ_, _<ℤ_, leZ, ltZ, mag}
 use Rattle.prelude.specs.Integers.{eqZ}
 
 abbrev pub posPart : ℤ → ℕ
@@ -27,6 +27,15 @@ le→ (negsuc a) (negsuc b) t = omega (arith, leb→le b a t)
 
 pub parts-le : {a b : ℤ} → a ≤ℤ b → posPart a + negPart b ≤ posPart b + negPart a
 parts-le {a} {b} h = le→ a b (h .le)
+
+lt→ : (a b : ℤ) → T (ltZ a b) → posPart a + negPart b < posPart b + negPart a
+lt→ (pos a) (pos b) t = omega (arith, ltb→lt a b t)
+lt→ (pos a) (negsuc b) t = absurd t
+lt→ (negsuc a) (pos b) t = omega arith
+lt→ (negsuc a) (negsuc b) t = omega (arith, ltb→lt b a t)
+
+pub parts-lt : {a b : ℤ} → a <ℤ b → posPart a + negPart b < posPart b + negPart a
+parts-lt {a} {b} h = lt→ a b (h .lt)
 
 pub parts-eq : {a b : ℤ} → a ≡ b → posPart a + negPart b ≡ posPart b + negPart a
 parts-eq {a} {b} e = rw e (omega arith)

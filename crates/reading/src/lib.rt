@@ -28,6 +28,7 @@ fn sides_ok(question: Question, st: HeldSetting, arc: Record) -> bool
             }
             half <= head
         }
+        Question::Acyclicity => true,
         Question::Unasked => false,
     }
 }

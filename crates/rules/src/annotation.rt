@@ -35,6 +35,8 @@ fn is_admitted(row: Row) -> bool
         Row::AssignmentValue => true,
         Row::PathNone => true,
         Row::AssignmentNone => true,
+        Row::AcyclicityValue => true,
+        Row::AcyclicityNone => true,
         Row::Nothing => false,
     }
 }
@@ -62,6 +64,8 @@ fn lowest_node(row: Row) -> i32
         Row::AssignmentValue => -MOST_POTENTIAL,
         Row::PathNone => 0,
         Row::AssignmentNone => 0,
+        Row::AcyclicityValue => -MOST_POTENTIAL,
+        Row::AcyclicityNone => 0,
         Row::Nothing => 0,
     }
 }
@@ -76,6 +80,8 @@ fn highest_node(row: Row) -> i32
         Row::AssignmentValue => MOST_POTENTIAL,
         Row::PathNone => 1,
         Row::AssignmentNone => 1,
+        Row::AcyclicityValue => MOST_POTENTIAL,
+        Row::AcyclicityNone => 0,
         Row::Nothing => 0,
     }
 }
@@ -122,6 +128,8 @@ fn on_node(row: Row, st: HeldSetting, v: u32, z: i32) -> bool
         Row::AssignmentValue => true,
         Row::PathNone => separates(st, v, z),
         Row::AssignmentNone => true,
+        Row::AcyclicityValue => true,
+        Row::AcyclicityNone => true,
         Row::Nothing => false,
     }
 }
@@ -148,6 +156,8 @@ fn most(row: Row, arc: Record) -> u32
         Row::AssignmentValue => 1,
         Row::PathNone => 0,
         Row::AssignmentNone => 0,
+        Row::AcyclicityValue => 0,
+        Row::AcyclicityNone => 1,
         Row::Nothing => 0,
     }
 }
@@ -169,7 +179,7 @@ fn stays_inside(ends: Ends, arc: Record, x: u32) -> bool
     true
 }
 
-// 12: does the arc with its amount meet the rule on potentials or on marks?
+// 12: does the arc with its amount meet the rule on potentials, on marks or on ranks?
 fn rule_ok(row: Row, ends: Ends, arc: Record, x: u32) -> bool
     ensures { λ r. ⌜ r ≡ rulesHeld row .onArc (endsHeld ends) (loadHeld arc x) ⌝ }
 {
@@ -187,6 +197,8 @@ fn rule_ok(row: Row, ends: Ends, arc: Record, x: u32) -> bool
         ),
         Row::PathNone => stays_inside(ends, arc, x),
         Row::AssignmentNone => stays_inside(ends, arc, x),
+        Row::AcyclicityValue => words::signed::less(ends.tail_number, ends.head_number),
+        Row::AcyclicityNone => true,
         Row::Nothing => false,
     }
 }

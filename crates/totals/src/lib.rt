@@ -1,8 +1,10 @@
-// The rules of finishing (PANEL 6) as functions: check 15, the balances, and check 16, the two sums or the marked pumps and sites.
+// The rules of finishing (PANEL 6) as functions: check 15, the balances, and check 16, the two sums, the marked pumps and sites, or whether an amount is set.
 ghost use mathlib.Core.Path.{_≡_};
 ghost use mathlib.Core.List.{[], _∷_};
 ghost use Prim.Native.Nat.{_+_, _-_};
 ghost use lib.Dec.{ltb};
+ghost use lib.IntN.{pos};
+ghost use lib.Signed.{ltZ};
 ghost use Rattle.prelude.specs.Checks.{_unless_, firstBroken};
 ghost use Rattle.prelude.specs.Integers.{eqZ};
 ghost use Rattle.prelude.specs.Lists.{at};
@@ -85,6 +87,13 @@ fn assignment_balance(st: HeldSetting, v: u8, b: i64) -> bool
     b == -1
 }
 
+// Is b the balance of a vertex of a circulation?
+fn zero_balance(b: i64) -> bool
+    ensures { λ r. ⌜ r ≡ eqZ b (pos 0) ⌝ }
+{
+    b == 0
+}
+
 // Is b a balance that the vertex v may have?
 fn balance_ok(row: Row, st: HeldSetting, v: u8, b: i64) -> bool
     ensures { λ r. ⌜ r ≡ rulesHeld row .onBalance (asked st) v b ⌝ }
@@ -95,6 +104,8 @@ fn balance_ok(row: Row, st: HeldSetting, v: u8, b: i64) -> bool
         Row::AssignmentValue => assignment_balance(st, v, b),
         Row::PathNone => true,
         Row::AssignmentNone => true,
+        Row::AcyclicityValue => true,
+        Row::AcyclicityNone => zero_balance(b),
         Row::Nothing => false,
     }
 }
@@ -177,7 +188,14 @@ fn cost_is_gap(st: HeldSetting, potentials: Potentials, cost: i64) -> bool
     equal(cost, gap)
 }
 
-// 16: do the two sums agree? For none: are more pumps marked than sites?
+// Is an amount set? Every unit counts 1 where this is asked.
+fn some_amount(cost: i64) -> bool
+    ensures { λ r. ⌜ r ≡ ltZ (pos 0) cost ⌝ }
+{
+    0 < cost
+}
+
+// 16: do the two sums agree? For none: are more pumps marked than sites, or is an amount set?
 fn sums_ok(
     row: Row,
     st: HeldSetting,
@@ -195,6 +213,8 @@ fn sums_ok(
         Row::AssignmentValue => cost_is_gap(st, potentials, cost),
         Row::PathNone => true,
         Row::AssignmentNone => more_pumps(st, marks),
+        Row::AcyclicityValue => true,
+        Row::AcyclicityNone => some_amount(cost),
         Row::Nothing => false,
     }
 }

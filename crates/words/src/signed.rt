@@ -2,7 +2,7 @@
 ghost use mathlib.Core.Path.{_≡_};
 ghost use mathlib.Core.Bool.{_&&_};
 ghost use lib.IntN.{pos, _+ℤ_};
-ghost use lib.Signed.{leZ};
+ghost use lib.Signed.{leZ, ltZ};
 ghost use Rattle.prelude.specs.Integers.{between, eqZ, natural};
 ghost use Rattle.words.specs.Bounded.{small, boundedSum, boundedDifference};
 
@@ -32,6 +32,13 @@ pub fn at_most_sum(b: i32, a: i32, w: u32) -> bool
     ensures { λ r. ⌜ r ≡ leZ b (a +ℤ pos w) ⌝ }
 {
     b as i64 <= a as i64 + (w as i64)
+}
+
+// Is a below b?
+pub fn less(a: i32, b: i32) -> bool
+    ensures { λ r. ⌜ r ≡ ltZ a b ⌝ }
+{
+    a < b
 }
 
 // Are the two equal?

@@ -1,7 +1,6 @@
 -- `checks::ends_ok` meets its contract.
 -- Assumes nothing.
 use borrow.Author.Needs.{needs}
-use Rattle.prelude.proofs.Tested.{tested}
 use Rattle.checks.proofs.ends_ok.Statement.{statement}
 use Rattle.checks.proofs.ends_ok.Tie as tie
 
@@ -14,9 +13,12 @@ ends-ok-spec =
     (λ c. search needs)
     (λ c κs. search needs)
     (λ c. search needs)
-    (λ c. rw (c .before .enum-told3 .given .1) (search tested depth 12))
+    (λ c κs. search needs)
+    (λ c. search needs)
+    (λ c κs. search needs)
     (λ c. search needs)
     (λ c. rw (c .before .enum-told .given .1) (c .two-vertices .ensures))
     (λ c. rw (c .before .enum-told2 .given .1) (c .two-vertices2 .ensures))
-    (λ c. rw (c .before .enum-told3 .given .1) (search tested depth 12))
-    (λ c. rw (c .enum-told4 .given .1)))
+    (λ c. rw (c .before .enum-told3 .given .1) (c .both-zero .ensures))
+    (λ c. rw (c .before .enum-told4 .given .1) (c .both-zero2 .ensures))
+    (λ c. rw (c .enum-told5 .given .1)))
