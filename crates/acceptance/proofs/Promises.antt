@@ -8,7 +8,7 @@ use Rattle.prelude.specs.Checks.{Hold}
 use Rattle.prelude.specs.Lists.{Every}
 use Rattle.prelude.proofs.Lists.{every-map}
 use Rattle.network.specs.Network.{Arc}
-use Rattle.network.specs.Question.{Question, shortestPath, maximumFlow, assignment, unasked, Setting, asks, EndsFor, Opened, Allowed, Admissible}
+use Rattle.network.specs.Question.{Question, shortestPath, maximumFlow, assignment, acyclicity, unasked, Setting, asks, EndsFor, Opened, Allowed, Admissible}
 use Rattle.network.specs.Tests.{openingChecks, readingAll}
 use Rattle.network.proofs.Allowed.{asked-least, opening-test, reading-test}
 use Rattle.format.specs.Files.{settingIn, networkFile, arcsIn}
@@ -24,6 +24,7 @@ module _ (st : Setting) (o : Opened st) where
   ends-below shortestPath e = (omega (arith, o .sized .at-most, e .source-below), omega (arith, o .sized .at-most, e .sink-below))
   ends-below maximumFlow e = (omega (arith, o .sized .at-most, e .source-below), omega (arith, o .sized .at-most, e .sink-below))
   ends-below assignment e = (omega (arith, e .source-zero), omega (arith, e .sink-zero))
+  ends-below acyclicity e = (omega (arith, e .source-zero), omega (arith, e .sink-zero))
   ends-below unasked e = absurd e
 
   pub arc-fits : (a : Arc) → Allowed st a → ArcFits a

@@ -18,7 +18,7 @@ use Rattle.prelude.proofs.Integers.{signed, parts-mag, parts-min}
 use Rattle.prelude.proofs.Lists.{every-map, every-zip, every-image}
 use Rattle.prelude.proofs.Permutations.{perm-refl}
 use Rattle.network.specs.Network.{Arc, withoutSelfLoops, Load, arcs}
-use Rattle.network.specs.Question.{Question, shortestPath, maximumFlow, assignment, unasked, Setting, asks, Opened, Allowed, Answer, TrueAnswer}
+use Rattle.network.specs.Question.{Question, shortestPath, maximumFlow, assignment, acyclicity, unasked, Setting, asks, Opened, Allowed, Answer, TrueAnswer}
 use Rattle.network.specs.Certificate.{Claim, ofValue, ofNone, rulesFor, CertifiedBy, claimFor}
 use Rattle.network.specs.Tests.{claimNumber}
 use Rattle.network.proofs.Promises.{one-answer, self-loops-change-nothing}
@@ -51,6 +51,8 @@ range-fits maximumFlow ofValue z l u = omega (signed, l, u, parts-mag z, parts-m
 range-fits maximumFlow ofNone z l u = omega (signed, l, u, parts-mag z, parts-min z)
 range-fits assignment ofValue z l u = omega (signed, l, u, parts-mag z, parts-min z)
 range-fits assignment ofNone z l u = omega (signed, l, u, parts-mag z, parts-min z)
+range-fits acyclicity ofValue z l u = omega (signed, l, u, parts-mag z, parts-min z)
+range-fits acyclicity ofNone z l u = omega (signed, l, u, parts-mag z, parts-min z)
 range-fits unasked c z l u = omega (signed, l, u, parts-mag z, parts-min z)
 
 -- the most amount of every row
@@ -61,6 +63,8 @@ most-bounded maximumFlow ofValue e = omega arith
 most-bounded maximumFlow ofNone e = omega arith
 most-bounded assignment ofValue e = omega arith
 most-bounded assignment ofNone e = omega arith
+most-bounded acyclicity ofValue e = omega arith
+most-bounded acyclicity ofNone e = omega arith
 most-bounded unasked c e = omega arith
 
 module _ (q : Question) (k : Claim) (st : Setting) (y : ℕ → ℤ) (f : List Load) (a : Answer) (c : CertifiedBy (rulesFor q k) q st y f a) where

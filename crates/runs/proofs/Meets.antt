@@ -20,7 +20,7 @@ use Rattle.prelude.proofs.Settle.{settled, hold-append, hold-left, hold-right, 
 use Rattle.prelude.proofs.Sums.{allTo-at, at-allTo}
 use Rattle.network.specs.Limits.{mostArcs}
 use Rattle.network.specs.Network.{Arc, Load, arcs}
-use Rattle.network.specs.Question.{Question, shortestPath, maximumFlow, assignment, unasked, Setting, asks, Allowed, Answer, TrueAnswer}
+use Rattle.network.specs.Question.{Question, shortestPath, maximumFlow, assignment, acyclicity, unasked, Setting, asks, Allowed, Answer, TrueAnswer}
 use Rattle.network.specs.Certificate.{Claim, ofValue, ofNone, claimFor, Sums, rulesFor, rulesOf}
 use Rattle.network.specs.Tests.{readingAll, claimNumber, claimOf, claimOk, Numbers, nodeOk, amountOk, ruleOk, repeatingChecks, answerOf, Passed}
 use Rattle.network.proofs.Allowed.{arc-rule, arc-test}

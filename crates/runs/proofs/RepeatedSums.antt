@@ -20,7 +20,7 @@ use Rattle.words.specs.Bounded.{small, boundedSum}
 use Rattle.words.proofs.Signs.{plus-small, minus-small}
 use Rattle.network.specs.Limits.{mostVertices, mostArcs, mostWeight}
 use Rattle.network.specs.Network.{Arc, Load, arcs, delta, sumOf, leaving, entering, balance, crosses, sumAcross}
-use Rattle.network.specs.Question.{Question, shortestPath, maximumFlow, assignment, unasked, unitCost, unitsMost, WeightWithin}
+use Rattle.network.specs.Question.{Question, shortestPath, maximumFlow, assignment, acyclicity, unasked, unitCost, unitsMost, WeightWithin}
 use Rattle.network.specs.Certificate.{Claim, ofValue, ofNone, rulesFor}
 use Rattle.network.proofs.Append.{sumOf-snoc, arcs-snoc, across-snoc, balance-snoc, sumOf-most, across-most}
 use Rattle.network.proofs.Sound.{balance-parts}
@@ -49,6 +49,8 @@ units-limited maximumFlow ofValue e h = record { most-within = h; cost-within = 
 units-limited maximumFlow ofNone e h = record { most-within = omega arith; cost-within = omega arith; units-within = h }
 units-limited assignment ofValue e h = record { most-within = omega arith; cost-within = h; units-within = omega arith }
 units-limited assignment ofNone e h = record { most-within = omega arith; cost-within = h; units-within = omega arith }
+units-limited acyclicity ofValue e h = record { most-within = omega arith; cost-within = omega arith; units-within = omega arith }
+units-limited acyclicity ofNone e h = record { most-within = omega arith; cost-within = omega arith; units-within = omega arith }
 units-limited unasked c e h = record { most-within = omega arith; cost-within = omega arith; units-within = omega arith }
 
 -- ---- small numbers

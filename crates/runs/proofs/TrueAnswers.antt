@@ -17,7 +17,7 @@ use Rattle.prelude.proofs.Lists.{every-map, image-every, every→all}
 use Rattle.prelude.proofs.Permutations.{perm-sym}
 use Rattle.prelude.proofs.Sums.{at-allTo}
 use Rattle.network.specs.Network.{Arc, Load, arcs}
-use Rattle.network.specs.Question.{Question, shortestPath, maximumFlow, assignment, unasked, Setting, asks, Opened, Allowed, TrueAnswer}
+use Rattle.network.specs.Question.{Question, shortestPath, maximumFlow, assignment, acyclicity, unasked, Setting, asks, Opened, Allowed, TrueAnswer}
 use Rattle.network.specs.Certificate.{Claim, ofValue, ofNone, claimFor, Sums, rulesFor, rulesOf, Certified}
 use Rattle.network.specs.Tests.{claimNumber, claimOf, nodeOk, amountOk, ruleOk, finishingChecks, answerOf, Passed}
 use Rattle.network.proofs.Promises.{certificates-sound}
@@ -45,6 +45,8 @@ claim-answered maximumFlow ofValue h u = refl
 claim-answered maximumFlow ofNone h u = refl
 claim-answered assignment ofValue h u = refl
 claim-answered assignment ofNone h u = refl
+claim-answered acyclicity ofValue h u = refl
+claim-answered acyclicity ofNone h u = refl
 claim-answered unasked c h u = absurd h
 
 -- ---- lists that pass every check

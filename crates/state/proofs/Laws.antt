@@ -19,7 +19,7 @@ use Rattle.prelude.proofs.Choice.{on}
 use Rattle.prelude.proofs.Integers.{signed, parts-add}
 use Rattle.prelude.proofs.Settle.{settled, hold-left, Numbered, none-broken, part-refused, part-passed}
 use Rattle.network.specs.Network.{Arc, Load, arcHeld, loadHeld}
-use Rattle.network.specs.Question.{Question, shortestPath, maximumFlow, assignment, unasked, Setting, asks, EndsFor, Opened, unitCost}
+use Rattle.network.specs.Question.{Question, shortestPath, maximumFlow, assignment, acyclicity, unasked, Setting, asks, EndsFor, Opened, unitCost}
 use Rattle.network.specs.Certificate.{Claim, ofValue, ofNone, Ends, endsOf, Sums, Rules, rulesFor, rulesOf}
 use Rattle.network.specs.Tests.{openingChecks, arcChecks}
 use Rattle.network.specs.declared.Record.{Record}
@@ -89,7 +89,7 @@ read-done x e m h = λ i. stateOf (x .phase) (record { setting = x .reading .set
 -- ---- numbers that fit eight bits, by the checks that they passed
 
 -- what opening lets pass: s and t are below n, or 0
-pub open-small : (st : Setting) (r : Point) (why : ℕ) → why ≡ firstBroken (openChecks st r) → why ≡ 0 → (st .question ≤ 3) × (st .n ≤ 255) × (st .s ≤ 255) × (st .t ≤ 255)
+pub open-small : (st : Setting) (r : Point) (why : ℕ) → why ≡ firstBroken (openChecks st r) → why ≡ 0 → (st .question ≤ 4) × (st .n ≤ 255) × (st .s ≤ 255) × (st .t ≤ 255)
 open-small st r why found z = let ends = go (asks st) (o .ends) in (asked-least (st .question) (h .0), ends .0, ends .1, ends .2)
   where
     h : Hold (openChecks st r)
@@ -105,6 +105,7 @@ open-small st r why found z = let ends = go (asks st) (o .ends) in (asked-least 
     go shortestPath e = (most, omega (arith, most, e .source-below), omega (arith, most, e .sink-below))
     go maximumFlow e = (most, omega (arith, most, e .source-below), omega (arith, most, e .sink-below))
     go assignment e = (most, omega (arith, e .source-zero), omega (arith, e .sink-zero))
+    go acyclicity e = (most, omega (arith, e .source-zero), omega (arith, e .sink-zero))
     go unasked e = absurd e
 
 -- ---- what the checks of a repeated arc say of its numbers
@@ -125,6 +126,8 @@ amount-small q c e v h t = le-trans (leb→le v (rulesFor q c .most e) t) (most 
     most maximumFlow ofNone = lit≤ tt
     most assignment ofValue = lit≤ tt
     most assignment ofNone = lit≤ tt
+    most acyclicity ofValue = lit≤ tt
+    most acyclicity ofNone = lit≤ tt
     most unasked c = lit≤ tt
 
 pub load-limits : (x : State) (y : ℕ → ℤ) (arc : Record) (v : ℕ) → Hold (repeatChecks x y (loadHeld arc v)) → Limits x arc v
@@ -136,11 +139,12 @@ load-limits x y arc v h =
       room = ltb→lt (x .repeating .list .count) (x .reading .list .count) (h .1 .1 .0);
     }
 
--- what a unit costs is at most the weight
+-- what a unit costs
 pub cost-small : (q : Question) (e : Arc) → e .weight ≤ 32767 → unitCost q e ≤ 32767
 cost-small shortestPath e h = h
 cost-small maximumFlow e h = lit≤ tt
 cost-small assignment e h = h
+cost-small acyclicity e h = lit≤ tt
 cost-small unasked e h = lit≤ tt
 
 -- ---- checks of what was read from the state

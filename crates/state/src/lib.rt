@@ -112,6 +112,8 @@ fn answer_of(row: Row, balances: Balances, cost: i64, cut: i64) -> Response
         Row::AssignmentValue => Response::Value(to_unsigned(cost)),
         Row::PathNone => Response::None,
         Row::AssignmentNone => Response::None,
+        Row::AcyclicityValue => Response::Value(0),
+        Row::AcyclicityNone => Response::None,
         Row::Nothing => Response::None,
     }
 }

@@ -35,6 +35,12 @@ enum-told-5 c = search needs
 enum-told-6 : tie.Need-enum-told-6
 enum-told-6 c = search needs
 
+enum-told-7 : tie.Need-enum-told-7
+enum-told-7 c = search needs
+
+enum-told-8 : tie.Need-enum-told-8
+enum-told-8 c = search needs
+
 returns : tie.Need-returns
 returns c = rw (c .before .enum-told .given .1) (ap Value (c .to-unsigned .ensures ∙ ap natural (toZ-ofZ (c .before .before .before .fits .cost))))
 
@@ -53,5 +59,11 @@ returns-5 c = rw (c .enum-told5 .given .1)
 returns-6 : tie.Need-returns-6
 returns-6 c = rw (c .enum-told6 .given .1)
 
+returns-7 : tie.Need-returns-7
+returns-7 c = rw (c .enum-told7 .given .1)
+
+returns-8 : tie.Need-returns-8
+returns-8 c = rw (c .enum-told8 .given .1)
+
 pub answer-of-spec : {M : Type 1} → statement M
-answer-of-spec = tie.close (tie.spec enum-told to-unsigned-requires enum-told-2 to-unsigned-requires-2 enum-told-3 to-unsigned-requires-3 enum-told-4 enum-told-5 enum-told-6 returns returns-2 returns-3 returns-4 returns-5 returns-6)
+answer-of-spec = tie.close (tie.spec enum-told to-unsigned-requires enum-told-2 to-unsigned-requires-2 enum-told-3 to-unsigned-requires-3 enum-told-4 enum-told-5 enum-told-6 enum-told-7 enum-told-8 returns returns-2 returns-3 returns-4 returns-5 returns-6 returns-7 returns-8)
