@@ -1,5 +1,6 @@
 /* LEMON's answer for a network, and median processor times of calls that take turns. */
 #pragma once
+#include <lemon/connectivity.h>
 #include <lemon/dijkstra.h>
 #include <lemon/network_simplex.h>
 #include <lemon/preflow.h>
@@ -44,6 +45,7 @@ static long long lemon_answer(const Instance &x, const Graph &g) {
         flow.run(); /* both phases: the flow and the cut */
         return flow.flowValue();
     }
+    if (x.question == LOOPS) return lemon::dag(g.net) ? 0 : NONE;
     lemon::NetworkSimplex<D> simplex(g.net);
     simplex.costMap(g.weight).supplyMap(g.supply);
     return simplex.run() == lemon::NetworkSimplex<D>::OPTIMAL ? simplex.totalCost<long long>() : NONE;

@@ -6,7 +6,7 @@
 #include <utility>
 #include <vector>
 
-enum { ROUTE = 1, DISCHARGE = 2, PAIRING = 3 };
+enum { ROUTE = 1, DISCHARGE = 2, PAIRING = 3, LOOPS = 4 };
 const int NODES = 255, ARCS = 4096, HEAVIEST = 32767;
 /* Of the arcs of a route or a discharge so many are basins, and the rest are other arcs. */
 const int BASINS = 64, OTHERS = ARCS - BASINS;
@@ -43,7 +43,7 @@ static Record anywhere(int low, int high) {
 static Instance start(const char *name, int question, int n) {
     state = 20260501;
     for (const char *c = name; *c; c++) state = state * 31 + (unsigned char)*c;
-    return {name, question, n, 0, question == PAIRING ? 0 : n - 1, {}};
+    return {name, question, n, 0, question == ROUTE || question == DISCHARGE ? n - 1 : 0, {}};
 }
 
 /* The basins: at the source, at the sink and anywhere, every fourth without length or capacity. */
@@ -188,6 +188,55 @@ static Instance pairing_none() {
     return x;
 }
 
+/* A chain through all vertices in a hidden order, the other arcs forward along it: no loop. Closed, the last record leads from its end back to its start. */
+static Instance loops_chain(const char *name, bool hidden, bool closed) {
+    Instance x = start(name, LOOPS, NODES);
+    std::vector<int> order;
+    for (int v = 0; v < NODES; v++) order.push_back(NODES - 1 - v);
+    if (hidden) mix(order);
+    for (int i = 1; i < NODES; i++) x.arcs.push_back({order[i - 1], order[i], below(HEAVIEST + 1)});
+    while ((int)x.arcs.size() < ARCS - closed) {
+        Record e = anywhere(0, NODES);
+        x.arcs.push_back({order[std::min(e.a, e.b)], order[std::max(e.a, e.b)], e.w});
+    }
+    if (hidden) mix(x.arcs);
+    if (closed) x.arcs.push_back({order[NODES - 1], order[0], 0});
+    return x;
+}
+
+/* Random arcs forward along a hidden order, and with a basin as the last record. */
+static Instance loops_random(const char *name, bool basin) {
+    Instance x = start(name, LOOPS, NODES);
+    std::vector<int> order;
+    for (int v = 0; v < NODES; v++) order.push_back(v);
+    mix(order);
+    while ((int)x.arcs.size() < ARCS - basin) {
+        Record e = anywhere(0, NODES);
+        x.arcs.push_back({order[std::min(e.a, e.b)], order[std::max(e.a, e.b)], e.w});
+    }
+    if (basin) x.arcs.push_back({order[NODES - 1], order[NODES - 1], 0});
+    return x;
+}
+
+/* Every arc forward between 91 of the vertices, and one of them twice: 4096 arcs. */
+static Instance loops_dense() {
+    Instance x = start("loops dense", LOOPS, NODES);
+    std::vector<int> order;
+    for (int v = 0; v < NODES; v++) order.push_back(v);
+    mix(order);
+    for (int i = 0; i < 91; i++)
+        for (int j = i + 1; j < 91; j++) x.arcs.push_back({order[i], order[j], below(HEAVIEST + 1)});
+    x.arcs.push_back(x.arcs[0]);
+    mix(x.arcs);
+    return x;
+}
+
+static Instance loops_anywhere() {
+    Instance x = start("loops random, none avoided", LOOPS, NODES);
+    while ((int)x.arcs.size() < ARCS) x.arcs.push_back(anywhere(0, NODES));
+    return x;
+}
+
 static std::vector<Instance> instances() {
     return {
         random_arcs("route random", ROUTE), route_chain(), route_quadratic(),
@@ -202,5 +251,7 @@ static std::vector<Instance> instances() {
         discharge_grid("discharge grid 15x16", 15, 16),
         pairing_random("pairing random, costs to 32767", HEAVIEST), pairing_random("pairing random, costs to 100", 100),
         pairing_random("pairing random, costs to 1", 1), pairing_band(), pairing_chain(), pairing_none(),
+        loops_chain("loops reversed chain", false, false), loops_chain("loops mixed chain", true, false), loops_chain("loops closed chain", true, true),
+        loops_random("loops random", false), loops_random("loops random and a basin", true), loops_dense(), loops_anywhere(),
     };
 }

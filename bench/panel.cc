@@ -196,7 +196,7 @@ static void mark_each() {
     }
 }
 
-/* A small plan of each of the five certificates; of routes and discharges also with basins, at the source, at the sink and between. */
+/* A small plan of each of the seven certificates; of routes and discharges also with basins, at the source, at the sink and between. */
 static std::vector<Instance> small_instances() {
     std::vector<Record> arcs = {{0, 1, 2}, {1, 3, 5}, {0, 2, 4}, {2, 3, 2}, {1, 2, 1}};
     std::vector<Record> basins = {{0, 0, 3}, {0, 1, 2}, {1, 1, 0}, {1, 3, 5}, {0, 2, 4}, {2, 3, 2}, {1, 2, 1}, {3, 3, 1}, {1, 1, 0}};
@@ -210,6 +210,9 @@ static std::vector<Instance> small_instances() {
         {"pairing", PAIRING, 4, 0, 0, {{0, 2, 3}, {0, 3, 1}, {1, 2, 4}, {1, 3, 5}}},
         {"route none", ROUTE, 4, 0, 3, {{0, 1, 2}, {1, 0, 4}, {3, 2, 5}, {3, 1, 1}}},
         {"pairing none", PAIRING, 4, 0, 0, {{0, 2, 3}, {1, 2, 4}}},
+        {"loops", LOOPS, 4, 0, 0, arcs},
+        {"loops none", LOOPS, 4, 0, 0, {{0, 1, 2}, {1, 3, 0}, {2, 1, 4}, {3, 2, 0}, {1, 3, 0}}},
+        {"loops none by a basin", LOOPS, 3, 0, 0, {{0, 1, 2}, {2, 2, 0}}},
     };
 }
 

@@ -9,7 +9,7 @@ try:
 except ImportError:
     networkx = None
 
-ROUTE, DISCHARGE, PAIRING = 1, 2, 3
+ROUTE, DISCHARGE, PAIRING, LOOPS = 1, 2, 3, 4
 NONE = -1
 
 
@@ -32,6 +32,8 @@ def solve(question, s, t, graph):
             return sum(graph[a][b]["weight"] for a, b in zip(way, way[1:]))
         if question == DISCHARGE:
             return networkx.maximum_flow_value(graph, s, t, capacity="weight")
+        if question == LOOPS:
+            return 0 if networkx.is_directed_acyclic_graph(graph) else NONE
         return networkx.network_simplex(graph)[0]  # minimum_weight_full_matching would need scipy
     except (networkx.NetworkXNoPath, networkx.NetworkXUnfeasible):
         return NONE

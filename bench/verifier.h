@@ -31,9 +31,9 @@ struct session {
 
 /* A check or a step gives 0, or the number of the refusal. */
 static inline int opening_check(uint32_t question, uint32_t n, uint32_t s, uint32_t t, uint32_t point) {
-    if (question < 1 || question > 3) return 1;
+    if (question < 1 || question > 4) return 1;
     if (n < 2 || n > 255 || (question == 3 && n % 2 != 0)) return 2;
-    if (question == 3 ? s != 0 || t != 0 : s >= n || t >= n || s == t) return 3;
+    if (question >= 3 ? s != 0 || t != 0 : s >= n || t >= n || s == t) return 3;
     return point >= PRIME ? 4 : 0;
 }
 
@@ -69,11 +69,12 @@ static inline int balance_ok(const struct session *x, uint32_t v) {
     int64_t b = x->balances[v];
     if (x->question == 1) return b == (v == x->s) - (v == x->t);
     if (x->question == 2) return v == x->s || v == x->t || b == 0;
+    if (x->question == 4) return b == 0;
     return b == (v < x->n / 2u ? 1 : -1);
 }
 
 static inline int balances_ok(const struct session *x) {
-    if (x->claim != 1) return 1;
+    if (x->claim != (x->question == 4 ? 2 : 1)) return 1;
     for (uint32_t v = 0; v < x->n; v++)
         if (!balance_ok(x, v)) return 0;
     return 1;
@@ -88,6 +89,7 @@ static inline int64_t potential_gap(const struct session *x) {
 
 static inline int sums_ok(const struct session *x) {
     if (x->question == 2) return x->balances[x->s] == x->cut;
+    if (x->question == 4) return x->claim == 1 || x->cost > 0;
     if (x->claim == 1) return x->cost == (x->question == 1 ? x->potentials[x->t] : potential_gap(x));
     return x->question == 1 || count_marked(x, 0, x->n / 2u) > count_marked(x, x->n / 2u, x->n);
 }
@@ -146,9 +148,9 @@ STEP int node_number(struct session *x, int32_t y) {
     if (x->phase != 3 || x->given >= x->n) return refuse(x, 5);
     uint32_t v = x->given;
     int cut = x->question == 2 || x->claim == 2;
-    int32_t most = cut ? 1 : 8322818, least = cut ? 0 : -8322818;
+    int32_t most = cut ? x->question != 4 : 8322818, least = cut ? 0 : -8322818;
     if (y < least || y > most) return refuse(x, 10);
-    if (x->question != 3) {
+    if (x->question < 3) {
         if (v == x->s && y != cut) return refuse(x, 10);
         if (cut && v == x->t && y != 0) return refuse(x, 10);
     }
@@ -163,17 +165,19 @@ STEP int repeat_channel(struct session *x, uint32_t a, uint32_t b, uint32_t w, u
     if (x->repeated.count >= x->read.count) return refuse(x, 6);
     int why = arc_check(x, a, b, w);
     if (why) return refuse(x, why);
-    uint32_t most = x->question == 2 ? w : x->claim == 1 ? 1 : 0;
+    uint32_t most = x->question == 2 ? w : x->claim == (x->question == 4 ? 2 : 1);
     if (amount > most) return refuse(x, 11);
     int out = is_marked(x, a) && !is_marked(x, b);
-    if (x->question != 2) {
+    if (x->question == 4) {
+        if (x->claim == 1 && x->potentials[a] >= x->potentials[b]) return refuse(x, 12);
+    } else if (x->question != 2) {
         int bad = x->claim == 1 ? x->potentials[b] > (int64_t)x->potentials[a] + w : out;
         if (bad) return refuse(x, 12);
     }
     x->balances[a] += amount;
     x->balances[b] -= amount;
     extend(&x->repeated, x->point, a, b, w);
-    x->cost += (int64_t)amount * w;
+    x->cost += (int64_t)amount * (x->question == 4 ? 1 : w);
     if (out) x->cut += w;
     return 0;
 }
@@ -183,7 +187,7 @@ STEP uint64_t finish(struct session *x) {
     if (x->phase != 3 || x->given != x->n) return refusal(refuse(x, 5));
     int why = finishing_check(x);
     if (why) return refusal(refuse(x, why));
-    uint64_t answer = x->claim == 2 ? NO_VALUE : (uint64_t)(x->question == 2 ? x->cut : x->cost);
+    uint64_t answer = x->claim == 2 ? NO_VALUE : (uint64_t)(x->question == 2 ? x->cut : x->question == 4 ? 0 : x->cost);
     memset(x, 0, sizeof *x);
     return answer;
 }

@@ -7,7 +7,7 @@ use mathlib.Core.List.{List, [], _∷_, _++_}
 use Prim.Native.Nat.{ℕ, suc}
 use Rattle.prelude.specs.Choice.{pick}
 use Rattle.network.specs.Network.{Arc}
-use Rattle.network.specs.Question.{Question, shortestPath, maximumFlow, assignment, unasked, Setting, Answer, value, none, TrueFor}
+use Rattle.network.specs.Question.{Question, shortestPath, maximumFlow, assignment, acyclicity, unasked, Setting, Answer, value, none, TrueFor}
 use Rattle.network.proofs.IdleArcs.{SameButIdle, end, keep, first, empty-idle, same-maximum}
 use Rattle.calendar.specs.Schedule.{emptied, leftFor, leftFrom, openFrom}
 use Rattle.calendar.proofs.LeftArcs.{left-open}
@@ -29,4 +29,5 @@ open-alone-for shortestPath st opened k net a = rw (left-open shortestPath opene
 open-alone-for maximumFlow st opened k net (value v) = same-maximum st (left-idle opened k net) v
 open-alone-for maximumFlow st opened k net none = (λ h. h, λ h. h)
 open-alone-for assignment st opened k net a = rw (left-open assignment opened (λ e. refl) k net) (λ h. h, λ h. h)
+open-alone-for acyclicity st opened k net a = rw (left-open acyclicity opened (λ e. refl) k net) (λ h. h, λ h. h)
 open-alone-for unasked st opened k net a = (λ h. h, λ h. h)

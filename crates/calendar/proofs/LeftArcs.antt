@@ -11,7 +11,7 @@ use Rattle.prelude.specs.Choice.{pick}
 use Rattle.prelude.specs.Lists.{Every, listTo}
 use Rattle.prelude.proofs.Lists.{every-append, listTo-length}
 use Rattle.network.specs.Network.{Arc}
-use Rattle.network.specs.Question.{Question, shortestPath, maximumFlow, assignment, unasked, Setting, asks, SidesFor, Allowed}
+use Rattle.network.specs.Question.{Question, shortestPath, maximumFlow, assignment, acyclicity, unasked, Setting, asks, SidesFor, Allowed}
 use Rattle.calendar.specs.Schedule.{emptied, closedFor, leftFor, leftFrom, openFrom}
 
 -- ---- what is left of one arc
@@ -20,6 +20,7 @@ closed-length : (q : Question) (e : Arc) → length (closedFor q e) ≤ 1
 closed-length shortestPath e = omega arith
 closed-length maximumFlow e = omega arith
 closed-length assignment e = omega arith
+closed-length acyclicity e = omega arith
 closed-length unasked e = omega arith
 
 pub left-one-length : (q : Question) (b : Bool) (e : Arc) → length (leftFor q b e) ≤ 1
@@ -31,6 +32,7 @@ emptied-sides : (q : Question) (st : Setting) (e : Arc) → SidesFor q st e → 
 emptied-sides shortestPath st e h = tt
 emptied-sides maximumFlow st e h = tt
 emptied-sides assignment st e h = record { from-pump = h .from-pump; to-site = h .to-site }
+emptied-sides acyclicity st e h = tt
 emptied-sides unasked st e h = absurd h
 
 emptied-allowed : (st : Setting) (e : Arc) → Allowed st e → Allowed st (emptied e)
@@ -45,6 +47,7 @@ closed-allowed : (st : Setting) (q : Question) (e : Arc) → Allowed st e → Ev
 closed-allowed st shortestPath e h = tt
 closed-allowed st maximumFlow e h = (emptied-allowed st e h, tt)
 closed-allowed st assignment e h = tt
+closed-allowed st acyclicity e h = tt
 closed-allowed st unasked e h = tt
 
 left-one-allowed : (st : Setting) (q : Question) (b : Bool) (e : Arc) → Allowed st e → Every (Allowed st) (leftFor q b e)

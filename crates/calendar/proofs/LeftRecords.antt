@@ -13,7 +13,7 @@ use borrow.Rule.Slice.PartMut.{midOf, putMid}
 use Rattle.prelude.specs.Lists.{listTo}
 use Rattle.prelude.proofs.Lists.{listTo-length}
 use Rattle.network.specs.Network.{Arc, arcOf, arcHeld, wordArc}
-use Rattle.network.specs.Question.{Setting, Question, shortestPath, maximumFlow, assignment, unasked}
+use Rattle.network.specs.Question.{Setting, Question, shortestPath, maximumFlow, assignment, acyclicity, unasked}
 use Rattle.network.specs.declared.Record.{Record}
 use Rattle.file_fields.proofs.Writing.{then-sets}
 use Rattle.format.specs.Files.{arcBytes, lowArc, arcAt, settingIn, networkHeader, networkFile}
@@ -51,6 +51,7 @@ low-left q true w = ap (λ (e : Arc). e ∷ []) (low-word w)
 low-left shortestPath false w = refl
 low-left maximumFlow false w = ap (λ (e : Arc). emptied e ∷ []) (low-word w)
 low-left assignment false w = refl
+low-left acyclicity false w = refl
 low-left unasked false w = refl
 
 -- what the code wrote of an arc that it read as a number

@@ -8,7 +8,7 @@ use lib.ListN.{length, drop}
 use Rattle.prelude.specs.Checks.{Check, _unless_, settle}
 use Rattle.prelude.specs.Choice.{pick}
 use Rattle.network.specs.Network.{Arc, arcOf}
-use Rattle.network.specs.Question.{Question, shortestPath, maximumFlow, assignment, unasked, asks}
+use Rattle.network.specs.Question.{Question, shortestPath, maximumFlow, assignment, acyclicity, unasked, asks}
 use Rattle.format.specs.Files.{settingIn, countIn, arcsIn, networkFile}
 use Rattle.format.specs.Replies.{WriterSaid, wrote, declined}
 use Rattle.acceptance.specs.Acceptance.{acceptanceChecks}
@@ -25,6 +25,7 @@ abbrev pub closedFor : Question → Arc → List Arc
 closedFor shortestPath e = []
 closedFor maximumFlow e = emptied e ∷ []
 closedFor assignment e = []
+closedFor acyclicity e = []
 closedFor unasked e = []
 
 -- What is left of an arc that is open or closed.

@@ -34,6 +34,7 @@ fn closed(question: Question, arc: Record) -> Left
             weight: 0,
         }),
         Question::Assignment => Left::Nothing,
+        Question::Acyclicity => Left::Nothing,
         Question::Unasked => Left::Nothing,
     }
 }

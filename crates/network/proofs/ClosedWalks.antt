@@ -15,12 +15,6 @@ use Rattle.network.specs.Question.{Leads, ClosedWalk}
 use Rattle.network.proofs.Sums.{Inside}
 use Rattle.network.proofs.Paths.{Taken, take-one, Found, Unit-flow, walk-in}
 
-some-arc : (e : Arc) (es : List Arc) → e ∷ es ≢ []
-some-arc e es q = let z : _≡_ {A = ℕ} 0 1 = cc in absurd (omega arith)
-
-pub loop-closed : (net : List Arc) (e : Arc) → SelfLoop e → Member e net → ClosedWalk net
-loop-closed net e s m = record { vertex = e .tail; walk = e ∷ []; nonempty = some-arc e []; over = (m, tt); leads = (refl, sym s) }
-
 -- ---- numbers that rise
 
 module _ (net : List Arc) (y : ℕ → ℤ) (rule : Every (λ e. y (e .tail) <ℤ y (e .head)) net) where
@@ -44,6 +38,14 @@ module _ (net : List Arc) (y : ℕ → ℤ) (rule : Every (λ e. y (e .tail) <�
               rw (← h .0) at (climbs es (e .head) (c .vertex) (k .1) (h .1)),
             )
           )
+
+-- ---- a self-loop
+
+some-arc : (e : Arc) (es : List Arc) → e ∷ es ≢ []
+some-arc e es q = let z : _≡_ {A = ℕ} 0 1 = cc in absurd (omega arith)
+
+pub loop-closed : (net : List Arc) (e : Arc) → SelfLoop e → Member e net → ClosedWalk net
+loop-closed net e s m = record { vertex = e .tail; walk = e ∷ []; nonempty = some-arc e []; over = (m, tt); leads = (refl, sym s) }
 
 -- ---- amounts that circulate
 

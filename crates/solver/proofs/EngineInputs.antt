@@ -13,7 +13,7 @@ use Rattle.prelude.specs.Choice.{indicator}
 use Rattle.prelude.specs.Lists.{Every, all}
 use Rattle.network.specs.Limits.{mostVertices, mostArcs, mostWeight, mostPotential}
 use Rattle.network.specs.Network.{Arc, wordArc, wordArcs}
-use Rattle.network.specs.Question.{Question, shortestPath, maximumFlow, assignment, Setting, WeightWithin, unasked, asks, unitCost, Admissible}
+use Rattle.network.specs.Question.{Question, shortestPath, maximumFlow, assignment, acyclicity, Setting, WeightWithin, unasked, asks, unitCost, Admissible}
 use Rattle.network.proofs.Sums.{Inside}
 use Rattle.packed_arcs.specs.Entries.{entry, zeroList}
 use Rattle.packed_arcs.specs.PackedArcs.{tailOf, headOf, costOf}
@@ -39,6 +39,7 @@ no-dearer : (q : Question) (e : Arc) → WeightWithin e → unitCost q e ≤ mos
 no-dearer shortestPath e h = h
 no-dearer maximumFlow e h = omega arith
 no-dearer assignment e h = h
+no-dearer acyclicity e h = omega arith
 no-dearer unasked e h = omega arith
 
 packed-cost : (q : Question) (r : ℕ) → costOf (packedFor q r) ≡ unitCost q (wordArc r)

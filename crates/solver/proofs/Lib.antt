@@ -8,4 +8,5 @@ pub mod VertexLists
 pub mod EngineInputs
 pub mod Promises
 pub mod PathAnswer
+pub mod AcyclicityAnswer
 pub mod CertifyCases

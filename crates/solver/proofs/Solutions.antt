@@ -16,7 +16,7 @@ use Rattle.prelude.proofs.Booleans.{true→T}
 use Rattle.prelude.proofs.Settle.{none-broken}
 use Rattle.prelude.proofs.Lists.{all→every, every-map, image-every}
 use Rattle.network.specs.Network.{Arc, arcs, cost, wordArc, wordArcs, loadsOf}
-use Rattle.network.specs.Question.{Question, shortestPath, maximumFlow, assignment, Setting, Allowed, TwoVertices, EndsFor, EvenFor, SidesFor, PumpToSite, TrueFor, Answer, value, none, unasked, asks, unitCost, Admissible}
+use Rattle.network.specs.Question.{Question, shortestPath, maximumFlow, assignment, acyclicity, Setting, Allowed, TwoVertices, EndsFor, EvenFor, SidesFor, PumpToSite, TrueFor, Answer, value, none, unasked, asks, unitCost, Admissible}
 use Rattle.network.specs.Limits.{mostArcs}
 use Rattle.network.specs.Certificate.{Claim, ofValue, ofNone, claimFor}
 use Rattle.network.specs.Tests.{openingChecks, arcChecks, claimNumber}
@@ -98,12 +98,14 @@ pub cost-low : (q : Question) (e : Arc) → e .weight < 65536 → unitCost q e <
 cost-low shortestPath e h = h
 cost-low maximumFlow e h = omega arith
 cost-low assignment e h = h
+cost-low acyclicity e h = omega arith
 cost-low unasked e h = omega arith
 
 pub capacity-low : (q : Question) (e : Arc) → e .weight < 65536 → capacityFor q e < 65536
 capacity-low shortestPath e h = omega arith
 capacity-low maximumFlow e h = h
 capacity-low assignment e h = omega arith
+capacity-low acyclicity e h = omega arith
 capacity-low unasked e h = omega arith
 
 pub same-costs : (q : Question) (rs : List ℕ) → costsOf (map (packedFor q) rs) ≡ costs q (wordArcs rs)

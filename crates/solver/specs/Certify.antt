@@ -12,7 +12,7 @@ use Rattle.prelude.specs.Checks.{firstBroken}
 use Rattle.prelude.specs.Lists.{Every, all, at}
 use Rattle.network.specs.Limits.{mostArcs, mostPotential}
 use Rattle.network.specs.Network.{Arc, wordArc, wordArcs, loadsOf}
-use Rattle.network.specs.Question.{Question, shortestPath, maximumFlow, assignment, unasked, Setting, asks, unitCost, Opened, Allowed, Answer, value, none, TrueAnswer}
+use Rattle.network.specs.Question.{Question, shortestPath, maximumFlow, assignment, acyclicity, unasked, Setting, asks, unitCost, Opened, Allowed, Answer, value, none, TrueAnswer}
 use Rattle.network.specs.Certificate.{Claim, ofValue, ofNone, claimFor, Certified}
 use Rattle.network.specs.Tests.{claimNumber, openingChecks, arcChecks}
 use Rattle.packed_arcs.specs.Entries.{entry}
@@ -36,11 +36,12 @@ admissible st rs numbers amounts =
 
 -- ---- how the engine is asked
 
--- The capacity of an arc: 1 for a path, for one unit is sent; its own for a flow; room to spare for an assignment.
+-- The capacity of an arc: 1 for a path, for one unit is sent; its own for a flow; room to spare for an assignment. For acyclicity the engine is not asked.
 abbrev pub capacityFor : Question → Arc → ℕ
 capacityFor shortestPath e = 1
 capacityFor maximumFlow e = e .weight
 capacityFor assignment e = pairRoom
+capacityFor acyclicity e = 0
 capacityFor unasked e = 0
 
 -- The arc of a record, packed for the engine: a unit costs there what the question says.
@@ -56,6 +57,7 @@ abbrev pub standingFor : Question → Setting → Bool → ℕ → ℕ
 standingFor shortestPath st wanted v = single (endFor st wanted) 1 v
 standingFor maximumFlow st wanted v = single (endFor st wanted) plenty v
 standingFor assignment st wanted v = pick wanted (atSites st v) (atPumps st v)
+standingFor acyclicity st wanted v = 0
 standingFor unasked st wanted v = 0
 
 -- What stands at the vertex v for the question of the setting.
@@ -116,6 +118,7 @@ abbrev pub LengthsFor : Question → Setting → List Arc → Claim → (ℕ →
 LengthsFor shortestPath st net c y = (v : ℕ) → v < st .n → Told st net c y v
 LengthsFor maximumFlow st net c y = Unit {0}
 LengthsFor assignment st net c y = Unit {0}
+LengthsFor acyclicity st net c y = Unit {0}
 LengthsFor unasked st net c y = Unit {0}
 
 -- The number of the claim that was found; 0 for a refusal.

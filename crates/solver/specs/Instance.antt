@@ -1,4 +1,4 @@
--- The three questions as the engine is asked them: the columns of a network, lists by vertex, and node numbers read from keys.
+-- Three of the questions as the engine is asked them: the columns of a network, lists by vertex, and node numbers read from keys.
 -- Assumes nothing.
 use mathlib.Core.Path.{_≡_}
 use mathlib.Core.Bool.{Bool, not}
@@ -78,7 +78,7 @@ abbrev pub reached : ℕ → Bool
 reached k = ltb k unreached
 
 -- The node number written for a vertex, read from k. From its key: a mark, 1 where the search came; or the least length of a walk to it, and as high as a potential goes where none leads there.
--- Or its potential, as it stands.
+-- Or its potential or rank, as it stands.
 abbrev pub numberOf : NumberKind → ℕ → ℕ
 numberOf Mark k = indicator (reached k)
 numberOf Distance k = pick (reached k) (k / 256) mostPotential

@@ -1,4 +1,4 @@
-// Certificates for the three questions: a path that the engine sends along for a path, its phases for a flow and for an assignment.
+// Certificates for the three questions that the engine is asked: a path that the engine sends along for a path, its phases for a flow and for an assignment.
 ghost use mathlib.Core.Path.{_≡_};
 ghost use lib.ListN.{length};
 ghost use Rattle.prelude.specs.Choice.{pick};

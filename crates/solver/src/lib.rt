@@ -7,9 +7,11 @@ use answers::certify_path;
 use checks::HeldSetting;
 use checks::rows::Question;
 use checks::rows::question_of;
+use orders::certify_acyclicity;
 use records::is_admissible;
 
 mod answers;
+mod orders;
 mod records;
 mod vertices;
 
@@ -48,6 +50,7 @@ pub fn certify(
         Question::Path => certify_path(st, records, numbers, amounts),
         Question::Flow => certify_by_phases(st, true, records, numbers, amounts),
         Question::Assignment => certify_by_phases(st, false, records, numbers, amounts),
+        Question::Acyclicity => certify_acyclicity(st, records, numbers, amounts),
         Question::Unasked => Finding::Refused,
     }
 }

@@ -29,6 +29,7 @@ fn capacity_of(question: Question, arc: Record) -> u32
         Question::Path => 1,
         Question::Flow => arc.weight,
         Question::Assignment => PAIR_ROOM,
+        Question::Acyclicity => 0,
         Question::Unasked => 0,
     }
 }

@@ -64,6 +64,7 @@ fn standing_at(st: HeldSetting, wanted: bool, v: u8) -> u32
         Question::Path => single(end, 1, v),
         Question::Flow => single(end, PLENTY, v),
         Question::Assignment => on_side(st, wanted, v),
+        Question::Acyclicity => 0,
         Question::Unasked => 0,
     }
 }
@@ -79,7 +80,7 @@ pub(crate) fn stand(st: HeldSetting, wanted: bool, list: &mut [u32])
     }
 }
 
-// What is written for a vertex: whether its key is reached, the distance that its key holds, or its potential.
+// What is written for a vertex: whether its key is reached, the distance that its key holds, or its potential or rank as it stands.
 pub(crate) enum NumberKind {
     Mark,
     Distance,

@@ -13,7 +13,7 @@ use lib.Seq.{ext-getD}
 use Rattle.prelude.specs.Integers.{natural}
 use Rattle.prelude.specs.Lists.{Every, Member, at}
 use Rattle.network.specs.Network.{Arc, arcOf, total}
-use Rattle.network.specs.Question.{Question, shortestPath, maximumFlow, assignment, unasked, Setting, Walk, ShortestPath, value, none}
+use Rattle.network.specs.Question.{Question, shortestPath, maximumFlow, assignment, acyclicity, unasked, Setting, Walk, ShortestPath, value, none}
 use Rattle.network.specs.Certificate.{Claim, ofValue, ofNone, marked}
 use Rattle.network.proofs.Paths.{walk-above, no-walk}
 use Rattle.network.proofs.Promises.{one-answer}
@@ -31,6 +31,7 @@ numbers-alike shortestPath st net c ys zs ny nz hy hz = ext-getD (pos 0) ys zs (
     go v a b = a .told ∙ ap (toldBy c) (one-answer (toward st v) net (a .answer) (b .answer) (a .is-true) (b .is-true)) ∙ sym (b .told)
 numbers-alike maximumFlow st net c ys zs ny nz hy hz = tt
 numbers-alike assignment st net c ys zs ny nz hy hz = tt
+numbers-alike acyclicity st net c ys zs ny nz hy hz = tt
 numbers-alike unasked st net c ys zs ny nz hy hz = tt
 
 -- ---- the two rows

@@ -8,7 +8,7 @@ use lib.ListN.{length}
 use Rattle.prelude.specs.Lists.{Every, Member, at}
 use Rattle.field.specs.Field.{Agree}
 use Rattle.network.specs.Network.{Arc, arcOf, key, Load, arcs, loadsOf}
-use Rattle.network.specs.Question.{Question, shortestPath, maximumFlow, assignment, unasked, Setting, asks, Answer, value, none, TrueAnswer}
+use Rattle.network.specs.Question.{Question, shortestPath, maximumFlow, assignment, acyclicity, unasked, Setting, asks, Answer, value, none, TrueAnswer}
 use Rattle.network.specs.Certificate.{claimFor, Certified}
 use Rattle.network.specs.Tests.{claimNumber}
 use Rattle.points.specs.Points.{IsPoint, printOf}
@@ -74,6 +74,7 @@ abbrev pub SameNumbers : Question → List ℤ → List ℤ → Type 0
 SameNumbers shortestPath ys zs = ys ≡ zs
 SameNumbers maximumFlow ys zs = Unit {0}
 SameNumbers assignment ys zs = Unit {0}
+SameNumbers acyclicity ys zs = Unit {0}
 SameNumbers unasked ys zs = Unit {0}
 
 -- Any annotation that the helper may write has the example's answer, and is judged so at every point.

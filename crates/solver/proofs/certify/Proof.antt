@@ -51,6 +51,9 @@ certify-by-phases-requires c κs = let a = c .before .before .before .before .be
 certify-by-phases-requires-2 : tie.Need-certify-by-phases-requires-2
 certify-by-phases-requires-2 c κs = let a = c .before .before .before .before .before in let g = accepted-in a (c .before .before .before .before .if1 .left) in ((g .0, asks-as a (c .before .before .enum-told3 .given .1)), (g .1, g .2))
 
+certify-acyclicity-requires : tie.Need-certify-acyclicity-requires
+certify-acyclicity-requires c κs = let a = c .before .before .before .before .before in let g = accepted-in a (c .before .before .before .before .if1 .left) in ((g .0, asks-as a (c .before .before .enum-told4 .given .1)), (g .1, g .2))
+
 returns-2 : tie.Need-returns-2
 returns-2 c =
     let r = c .before .before .before .certify-path in
@@ -67,7 +70,12 @@ returns-4 c =
     ended-in (c .before .before .before .before .before .before .before .before .before) (c .before .before .before .before .before .before .before .before .if1 .left) (r .kept .1 .1 .1 .0) (r .kept .1 .1 .1 .1 .0) (r .ensures)
 
 returns-5 : tie.Need-returns-5
-returns-5 c = let a = c .before .before .before in absurd (subst Asked (asks-as a (c .enum-told4 .given .1)) (accepted-in a (c .before .before .if1 .left) .0 .opened .asked))
+returns-5 c =
+    let r = c .before .before .before .certify-acyclicity in
+    ended-in (c .before .before .before .before .before .before .before .before .before) (c .before .before .before .before .before .before .before .before .if1 .left) (r .kept .1 .1 .0) (r .kept .1 .1 .1 .0) (r .ensures)
+
+returns-6 : tie.Need-returns-6
+returns-6 c = let a = c .before .before .before in absurd (subst Asked (asks-as a (c .enum-told5 .given .1)) (accepted-in a (c .before .before .if1 .left) .0 .opened .asked))
 
 pub certify-spec : {M : Type 1} → statement M
 certify-spec =
@@ -84,6 +92,8 @@ certify-spec =
     (λ c. search needs)
     certify-by-phases-requires-2
     (λ c. search needs)
+    certify-acyclicity-requires
+    (λ c. search needs)
     (λ c. search needs)
     (λ c. search needs)
     returns-2
@@ -93,4 +103,7 @@ certify-spec =
     (λ c. search needs)
     (λ c. search needs)
     returns-4
-    returns-5)
+    (λ c. search needs)
+    (λ c. search needs)
+    returns-5
+    returns-6)

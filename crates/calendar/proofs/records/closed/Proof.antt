@@ -18,6 +18,8 @@ closed-spec =
     (λ c. search needs)
     (λ c. search needs)
     (λ c. search needs)
+    (λ c. search needs)
     (λ c. sym (ap (λ (q : Question). closedFor (questionHeld q) (arcHeld (c .before .before .args .arc))) (c .enum-told2 .given .1)))
+    (λ c. search needs)
     (λ c. search needs)
     (λ c. search needs))

@@ -24,6 +24,9 @@ returns-3 c = rw (sym (c .before .before .before .before .question-of .ensures) 
 returns-4 : tie.Need-returns-4
 returns-4 c = rw (sym (c .before .before .before .question-of .ensures) ∙ ap questionHeld (c .enum-told4 .given .1))
 
+returns-5 : tie.Need-returns-5
+returns-5 c = rw (sym (c .before .before .before .question-of .ensures) ∙ ap questionHeld (c .enum-told5 .given .1))
+
 pub standing-at-spec : {M : Type 1} → statement M
 standing-at-spec =
     tie.close
@@ -38,7 +41,9 @@ standing-at-spec =
     (λ c. search needs)
     (λ c κs. search needs)
     (λ c. search needs)
+    (λ c. search needs)
     returns
     returns-2
     returns-3
-    returns-4)
+    returns-4
+    returns-5)

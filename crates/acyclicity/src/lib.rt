@@ -1,0 +1,6 @@
+// stub
+pub enum Found {
+    Order,
+    Cycle,
+    Refused,
+}

@@ -1,0 +1,156 @@
+-- The answer for acyclicity: ranks that rise are a certificate of the value 0, and marks that circulate are one of none.
+-- Assumes nothing.
+use mathlib.Core.Path.{_≡_, refl, sym, _∙_, ap, subst}
+use mathlib.Core.Bool.{Bool, true, false, _&&_, false≢true}
+use mathlib.Core.List.{List, [], _∷_, map}
+use Prim.Native.Nat.{ℕ, zero, suc, _+_, _*_, _≤_, _<_}
+use native.Mathlib.Omega.{arith}
+use borrow.Author.Tests.{eq-eqb, lt-ltb, le-leb}
+use lib.Dec.{T, eqb, leb, ltb, lt→ltb}
+use lib.IntN.{ℤ, pos}
+use lib.ListN.{length, length-map}
+use Rattle.prelude.specs.Lists.{Every, all, at}
+use Rattle.prelude.proofs.Integers.{signed, parts-sub}
+use Rattle.prelude.proofs.Tested.{both-on}
+use Rattle.network.specs.Limits.{mostVertices, mostArcs, mostPotential}
+use Rattle.network.specs.Network.{Arc, Load, arcs, wordArc, wordArcs, loadsOf, delta, sumOf, leaving, entering, balance}
+use Rattle.network.specs.Question.{Question, acyclicity, Setting, Allowed, Answer, value, none, asks, Admissible}
+use Rattle.network.proofs.Rules.{ZeroOrOne, NoAmount, Rises, AcyclicCertificate, CyclicCertificate, RulesHold}
+use Rattle.packed_arcs.specs.Entries.{entry, zeroList}
+use Rattle.packed_arcs.proofs.LentParts.{zero-at}
+use Rattle.acyclicity.specs.Search.{tailsOf, headsOf, joinsBelow, searchable, Ordered, marksAt, Circulates, SearchOutcome}
+use Rattle.acyclicity.specs.declared.Found.{Found}
+use Rattle.acyclicity.specs.declared.Found.the-variants.{Order, Cycle, Refused}
+use Rattle.solver.specs.Instance.{numberOf}
+use Rattle.solver.specs.Certify.{NodeNumbers, Solution}
+use Rattle.solver.specs.declared.vertices.NumberKind.the-variants.{Potential}
+use Rattle.solver.proofs.Solutions.{written-at, solution}
+
+-- ---- columns and loads
+
+-- the entries of the columns are the ends of the arcs
+rises : (ranks rs xs : List ℕ) → ((e : ℕ) → e < length (tailsOf rs) → entry ranks (entry (tailsOf rs) e) < entry ranks (entry (headsOf rs) e))
+    → Every (Rises (λ v. pos (entry ranks v))) (loadsOf (wordArcs rs) xs)
+unfolding loadsOf
+rises ranks [] xs h = tt
+rises ranks (r ∷ rs) [] h = (record { lt = lt→ltb _ _ (h 0 (omega arith)) }, rises ranks rs [] (λ e l. h (suc e) (omega arith)))
+rises ranks (r ∷ rs) (x ∷ xs) h = (record { lt = lt→ltb _ _ (h 0 (omega arith)) }, rises ranks rs xs (λ e l. h (suc e) (omega arith)))
+
+-- what holds of every amount
+amounts : (P : ℕ → Type 0) (rs xs : List ℕ) → P 0 → ((e : ℕ) → P (entry xs e)) → Every (λ l. P (l .amount)) (loadsOf (wordArcs rs) xs)
+unfolding loadsOf
+amounts P [] xs z h = tt
+amounts P (r ∷ rs) [] z h = (z, amounts P rs [] z h)
+amounts P (r ∷ rs) (x ∷ xs) z h = (h 0, amounts P rs xs z (λ e. h (suc e)))
+
+no-sum : (g : Arc → ℕ) (rs : List ℕ) → sumOf g (loadsOf (wordArcs rs) []) ≡ 0
+unfolding sumOf loadsOf
+no-sum g [] = refl
+no-sum g (r ∷ rs) = omega (arith, no-sum g rs)
+
+-- the marks at a vertex are the sum of the amounts there
+marks-sum : (end : Arc → ℕ) (rs xs : List ℕ) (v : ℕ) → marksAt (map (λ r. end (wordArc r)) rs) xs v ≡ sumOf (λ e. delta (end e) v) (loadsOf (wordArcs rs) xs)
+unfolding marksAt sumOf loadsOf
+marks-sum end [] xs v = refl
+marks-sum end (r ∷ rs) [] v = omega (arith, no-sum (λ e. delta (end e) v) (r ∷ rs))
+marks-sum end (r ∷ rs) (x ∷ xs) v = omega (arith, marks-sum end rs xs v)
+
+some-amount : (rs xs : List ℕ) (e : ℕ) → length xs ≡ length rs → 0 < entry xs e → 0 < sumOf (λ a. 1) (loadsOf (wordArcs rs) xs)
+unfolding sumOf loadsOf
+some-amount [] [] e q h = absurd (omega arith)
+some-amount [] (x ∷ xs) e q h = absurd (omega arith)
+some-amount (r ∷ rs) [] e q h = absurd (omega arith)
+some-amount (r ∷ rs) (x ∷ xs) zero q h = omega (arith, h)
+some-amount (r ∷ rs) (x ∷ xs) (suc e) q h = omega (arith, some-amount rs xs e (omega arith) h)
+
+-- ---- what is accepted may be searched
+
+each-joins : (st : Setting) (rs : List ℕ) → Every (Allowed st) (wordArcs rs) → all (joinsBelow (st .n)) rs ≡ true
+each-joins st [] h = refl
+each-joins st (r ∷ rs) h =
+    both-on (joinsBelow (st .n) r) (all (joinsBelow (st .n)) rs) true
+    (both-on (ltb (wordArc r .tail) (st .n)) (ltb (wordArc r .head) (st .n)) true
+    (lt-ltb (wordArc r .tail) (st .n) (h .0 .joins .tail-below)) (lt-ltb (wordArc r .head) (st .n) (h .0 .joins .head-below)))
+    (each-joins st rs (h .1))
+
+module _ (st : Setting) (rs : List ℕ) (a : Admissible st (wordArcs rs)) (q : asks st ≡ acyclicity) where
+  may-search : (ranks marks : List ℕ) → length ranks ≡ st .n → length marks ≡ length rs → searchable rs (length ranks) (length marks) ≡ true
+  may-search ranks marks en em =
+      rw en (
+        both-on (leb (st .n) mostVertices && leb (length rs) mostArcs && eqb (length marks) (length rs)) (all (joinsBelow (st .n)) rs) true
+        (both-on (leb (st .n) mostVertices && leb (length rs) mostArcs) (eqb (length marks) (length rs)) true
+        (both-on (leb (st .n) mostVertices) (leb (length rs) mostArcs) true
+        (le-leb (st .n) mostVertices (a .opened .sized .at-most)) (le-leb (length rs) mostArcs (omega (arith, a .few, length-map rs wordArc))))
+        (eq-eqb (length marks) (length rs) em))
+        (each-joins st rs (a .allowed))
+      )
+
+  -- ---- what is written of what was found
+
+  -- the numbers are the ranks
+  by-ranks : (ranks xs : List ℕ) (ys : List ℤ) → NodeNumbers Potential ranks ys → (b : Answer)
+      → RulesHold acyclicity st (λ v. pos (entry ranks v)) (loadsOf (wordArcs rs) xs) b → RulesHold acyclicity st (at ys) (loadsOf (wordArcs rs) xs) b
+  by-ranks ranks xs ys w b = subst (λ (y : ℕ → ℤ). RulesHold acyclicity st y (loadsOf (wordArcs rs) xs) b) (sym (written-at Potential ranks ys refl w))
+
+  -- the outcome of the search, taken apart
+  pub record InOrder (ranks' marks' : List ℕ) : Type 0 where
+    pub few : length ranks' ≤ mostVertices
+    pub order : Ordered (tailsOf rs) (headsOf rs) ranks'
+    pub unmarked : marks' ≡ zeroList (length rs)
+
+  pub record InCycle (ranks' marks' : List ℕ) : Type 0 where
+    pub no-ranks : ranks' ≡ zeroList (st .n)
+    pub marks-len : length marks' ≡ length rs
+    pub cycle : Circulates (tailsOf rs) (headsOf rs) marks'
+
+  abbrev pub FoundCase : List ℕ → List ℕ → Found → Type 0
+  FoundCase ranks' marks' Order = InOrder ranks' marks'
+  FoundCase ranks' marks' Cycle = InCycle ranks' marks'
+  FoundCase ranks' marks' Refused = ⊥
+
+  pub found-case : {ranks marks ranks' marks' : List ℕ} {r : Found} → length ranks ≡ st .n → length marks ≡ length rs
+      → SearchOutcome rs ranks marks ranks' marks' r → FoundCase ranks' marks' r
+  found-case en em (SearchOutcome.ordered ok len o z) =
+      record { few = omega (arith, len, en, a .opened .sized .at-most); order = o; unmarked = z ∙ ap zeroList em }
+  found-case en em (SearchOutcome.cyclic ok z c) =
+      record { no-ranks = z ∙ ap zeroList en; marks-len = c .len ∙ length-map rs (λ r. wordArc r .tail); cycle = c }
+  found-case {ranks} {marks} en em (SearchOutcome.refused off er em') = absurd (false≢true (sym off ∙ may-search ranks marks en em))
+
+  -- what is written is small
+  pub ranks-low : {ranks' marks' : List ℕ} → InOrder ranks' marks' → (v : ℕ) → v < length ranks' → numberOf Potential (entry ranks' v) ≤ mostPotential
+  ranks-low o v h = omega (arith, o .order .below v, o .few)
+
+  pub zeros-low : {ranks' marks' : List ℕ} → InCycle ranks' marks' → (v : ℕ) → v < length ranks' → numberOf Potential (entry ranks' v) ≤ mostPotential
+  zeros-low c v h = rw (c .no-ranks) (omega (arith, zero-at (st .n) v))
+
+  pub order-answer : {ranks' marks' : List ℕ} {ys : List ℤ} → InOrder ranks' marks' → NodeNumbers Potential ranks' ys → Solution st (wordArcs rs) ys marks' 1
+  order-answer {ranks'} {marks'} {ys} o w = solution st (wordArcs rs) acyclicity q ys marks' (value 0) (by-ranks ranks' marks' ys w (value 0) certificate) tt
+    where
+      certificate : AcyclicCertificate st (λ v. pos (entry ranks' v)) (loadsOf (wordArcs rs) marks') 0
+      certificate = record {
+        potentials = λ v h. record { above = omega signed; below = omega (signed, o .order .below v, o .few) };
+        amounts = amounts (λ k. k ≡ 0) rs marks' refl (λ e. rw (o .unmarked) (zero-at (length rs) e));
+        rising = rises ranks' rs marks' (o .order .rises);
+        answer = refl;
+      }
+
+  pub cycle-answer : {ranks' marks' : List ℕ} {ys : List ℤ} → InCycle ranks' marks' → NodeNumbers Potential ranks' ys → Solution st (wordArcs rs) ys marks' 2
+  cycle-answer {ranks'} {marks'} {ys} c w = solution st (wordArcs rs) acyclicity q ys marks' none (by-ranks ranks' marks' ys w none certificate) tt
+    where
+      rank-zero : (v : ℕ) → entry ranks' v ≡ 0
+      rank-zero v = rw (c .no-ranks) (zero-at (st .n) v)
+
+      certificate : CyclicCertificate st (λ v. pos (entry ranks' v)) (loadsOf (wordArcs rs) marks')
+      certificate = record {
+        zeros = λ v h. record { above = omega (signed, rank-zero v); below = omega (signed, rank-zero v) };
+        amounts = amounts (λ k. k ≤ 1) rs marks' (omega arith) (c .cycle .zero-or-one);
+        balances = λ v h.
+            omega (
+              signed,
+              parts-sub (pos (leaving v (loadsOf (wordArcs rs) marks'))) (pos (entering v (loadsOf (wordArcs rs) marks'))),
+              marks-sum (λ e. e .tail) rs marks' v,
+              marks-sum (λ e. e .head) rs marks' v,
+              c .cycle .balanced v,
+            );
+        some = some-amount rs marks' (c .cycle .one) (c .marks-len) (c .cycle .marked);
+      }
