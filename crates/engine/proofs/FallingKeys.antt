@@ -3,24 +3,16 @@
 use mathlib.Core.Path.{_≡_, refl, sym, ap, subst, _∙_}
 use mathlib.Core.Bool.{Bool, true, false}
 use mathlib.Core.List.{List, [], _∷_}
-use mathlib.Core.Logic.{_⊎_, inl, inr, ⊎-elim, _≢_}
+use mathlib.Core.Logic.{⊎-elim}
 use Prim.Native.Nat.{ℕ, zero, suc, _+_, _-_, _/_, _<_, _≤_, min}
 use native.Mathlib.Omega.{arith}
-use native.Mathlib.Decide.{ℕ-discrete}
 use lib.ListN.{length, set, length-set}
 use lib.Seq.{getD-set-same, getD-set-other}
 use Rattle.packed_arcs.specs.Entries.{entry}
+use Rattle.packed_arcs.proofs.ListLoops.{set-cases}
 use Rattle.engine.specs.Residual.{unreached, ResidualNetwork, tail, head, raisedCost, headPotential, WithinLimits, keyBeyond, ParentArc, ParentTree, sum, LoweredKeys, LowerOutcome, Progress, RelaxedForward, RelaxedBackward, SearchReady, Relaxation}
 use Rattle.engine.specs.Residual.LowerOutcome.{lowered, kept}
 use Rattle.engine.specs.Residual.Progress.{fell, stayed}
-
--- what stands at w after a store at v
-pub set-cases : (l : List ℕ) (v k w : ℕ) → v < length l → ((w ≡ v) × (entry (set l v k) w ≡ k)) ⊎ ((w ≢ v) × (entry (set l v k) w ≡ entry l w))
-set-cases l v k w h = go (ℕ-discrete w v)
-  where
-    go : Dec (w ≡ v) → ((w ≡ v) × (entry (set l v k) w ≡ k)) ⊎ ((w ≢ v) × (entry (set l v k) w ≡ entry l w))
-    go (yes e) = inl (e, subst (λ (j : ℕ). entry (set l v k) j ≡ k) (sym e) (getD-set-same l v k 0 h))
-    go (no n) = inr (n, getD-set-other l v w k 0 n)
 
 pub sum-set : (l : List ℕ) (v k : ℕ) → v < length l → k < entry l v → sum (set l v k) < sum l
 unfolding sum

@@ -10,10 +10,10 @@ use lib.Dec.{eqb, ltb}
 use borrow.Author.Tests.{lt-ltb, le-ltb, eq-eqb, ne-eqb}
 use lib.ListN.{length, set, length-set}
 use Rattle.packed_arcs.specs.Entries.{entry}
+use Rattle.packed_arcs.proofs.ListLoops.{set-cases}
 use Rattle.engine.specs.Residual.{unreached}
 use Rattle.prelude.specs.Choice.{pick, indicator}
 use Rattle.engine.specs.Push.{flowAt, ParentLink, PushReady, ParentArcWithin, Augmentable, Moved, codeArc, residualCapacity}
-use Rattle.engine.proofs.FallingKeys.{set-cases}
 
 -- the vertex that the residual arc comes from
 abbrev pub codeStart : List ℕ → List ℕ → ℕ → ℕ

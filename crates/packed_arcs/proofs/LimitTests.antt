@@ -2,8 +2,8 @@
 -- Assumes nothing.
 use mathlib.Core.Path.{_≡_, ap}
 use mathlib.Core.Bool.{true, false, _&&_}
-use mathlib.Core.List.{List, [], _∷_}
-use Prim.Native.Nat.{ℕ, zero, suc, _<_, _≤_}
+use mathlib.Core.List.{List}
+use Prim.Native.Nat.{ℕ, _<_, _≤_}
 use native.Mathlib.Omega.{arith}
 use native.Mathlib.Decide.{decLt}
 use lib.Dec.{T, eqb, ltb, leb, eqb→eq, leb→le, ltb→lt}
@@ -14,6 +14,7 @@ use Rattle.prelude.proofs.Booleans.{and-left, and-right, true→T}
 use Rattle.packed_arcs.specs.Entries.{entry}
 use Rattle.packed_arcs.specs.PackedArcs.{tailOf, headOf, costOf, tailsOf, headsOf, costsOf}
 use Rattle.packed_arcs.specs.Limits.{arcFits, arcsFit, solvable, sendable}
+use Rattle.packed_arcs.proofs.ListLoops.{each-entry}
 use Rattle.packed_arcs.proofs.ArcColumns.{tail-at, head-at, cost-at}
 
 -- ---- the tests
@@ -37,11 +38,6 @@ pub record Fitting (arcs : List ℕ) (amounts n : ℕ) : Type 0 where
   pub one-each : amounts ≡ length arcs
   pub each : (e : ℕ) → e < length arcs → T (arcFits n (entry arcs e))
 
-each-arc : (n : ℕ) (arcs : List ℕ) → T (all (arcFits n) arcs) → (e : ℕ) → e < length arcs → T (arcFits n (entry arcs e))
-each-arc n [] t e h = absurd (omega arith)
-each-arc n (a ∷ arcs) t zero h = and-left (arcFits n a) (all (arcFits n) arcs) t
-each-arc n (a ∷ arcs) t (suc e) h = each-arc n arcs (and-right (arcFits n a) (all (arcFits n) arcs) t) e (omega arith)
-
 fitting : (arcs : List ℕ) (amounts n : ℕ) → T (arcsFit arcs amounts n) → Fitting arcs amounts n
 fitting arcs amounts n t =
     let three = and-left (leb n 255 && leb (length arcs) 4096 && eqb amounts (length arcs)) (all (arcFits n) arcs) t in
@@ -50,7 +46,7 @@ fitting arcs amounts n t =
       small = leb→le n 255 (and-left (leb n 255) (leb (length arcs) 4096) two);
       few = leb→le (length arcs) 4096 (and-right (leb n 255) (leb (length arcs) 4096) two);
       one-each = eqb→eq amounts (length arcs) (and-right (leb n 255 && leb (length arcs) 4096) (eqb amounts (length arcs)) three);
-      each = each-arc n arcs (and-right (leb n 255 && leb (length arcs) 4096 && eqb amounts (length arcs)) (all (arcFits n) arcs) t);
+      each = each-entry (arcFits n) arcs (and-right (leb n 255 && leb (length arcs) 4096 && eqb amounts (length arcs)) (all (arcFits n) arcs) t);
     }
 
 pub record Solvable (arcs : List ℕ) (amounts potentials n needs keys : ℕ) : Type 0 where

@@ -1,16 +1,30 @@
--- What loops over a list reach: a list that was written from its front or set to 0, and the test of every entry.
+-- What loops over a list reach: an entry that was stored, a list that was written from its front or set to 0, and the test of every entry.
 -- Assumes nothing.
-use mathlib.Core.Path.{_≡_, refl, sym, _∙_, ap}
+use mathlib.Core.Path.{_≡_, refl, sym, _∙_, ap, subst}
 use mathlib.Core.Bool.{Bool, true, false, _&&_}
-use mathlib.Core.List.{List}
-use Prim.Native.Nat.{ℕ, suc, _+_, _≤_, _<_}
+use mathlib.Core.List.{List, [], _∷_}
+use mathlib.Core.Logic.{_⊎_, inl, inr, _≢_}
+use Prim.Native.Nat.{ℕ, zero, suc, _+_, _≤_, _<_}
+use native.Mathlib.Decide.{ℕ-discrete}
 use native.Mathlib.Numerals.{add-one}
 use native.Mathlib.Omega.{arith}
+use lib.Dec.{T}
 use lib.ListN.{length, getD, set, drop, drop-of-length-le, length-replicate, getD-replicate}
-use lib.Seq.{drop-cons, ext-getD}
+use lib.Seq.{drop-cons, ext-getD, getD-set-same, getD-set-other}
 use Rattle.prelude.specs.Lists.{all}
+use Rattle.prelude.proofs.Booleans.{and-left, and-right}
 use Rattle.prelude.proofs.Filling.{Filling, fill-start, fill-turn}
-use Rattle.packed_arcs.specs.Entries.{zeroList}
+use Rattle.packed_arcs.specs.Entries.{entry, zeroList}
+
+-- ---- an entry that was stored
+
+-- what stands at w after a store at v
+pub set-cases : (l : List ℕ) (v k w : ℕ) → v < length l → ((w ≡ v) × (entry (set l v k) w ≡ k)) ⊎ ((w ≢ v) × (entry (set l v k) w ≡ entry l w))
+set-cases l v k w h = go (ℕ-discrete w v)
+  where
+    go : Dec (w ≡ v) → ((w ≡ v) × (entry (set l v k) w ≡ k)) ⊎ ((w ≢ v) × (entry (set l v k) w ≡ entry l w))
+    go (yes e) = inl (e, subst (λ (j : ℕ). entry (set l v k) j ≡ k) (sym e) (getD-set-same l v k 0 h))
+    go (no n) = inr (n, getD-set-other l v w k 0 n)
 
 -- ---- a list that was written from its front
 
@@ -54,3 +68,9 @@ module _ (p : ℕ → Bool) (l : List ℕ) where
 
   pub all-end : (e : ℕ) → length l ≤ e → Undecided e → true ≡ all p l
   all-end e h q = sym (ap (λ (m : List ℕ). all p m) (drop-of-length-le l h)) ∙ q
+
+-- where every entry passes, each one does
+pub each-entry : (p : ℕ → Bool) (l : List ℕ) → T (all p l) → (e : ℕ) → e < length l → T (p (entry l e))
+each-entry p [] t e h = absurd (omega arith)
+each-entry p (a ∷ l) t zero h = and-left (p a) (all p l) t
+each-entry p (a ∷ l) t (suc e) h = each-entry p l (and-right (p a) (all p l) t) e (omega arith)

@@ -1,0 +1,150 @@
+-- What the steps of the search keep: an index of the arcs by head, a path of vertices without a rank, and ranks given one after the other.
+-- Assumes nothing.
+use mathlib.Core.Path.{_≡_}
+use mathlib.Core.Logic.{_≢_}
+use mathlib.Core.List.{List, [], _∷_}
+use Prim.Native.Nat.{ℕ, zero, suc, _+_, _-_, _<_, _≤_}
+use lib.ListN.{length, set}
+use Rattle.network.specs.Limits.{mostVertices, mostArcs}
+use Rattle.packed_arcs.specs.Entries.{entry, zeroList}
+use Rattle.acyclicity.specs.Search.{Ordered, Circulates}
+use Rattle.acyclicity.specs.declared.Found.{Found}
+use Rattle.acyclicity.specs.declared.Found.the-variants.{Order, Cycle, Refused}
+
+-- How many entries are 0.
+unfoldable pub zeros : List ℕ → ℕ
+zeros [] = 0
+zeros (zero ∷ l) = 1 + zeros l
+zeros (suc a ∷ l) = zeros l
+
+-- Few enough arcs between few enough vertices, 0 to n - 1. An arc may lead from a vertex to itself, and two arcs may join the same vertices.
+pub record Arcs (n : ℕ) (tails heads : List ℕ) : Type 0 where
+  pub vertices : n ≤ mostVertices
+  pub few : length tails ≤ mostArcs
+  pub heads-len : length heads ≡ length tails
+  pub tails-below : (e : ℕ) → e < length tails → entry tails e < n
+  pub heads-below : (e : ℕ) → e < length tails → entry heads e < n
+
+-- ---- the index
+
+-- A place k names the arc k - 1, or none where it is 0. It is at most the bound, and the arc enters v.
+pub record Points (heads : List ℕ) (v k bound : ℕ) : Type 0 where
+  pub within : k ≤ bound
+  pub here : 0 < k → entry heads (k - 1) ≡ v
+
+-- For each arc below k the place of the last one before it with the same head.
+pub record Next (heads next : List ℕ) (k : ℕ) : Type 0 where
+  pub len : length next ≡ length heads
+  pub points : (e : ℕ) → e < k → Points heads (entry heads e) (entry next e) e
+  pub all : (e d : ℕ) → e < k → d < e → entry heads d ≡ entry heads e → d < entry next e
+
+-- The index of the arcs below k: for each of the n vertices the place of the last arc that enters it.
+pub record Index (heads next into : List ℕ) (n k : ℕ) : Type 0 where
+  pub within : k ≤ length heads
+  pub into-len : length into ≡ n
+  pub chain : Next heads next k
+  pub points : (v : ℕ) → v < n → Points heads v (entry into v) k
+  pub all : (e : ℕ) → e < k → e < entry into (entry heads e)
+
+-- Arcs, and for each of them the place of the last one before it with the same head.
+pub record Chained (n : ℕ) (tails heads next : List ℕ) : Type 0 where
+  pub arcs : Arcs n tails heads
+  pub chain : Next heads next (length tails)
+
+-- ---- places that move on
+
+-- Each vertex has the place of an arc into it, and no arc into it past that place comes from a vertex without a rank.
+pub record Watch (tails heads ranks into : List ℕ) : Type 0 where
+  pub len : length into ≡ length ranks
+  pub points : (v : ℕ) → v < length ranks → Points heads v (entry into v) (length tails)
+  pub all : (e : ℕ) → e < length tails → entry ranks (entry tails e) ≡ 0 → e < entry into (entry heads e)
+
+-- The place of v moved on, and no other.
+pub record Moved (tails heads ranks into : List ℕ) (v : ℕ) (into' : List ℕ) : Type 0 where
+  pub watch : Watch tails heads ranks into'
+  pub others : (u : ℕ) → u ≢ v → entry into' u ≡ entry into u
+
+-- The place k of v is now 0, or that of an arc from a vertex without a rank.
+pub record Looked (tails heads ranks into : List ℕ) (v : ℕ) (into' : List ℕ) (k : ℕ) : Type 0 where
+  pub moved : Moved tails heads ranks into v into'
+  pub place : k ≡ entry into' v
+  pub from : 0 < k → entry ranks (entry tails (k - 1)) ≡ 0
+
+-- ---- the path
+
+-- The place k names an arc from w.
+pub record LeadsFrom (tails : List ℕ) (k w : ℕ) : Type 0 where
+  pub some : 0 < k
+  pub tail : entry tails (k - 1) ≡ w
+
+-- A path of len of the n vertices: path[i] is the vertex at i, and spot[v] is i + 1 for it, and 0 for a vertex off the path. The arc at the place of a
+-- vertex on the path leads to it from the vertex after it.
+pub record Path (n : ℕ) (tails into path spot : List ℕ) (len : ℕ) : Type 0 where
+  pub path-len : length path ≡ n
+  pub spot-len : length spot ≡ n
+  pub count : len + zeros spot ≡ n
+  pub vertex : (i : ℕ) → i < len → entry path i < n
+  pub spots : (i : ℕ) → i < len → entry spot (entry path i) ≡ i + 1
+  pub joined : (i : ℕ) → i + 1 < len → LeadsFrom tails (entry into (entry path i)) (entry path (i + 1))
+  pub within : (v : ℕ) → entry spot v ≤ len
+  pub back : (v : ℕ) → 0 < entry spot v → entry path (entry spot v - 1) ≡ v
+
+-- The places, and a path of vertices without a rank.
+pub record Searching (tails heads ranks into path spot : List ℕ) (len : ℕ) : Type 0 where
+  pub watch : Watch tails heads ranks into
+  pub on-path : Path (length ranks) tails into path spot len
+  pub unranked : (i : ℕ) → i < len → entry ranks (entry path i) ≡ 0
+
+-- The vertex v was put at the end of a path of len vertices.
+pub record Pushed (v len : ℕ) (path spot path' spot' : List ℕ) (r : ℕ) : Type 0 where
+  pub path-set : path' ≡ set path len v
+  pub spot-set : spot' ≡ set spot v (len + 1)
+  pub longer : r ≡ len + 1
+
+-- The path as it was, or the root on it where it was empty.
+pub data Started (root len : ℕ) (path spot path' spot' : List ℕ) (r : ℕ) : Type 0 where
+  kept : 0 < len → path' ≡ path → spot' ≡ spot → r ≡ len → Started root len path spot path' spot' r
+  started : len ≡ 0 → Pushed root 0 path spot path' spot' r → Started root len path spot path' spot' r
+
+-- The path cannot grow: no arc enters its last vertex from a vertex without a rank, or one does from a vertex on the path.
+pub record Climbed (tails heads ranks into path spot : List ℕ) (len : ℕ) : Type 0 where
+  pub searching : Searching tails heads ranks into path spot len
+  pub some : 0 < len
+  pub closes : 0 < entry into (entry path (len - 1)) → 0 < entry spot (entry tails (entry into (entry path (len - 1)) - 1))
+
+-- A path of some of the n vertices whose last vertex is entered from one on the path.
+pub record Closed (n : ℕ) (tails heads into path spot : List ℕ) (len : ℕ) : Type 0 where
+  pub into-len : length into ≡ n
+  pub points : (v : ℕ) → v < n → Points heads v (entry into v) (length tails)
+  pub on-path : Path n tails into path spot len
+  pub some : 0 < len
+  pub taken : 0 < entry into (entry path (len - 1))
+  pub closes : 0 < entry spot (entry tails (entry into (entry path (len - 1)) - 1))
+
+-- ---- ranks
+
+-- r vertices have a rank, 1 to r, and the rank of the others is 0. The tail of an arc to a vertex with a rank has a lower one.
+pub record Ranking (tails heads ranks : List ℕ) (r : ℕ) : Type 0 where
+  pub low : (v : ℕ) → entry ranks v ≤ r
+  pub ranked : (e : ℕ) → e < length tails → 0 < entry ranks (entry heads e) → 0 < entry ranks (entry tails e)
+  pub rises : (e : ℕ) → e < length tails → 0 < entry ranks (entry heads e) → entry ranks (entry tails e) < entry ranks (entry heads e)
+  pub count : r + zeros ranks ≡ length ranks
+
+-- Every vertex below v has a rank.
+abbrev pub Passed : List ℕ → ℕ → Type 0
+Passed ranks v = (u : ℕ) → u < v → 0 < entry ranks u
+
+-- v is the first vertex without a rank, or no vertex is without.
+pub record FirstUnranked (ranks : List ℕ) (v : ℕ) : Type 0 where
+  pub passed : Passed ranks v
+  pub none : v < length ranks → entry ranks v ≡ 0
+
+-- An order, where no vertex is left on the path; or a path that closes.
+pub record Searched (tails heads ranks into path spot : List ℕ) (len : ℕ) : Type 0 where
+  pub order : len ≡ 0 → Ordered tails heads ranks
+  pub cycle : 0 < len → Closed (length ranks) tails heads into path spot len
+
+-- What comes of it: an order, and the marks as they were; or a cycle, and ranks 0.
+pub data Decided (tails heads ranks marks ranks' marks' : List ℕ) : Found → Type 0 where
+  ordered : Ordered tails heads ranks' → marks' ≡ marks → Decided tails heads ranks marks ranks' marks' Order
+  cyclic : ranks' ≡ zeroList (length ranks) → Circulates tails heads marks' → Decided tails heads ranks marks ranks' marks' Cycle
