@@ -3,17 +3,16 @@
 use mathlib.Core.Path.{_≡_, refl, sym, _∙_, ap, subst}
 use mathlib.Core.Logic.{⊎-elim}
 use mathlib.Core.List.{List, [], _∷_}
-use Prim.Native.Nat.{ℕ, zero, suc, _+_, _*_, _-_, _<_, _≤_}
+use Prim.Native.Nat.{ℕ, zero, suc, _+_, _-_, _<_, _≤_}
 use native.Mathlib.Decide.{decLt, ℕ-discrete}
 use native.Mathlib.Omega.{arith}
 use lib.ListN.{length, set, length-set, length-replicate}
-use lib.Seq.{getD-set-same}
 use Rattle.network.specs.Network.{delta}
 use Rattle.packed_arcs.specs.Entries.{entry, zeroList}
 use Rattle.packed_arcs.proofs.LentParts.{zero-at}
 use Rattle.packed_arcs.proofs.ListLoops.{set-cases}
 use Rattle.acyclicity.specs.Search.{marksAt, Circulates}
-use Rattle.acyclicity.specs.Steps.{Arcs, Points, LeadsFrom, Path, Closed}
+use Rattle.acyclicity.specs.Steps.{Arcs, Points, Path, Closed}
 
 -- ---- marks at a vertex
 

@@ -18,7 +18,7 @@ use Rattle.acyclicity.specs.Search.{tailsOf, headsOf, joinsBelow, search
 use Rattle.acyclicity.specs.Steps.{Arcs, Closed, Decided}
 use Rattle.acyclicity.specs.Steps.Decided.{ordered, cyclic}
 use Rattle.acyclicity.specs.declared.Found.{Found}
-use Rattle.acyclicity.specs.declared.Found.the-variants.{Order, Cycle, Refused}
+use Rattle.acyclicity.specs.declared.Found.the-variants.{Refused}
 use Rattle.acyclicity.proofs.Columns.{tails-len, heads-len, tail-is, head-is}
 
 -- ---- lists of zeros, and as many vertices

@@ -1,18 +1,18 @@
 -- The search step by step: the path grows, and its last vertex gets the next rank.
 -- Assumes nothing.
-use mathlib.Core.Path.{_≡_, refl, sym, _∙_, ap, subst}
-use mathlib.Core.Logic.{_≢_, ⊎-elim}
+use mathlib.Core.Path.{_≡_, sym, _∙_, ap, subst}
+use mathlib.Core.Logic.{⊎-elim}
 use mathlib.Core.List.{List}
-use Prim.Native.Nat.{ℕ, zero, suc, _+_, _-_, _<_, _≤_}
-use native.Mathlib.Decide.{ℕ-discrete, decLt}
+use Prim.Native.Nat.{ℕ, _+_, _-_, _<_, _≤_}
+use native.Mathlib.Decide.{decLt}
 use native.Mathlib.Omega.{arith}
 use lib.ListN.{length, set, length-set}
 use lib.Seq.{getD-set-other}
 use Rattle.packed_arcs.specs.Entries.{entry, zeroList}
 use Rattle.packed_arcs.proofs.LentParts.{zero-at}
 use Rattle.packed_arcs.proofs.ListLoops.{set-cases}
-use Rattle.acyclicity.specs.Search.{tailsOf, headsOf, Ordered}
-use Rattle.acyclicity.specs.Steps.{zeros, Arcs, Points, Index, Chained, Watch, Looked, LeadsFrom, Path, Searching, Pushed, Started, Climbed, Closed, Ranking, Passed, FirstUnranked, Searched}
+use Rattle.acyclicity.specs.Search.{tailsOf, headsOf}
+use Rattle.acyclicity.specs.Steps.{zeros, Arcs, Points, Index, Chained, Looked, LeadsFrom, Path, Searching, Pushed, Started, Climbed, Ranking, Passed, Searched}
 use Rattle.acyclicity.specs.Steps.Started.{kept, started}
 use Rattle.acyclicity.proofs.Columns.{zeros-all, zeros-fewer, tails-len}
 use Rattle.acyclicity.proofs.Paths.{path-none, path-moved, has-room, path-longer, path-shorter, not-last}
@@ -60,7 +60,7 @@ pub record TopLooked (rs next ranks into path spot into' : List ℕ) (len v k : 
   pub looked : Looked (tailsOf rs) (headsOf rs) ranks into v into' k
 
 -- what the code asks of the arc there
-pub record AtTop (rs ranks path spot : List ℕ) (len k : ℕ) : Type 0 where
+pub record AtTop (rs ranks spot : List ℕ) (k : ℕ) : Type 0 where
   pub arc : k - 1 < length rs
   pub tail : entry (tailsOf rs) (k - 1) < length ranks
   pub small : length ranks ≤ 255
@@ -91,7 +91,7 @@ module _ {rs next ranks into path spot into' : List ℕ} {len v k : ℕ} (T : To
     arc-below : k - 1 < length tails
     arc-below = omega (arith, place, moved-on .watch .points (entry path (len - 1)) (moved-on .on-path .vertex (len - 1) (omega (arith, T .some))) .within)
 
-    pub at-top : AtTop rs ranks path spot len k
+    pub at-top : AtTop rs ranks spot k
     at-top =
         let tail : entry tails (k - 1) < length ranks = T .chained .arcs .tails-below (k - 1) arc-below in
         record {
@@ -112,6 +112,13 @@ module _ {rs next ranks into path spot into' : List ℕ} {len v k : ℕ} (T : To
 
 -- ---- the next rank
 
+-- r of the n vertices have a rank, and every vertex below the root
+pub record Progress (n : ℕ) (tails heads ranks into path spot : List ℕ) (r root len : ℕ) : Type 0 where
+  pub size : length ranks ≡ n
+  pub searching : Searching tails heads ranks into path spot len
+  pub ranking : Ranking tails heads ranks r
+  pub passed : Passed ranks root
+
 -- the last vertex v of the path, which no arc enters from a vertex without a rank, gets the rank r + 1
 module _ {tails heads ranks into path spot : List ℕ} {len r : ℕ} (A : Arcs (length ranks) tails heads) (C : Climbed tails heads ranks into path spot len)
     (R : Ranking tails heads ranks r) (v : ℕ) (last : v ≡ entry path (len - 1)) (free : entry into v ≤ 0) where
@@ -124,7 +131,7 @@ module _ {tails heads ranks into path spot : List ℕ} {len r : ℕ} (A : Arcs (
   at-end : len - 1 < len
   at-end = omega (arith, C .some)
 
-  pub vertex : v < length ranks
+  vertex : v < length ranks
   vertex = omega (arith, S .on-path .vertex (len - 1) at-end)
 
   none : entry ranks v ≡ 0
@@ -133,8 +140,11 @@ module _ {tails heads ranks into path spot : List ℕ} {len r : ℕ} (A : Arcs (
   len₁ : length ranks₁ ≡ length ranks
   len₁ = length-set ranks v (r + 1)
 
-  pub fewer-left : zeros ranks₁ + 1 ≡ zeros ranks
+  fewer-left : zeros ranks₁ + 1 ≡ zeros ranks
   fewer-left = zeros-fewer ranks v (r + 1) vertex none (omega arith)
+
+  pub one-left : r < length ranks
+  one-left = omega (arith, fewer-left, R .count)
 
   -- a rank that was given stays
   stays : (u : ℕ) → 0 < entry ranks u → entry ranks₁ u ≡ entry ranks u
@@ -157,7 +167,7 @@ module _ {tails heads ranks into path spot : List ℕ} {len r : ℕ} (A : Arcs (
       (λ p. let was : 0 < entry ranks (entry heads d) = omega (arith, p .1) in (R .ranked d h was, omega (arith, p .1, R .rises d h was)))
       (set-cases ranks v (r + 1) (entry heads d) vertex)
 
-  pub ranking-more : Ranking tails heads ranks₁ (r + 1)
+  ranking-more : Ranking tails heads ranks₁ (r + 1)
   ranking-more = record {
     low = λ u. ⊎-elim (λ p. omega (arith, p .1)) (λ p. omega (arith, p .1, R .low u)) (set-cases ranks v (r + 1) u vertex);
     ranked = λ d h l. let t = tail-before d h l in omega (arith, t .0, stays (entry tails d) (t .0));
@@ -165,10 +175,7 @@ module _ {tails heads ranks into path spot : List ℕ} {len r : ℕ} (A : Arcs (
     count = omega (arith, R .count, fewer-left, len₁);
   }
 
-  pub passed-more : (w : ℕ) → Passed ranks w → Passed ranks₁ w
-  passed-more w p u h = omega (arith, p u h, stays u (p u h))
-
-  pub searching-given : Searching tails heads ranks₁ into path (set spot v 0) (len - 1)
+  searching-given : Searching tails heads ranks₁ into path (set spot v 0) (len - 1)
   searching-given = record {
     watch = record {
       len = S .watch .len ∙ sym len₁;
@@ -184,14 +191,15 @@ module _ {tails heads ranks into path spot : List ℕ} {len r : ℕ} (A : Arcs (
       before : (u : ℕ) → entry ranks₁ u ≡ 0 → entry ranks u ≡ 0
       before u q = ⊎-elim (λ p. absurd (omega (arith, p .1))) (λ p. sym (p .1) ∙ q) (set-cases ranks v (r + 1) u vertex)
 
--- ---- turn by turn
+  pub progress-more : {n root : ℕ} → length ranks ≡ n → Passed ranks root → Progress n tails heads ranks₁ into path (set spot v 0) (r + 1) root (len - 1)
+  progress-more q p = record {
+    size = len₁ ∙ q;
+    searching = searching-given;
+    ranking = ranking-more;
+    passed = λ u h. omega (arith, p u h, stays u (p u h));
+  }
 
--- r of the n vertices have a rank, and every vertex below the root
-pub record Progress (n : ℕ) (tails heads ranks into path spot : List ℕ) (r root len : ℕ) : Type 0 where
-  pub size : length ranks ≡ n
-  pub searching : Searching tails heads ranks into path spot len
-  pub ranking : Ranking tails heads ranks r
-  pub passed : Passed ranks root
+-- ---- turn by turn
 
 pub arcs-as : {n n' : ℕ} {tails heads : List ℕ} → n' ≡ n → Arcs n tails heads → Arcs n' tails heads
 arcs-as {n} {n'} {tails} {heads} q A = subst (λ (k : ℕ). Arcs k tails heads) (sym q) A

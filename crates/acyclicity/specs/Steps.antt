@@ -9,7 +9,7 @@ use Rattle.network.specs.Limits.{mostVertices, mostArcs}
 use Rattle.packed_arcs.specs.Entries.{entry, zeroList}
 use Rattle.acyclicity.specs.Search.{Ordered, Circulates}
 use Rattle.acyclicity.specs.declared.Found.{Found}
-use Rattle.acyclicity.specs.declared.Found.the-variants.{Order, Cycle, Refused}
+use Rattle.acyclicity.specs.declared.Found.the-variants.{Order, Cycle}
 
 -- How many entries are 0.
 unfoldable pub zeros : List ℕ → ℕ

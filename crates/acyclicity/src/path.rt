@@ -1,8 +1,8 @@
 // The path of the search, backward along arcs: path[i] is its vertex at i, and spot[v] is i + 1 for that vertex, and 0 for a vertex off the path.
 // The arc at the place into[v] of a vertex on the path leads to it from the vertex after it.
 ghost use mathlib.Core.Path.{_≡_};
-ghost use Prim.Native.Nat.{_+_, _<_};
-ghost use lib.ListN.{length, set};
+ghost use Prim.Native.Nat.{_<_};
+ghost use lib.ListN.{length};
 ghost use Rattle.packed_arcs.specs.Entries.{entry};
 ghost use Rattle.acyclicity.specs.Search.{tailsOf, headsOf};
 ghost use Rattle.acyclicity.specs.Steps.{Chained, Watch, Looked, Searching, Pushed, Started, Climbed};

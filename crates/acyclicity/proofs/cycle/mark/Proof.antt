@@ -4,7 +4,6 @@ use mathlib.Core.Path.{_≡_, refl, _∙_, sym, ap}
 use Prim.Native.Nat.{ℕ, _-_, _<_}
 use native.Mathlib.Omega.{arith}
 use lib.ListN.{length, length-replicate}
-use borrow.Author.Needs.{needs}
 use Rattle.packed_arcs.specs.Entries.{entry, zeroList}
 use Rattle.acyclicity.specs.Search.{tailsOf, headsOf}
 use Rattle.acyclicity.proofs.Columns.{tails-len}
@@ -69,7 +68,7 @@ mark-spec =
     (λ c κs. omega (arith, c .place .ensures, at-top (c .before .before .before .before .before .before .before .before)))
     (λ c. omega (arith, at-closing c))
     (λ c. at-closing (c .before) .inside)
-    (λ c. at-closing (c .before) .some)
+    (λ c. omega (arith, at-closing (c .before)))
     loop-holds
     (λ c. omega (arith, here c))
     (λ c. here (c .before) .inside)

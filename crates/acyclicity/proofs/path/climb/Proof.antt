@@ -1,10 +1,9 @@
 -- `acyclicity::path::climb` meets its contract. The loop's invariant: a path of vertices without a rank, that is not empty. There is room for one vertex fewer at each turn.
 -- Assumes nothing.
-use mathlib.Core.Path.{_≡_, refl, _∙_, sym, subst}
-use Prim.Native.Nat.{ℕ, _-_, _<_, _≤_}
+use mathlib.Core.Path.{refl, _∙_, sym, ap}
+use Prim.Native.Nat.{_-_, _<_}
 use native.Mathlib.Omega.{arith}
 use lib.ListN.{length}
-use borrow.Author.Needs.{needs}
 use Rattle.packed_arcs.specs.Entries.{entry}
 use Rattle.acyclicity.specs.Search.{tailsOf, headsOf}
 use Rattle.acyclicity.specs.Steps.{Searching}
@@ -43,11 +42,11 @@ here c =
     let l = c .before .before .before .loop in
     record { chained = s .pre .0; searching = l .inv .0; some = l .inv .1; last = refl; looked = c .look .ensures }
 
-found : (c : tie.After-tail-at Inv-loop μ-loop) → AtTop (c .before .before .before .before .before .before .before .before .before .before .before .before .before .before .before .before .before .before .before .before .before .args .records .now) (c .before .before .before .before .before .before .before .before .before .before .before .before .before .before .before .before .before .before .before .before .before .args .ranks .now) (c .before .before .before .before .before .before .before .loop .path) (c .before .before .before .before .before .before .before .loop .spot) (c .before .before .before .before .before .before .before .loop .len) (c .before .before .before .before .look .result)
+found : (c : tie.After-tail-at Inv-loop μ-loop) → AtTop (c .before .before .before .before .before .before .before .before .before .before .before .before .before .before .before .before .before .before .before .before .before .args .records .now) (c .before .before .before .before .before .before .before .before .before .before .before .before .before .before .before .before .before .before .before .before .before .args .ranks .now) (c .before .before .before .before .before .before .before .loop .spot) (c .before .before .before .before .look .result)
 found c = at-top (here (c .before .before .before .before)) (omega (arith, c .before .if1 .left))
 
 returns-2 : tie.Need-returns-2 Inv-loop μ-loop
-returns-2 c = climbed (here (c .before .before .before .before .before .before)) (λ h. subst (λ (w : ℕ). 0 < entry (c .before .before .before .before .before .before .before .before .before .loop .spot) w) (c .before .before .tail-at .ensures) (c .if2 .taken))
+returns-2 c = climbed (here (c .before .before .before .before .before .before)) (λ h. omega (arith, ap (entry (c .before .before .before .before .before .before .before .before .before .loop .spot)) (c .before .before .tail-at .ensures), c .if2 .taken))
 
 push-requires : tie.Need-push-requires Inv-loop μ-loop
 push-requires c κs =

@@ -1,7 +1,7 @@
 -- `acyclicity::path::look` meets its contract. The loop's invariant: only the place of v moved. The measure is that place, which falls.
 -- Assumes nothing.
-use mathlib.Core.Path.{_≡_, _∙_, sym, ap}
-use Prim.Native.Nat.{ℕ, _-_, _<_, _≤_}
+use mathlib.Core.Path.{_∙_, sym, ap}
+use Prim.Native.Nat.{_-_}
 use native.Mathlib.Omega.{arith}
 use borrow.Author.Needs.{needs}
 use Rattle.packed_arcs.specs.Entries.{entry}

@@ -1,14 +1,14 @@
 -- `acyclicity::ranking::rank_all` meets its contract. The loop's invariant: r vertices have a rank, and those on the path have none. Each turn gives one.
 -- Assumes nothing.
-use mathlib.Core.Path.{_≡_, refl, _∙_, sym, subst}
-use Prim.Native.Nat.{ℕ, _+_, _-_}
+use mathlib.Core.Path.{refl, sym, subst}
+use Prim.Native.Nat.{ℕ, _-_}
 use native.Mathlib.Omega.{arith}
-use lib.ListN.{length, length-set}
+use lib.ListN.{length}
 use Rattle.packed_arcs.specs.Entries.{entry}
 use Rattle.acyclicity.specs.Search.{tailsOf, headsOf}
-use Rattle.acyclicity.specs.Steps.{zeros, Arcs, Next, Searching, Climbed}
+use Rattle.acyclicity.specs.Steps.{Arcs, Next, Searching}
 use Rattle.acyclicity.proofs.Columns.{tails-len}
-use Rattle.acyclicity.proofs.Rankings.{Progress, AtLast, at-last, SameLengths, same-lengths, arcs-as, searching-none, ranking-none, searched-all, searched-closed, ranking-more, passed-more, searching-given, fewer-left}
+use Rattle.acyclicity.proofs.Rankings.{Progress, AtLast, at-last, SameLengths, same-lengths, arcs-as, searching-none, ranking-none, searched-all, searched-closed, one-left, progress-more}
 use Rattle.acyclicity.proofs.ranking.rank_all.Statement.{statement}
 use Rattle.acyclicity.proofs.ranking.rank_all.Tie as tie
 
@@ -17,7 +17,7 @@ Inv-loop records next ranks₀ into₀ path₀ spot₀ r₀ root₀ len₀ ranks
     Progress (length ranks₀) (tailsOf records) (headsOf records) ranks into path spot r root len
 
 abbrev μ-loop : tie.MeasureT-loop
-μ-loop records next ranks₀ into₀ path₀ spot₀ r₀ root₀ len₀ ranks into path spot r root len = zeros ranks
+μ-loop records next ranks₀ into₀ path₀ spot₀ r₀ root₀ len₀ ranks into path spot r root len = length ranks₀ - r
 
 at-first : (s : tie.Start Inv-loop μ-loop)
     → let a = s .args in Searching (tailsOf (a .records .now)) (headsOf (a .records .now)) (a .ranks .now) (a .into .now) (a .path .now) (a .spot .now) 0
@@ -61,21 +61,14 @@ lengths-after : (c : tie.After-climb Inv-loop μ-loop)
 lengths-after c = same-lengths (c .before .before .before .before .before .before .before .before .loop .inv .size) (c .climb .ensures .searching) (at-first (c .before .before .before .before .before .before .before .before .before .before .before .before .before .before .before))
 
 loop-less : tie.Need-loop-less Inv-loop μ-loop
-loop-less c = let l = c .before .before .before .before .before .before .before .before .before .before .before .before .before .before .before .before .before .loop in omega (arith, fewer-left (arcs (c .before .before .before .before .before .before .before .before .before .before .before .before .before .before .before .before .before)) (c .before .before .before .before .before .before .before .before .before .climb .ensures) (l .inv .ranking) _ refl (c .if2 .left))
+loop-less c =
+    let l = c .before .before .before .before .before .before .before .before .before .before .before .before .before .before .before .before .before .loop in
+    omega (arith, one-left (arcs (c .before .before .before .before .before .before .before .before .before .before .before .before .before .before .before .before .before)) (c .before .before .before .before .before .before .before .before .before .climb .ensures) (l .inv .ranking) _ refl (c .if2 .left), l .inv .size)
 
 loop-again : tie.Need-loop-again Inv-loop μ-loop
 loop-again c =
     let l = c .before .before .before .before .before .before .before .before .before .before .before .before .before .before .before .before .before .loop in
-    let A = arcs (c .before .before .before .before .before .before .before .before .before .before .before .before .before .before .before .before .before) in
-    let C = c .before .before .before .before .before .before .before .before .before .climb .ensures in
-    let R = l .inv .ranking in
-    let free = c .if2 .left in
-    record {
-      size = length-set (l .ranks) _ (l .r + 1) ∙ l .inv .size;
-      searching = searching-given A C R _ refl free;
-      ranking = ranking-more A C R _ refl free;
-      passed = passed-more A C R _ refl free _ (c .before .before .before .before .before .before .before .before .before .before .before .before .before .before .before .first-unranked .ensures .passed);
-    }
+    progress-more (arcs (c .before .before .before .before .before .before .before .before .before .before .before .before .before .before .before .before .before)) (c .before .before .before .before .before .before .before .before .before .climb .ensures) (l .inv .ranking) _ refl (c .if2 .left) (l .inv .size) (c .before .before .before .before .before .before .before .before .before .before .before .before .before .before .before .first-unranked .ensures .passed)
 
 pub rank-all-spec : {M : Type 1} → statement M
 rank-all-spec =
