@@ -45,4 +45,5 @@ fn main() {
     question(&input[..n], 1);
     question(&input[..n], 2);
     question(&input[..n], 3);
+    question(&input[..n], 4);
 }

@@ -44,8 +44,11 @@ pub fn next(c: Case, f: &Files, e: usize) -> usize {
     m
 }
 
-// Is an annotation that was right still right if a basin of weight w carries x?
+// Is an annotation that was right still right if a basin of weight w carries x? Where loops are asked for it shows one by itself.
 fn may_carry(c: Case, w: usize, x: usize) -> bool {
+    if c.question == 4 {
+        return x == 1;
+    }
     if c.question == 2 {
         return x <= w;
     }

@@ -1,5 +1,5 @@
 // Where each thing is counted, after what is counted of every network, and how it is shown. The names are a list on standard input: the
-// three questions, what is counted of the networks, what is counted of twists, and the kinds of twists.
+// four questions, what is counted of the networks, what is counted of twists, and the kinds of twists.
 use super::twists::KINDS;
 use testing::print;
 use testing::tally::NETWORKS;
@@ -17,8 +17,8 @@ pub const TWISTED: usize = 16;
 // What came of one kind of twist.
 fn kind(names: &[u8], k: u32, tally: &Tally) {
     print::text(b"  ");
-    print::name(names, std::num::wrapping_add_u32(12, k));
-    print::counts(names, 9, 3, tally, TWISTED + 3 * (k as usize));
+    print::name(names, std::num::wrapping_add_u32(13, k));
+    print::counts(names, 10, 3, tally, TWISTED + 3 * (k as usize));
 }
 
 fn kinds(names: &[u8], tally: &Tally) {
@@ -32,6 +32,6 @@ fn kinds(names: &[u8], tally: &Tally) {
 // Sums up the networks of one question.
 pub fn show(names: &[u8], question: u32, tally: &Tally) {
     print::name(names, std::num::wrapping_sub_u32(question, 1));
-    print::counts(names, 3, 6, tally, NETWORKS);
+    print::counts(names, 4, 6, tally, NETWORKS);
     kinds(names, tally);
 }

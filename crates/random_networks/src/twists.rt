@@ -5,7 +5,10 @@ use super::annotations::record_at;
 use super::places::Case;
 use super::self_loops;
 use reference::random::below;
+use reference::rows::head;
+use reference::rows::tail;
 use reference::rows::weight;
+use testing::answers::NONE;
 use testing::files::Files;
 use testing::files::START;
 use testing::files::get;
@@ -115,12 +118,15 @@ fn same_records(kind: usize, f: &mut Files, at: usize, from: usize) -> bool {
     two_weights(f, at, from)
 }
 
-// The same; what has to come of it.
-fn with_other(kind: usize, f: &mut Files, at: usize, from: usize) -> usize {
-    if same_records(kind, f, at, from) {
-        return EITHER;
+// The same; what has to come of it. Two weights may be exchanged where loops are asked for, since they mean nothing there.
+fn with_other(kind: usize, c: Case, f: &mut Files, at: usize, from: usize) -> usize {
+    if !same_records(kind, f, at, from) {
+        return REFUSED;
     }
-    REFUSED
+    if c.question == 4 {
+        return RIGHT;
+    }
+    EITHER
 }
 
 // The amount that a basin of weight w is given, by the round: 1, its weight, or one more.
@@ -132,9 +138,17 @@ fn filling(round: usize, w: usize) -> usize {
     }
 }
 
+// The weight that the amounts of a basin go by; 1 for loops, where weights mean nothing.
+fn room(c: Case, r: usize) -> usize {
+    if c.question == 4 {
+        return 1;
+    }
+    weight(r)
+}
+
 // Gives a basin an amount.
-fn fill(f: &mut Files, at: usize, round: usize) {
-    let w = weight(number(f, at, 4));
+fn fill(c: Case, f: &mut Files, at: usize, round: usize) {
+    let w = room(c, number(f, at, 4));
     put_number(f, plus(at, 4), 2, filling(round, w));
 }
 
@@ -144,6 +158,53 @@ fn with_amount(c: Case, f: &Files, at: usize) -> usize {
         return RIGHT;
     }
     REFUSED
+}
+
+// Gives the first basin from record e on an amount; what has to come of it.
+fn filled(round: usize, c: Case, f: &mut Files, e: usize) -> usize {
+    let at = record_at(c.n, self_loops::next(c, f, e));
+    fill(c, f, at, round);
+    with_amount(c, f, at)
+}
+
+// Is a basin given an amount? Where loops are asked for, one whose amount is to change is too: if 1 were taken off, that might have been the
+// only loop that was shown.
+fn fills(kind: usize, c: Case, f: &Files, e: usize) -> bool {
+    if kind == 0 && c.question == 4 {
+        return self_loops::next(c, f, e) == e;
+    }
+    kind == SELF_LOOP_FILLED
+}
+
+// Gives the head of a record the node number of its tail.
+fn level(f: &mut Files, at: usize) {
+    let r = number(f, at, 4);
+    let y = number(f, number_at(tail(r)), 4);
+    put_number(f, number_at(head(r)), 4, y);
+}
+
+// The highest node number or the lowest, by turns.
+fn extreme(round: usize) -> usize {
+    if round % 2 == 0 {
+        return 8322818;
+    }
+    4286644478
+}
+
+// Changes a node number where loops are asked for; what has to come of it. With a loop all have to be 0. Else the highest is right where
+// no record leaves the vertex, and the lowest where none enters it; and a record whose ends have the same does not rise.
+fn ranked(round: usize, c: Case, f: &mut Files) -> usize {
+    let at = number_at(below(c.n, c.seed, round, 7));
+    if c.answer == NONE {
+        put_number(f, at, 4, plus(round, 1));
+        return REFUSED;
+    }
+    if round == 2 && c.m != 0 {
+        level(f, record_at(c.n, chosen(c, round)));
+        return REFUSED;
+    }
+    put_number(f, at, 4, extreme(round));
+    EITHER
 }
 
 // Changes bits of an amount, a node number, a weight or the claim; what has to come of it.
@@ -163,14 +224,16 @@ pub fn twist(kind: usize, round: usize, c: Case, f: &mut Files) -> usize {
         leave_out(f, c, e);
         return REFUSED;
     }
-    if kind == SELF_LOOP_FILLED {
-        let at = record_at(c.n, self_loops::next(c, f, e));
-        fill(f, at, round);
-        return with_amount(c, f, at);
+    if fills(kind, c, f, e) {
+        return filled(round, c, f, e);
+    }
+    if kind == 1 && c.question == 4 {
+        return ranked(round, c, f);
     }
     if 4 < kind {
         return with_other(
             kind,
+            c,
             f,
             record_at(c.n, e),
             record_at(c.n, another(c, e, round)),

@@ -43,4 +43,5 @@ fn main() {
     question(&input[..n], 1);
     question(&input[..n], 2);
     question(&input[..n], 3);
+    question(&input[..n], 4);
 }

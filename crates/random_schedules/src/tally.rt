@@ -1,5 +1,5 @@
 // Where each thing is counted, after what is counted of every network, and how it is shown. The names are a list on standard input: the
-// three questions, and what is counted.
+// four questions, and what is counted.
 use super::trial::Outcome;
 use testing::print;
 use testing::tally::NETWORKS;
@@ -24,5 +24,5 @@ pub fn count(tally: &mut Tally, o: Outcome) {
 // Sums up the networks of one question.
 pub fn show(names: &[u8], question: u32, tally: &Tally) {
     print::name(names, std::num::wrapping_sub_u32(question, 1));
-    print::counts(names, 3, 6, tally, NETWORKS);
+    print::counts(names, 4, 6, tally, NETWORKS);
 }

@@ -36,18 +36,18 @@ fn place(question: usize, shape: usize, i: usize) -> usize {
 }
 
 // How many basins come before record i: they stand at equal distances, the first anywhere.
-fn self_loops_before(seed: usize, i: usize) -> usize {
-    let period = self_loop_period(seed);
+fn self_loops_before(question: usize, seed: usize, i: usize) -> usize {
+    let period = self_loop_period(question, seed);
     rounds(period, plus(i, below(period, seed, 0, 0)))
 }
 
-// The ends of record i. The basins of a route or a discharge stand between the records of its shape, so that a chain stays whole.
+// The ends of record i. Basins stand between the records of a network's shape, so that a chain stays whole.
 fn ends(net: Net, i: usize) -> usize {
     if net.question == 3 {
         return pairs::ends(net.shape, net.n / 2, net.seed, i);
     }
-    let before = self_loops_before(net.seed, i);
-    if before < self_loops_before(net.seed, plus(i, 1)) {
+    let before = self_loops_before(net.question, net.seed, i);
+    if before < self_loops_before(net.question, net.seed, plus(i, 1)) {
         return shapes::self_loop(net.n, net.seed, i, net.s, net.t);
     }
     shapes::ends(net.shape, net.n, net.seed, minus(i, before), net.s, net.t)

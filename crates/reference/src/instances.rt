@@ -49,10 +49,14 @@ fn arcs(seed: usize) -> usize {
     4096
 }
 
-// 8 shapes of pairings, 10 of other networks, of which the chains come up in all kinds at the size of 255 vertices and 400 arcs.
+// 8 shapes of pairings, 12 where loops are asked for, 10 of other networks, of which the chains come up in all kinds at the size of 255
+// vertices and 400 arcs.
 fn shape(question: usize, seed: usize) -> usize {
     if question == 3 {
         return seed / 64 % 8;
+    }
+    if question == 4 {
+        return plus(seed, seed / 64) % 12;
     }
     if class(seed) == 62 {
         return 1 + seed / 64 % 2;
@@ -67,10 +71,14 @@ fn kind(seed: usize) -> usize {
     below(7, seed, 0, 3)
 }
 
-// One in so many records of a route or a discharge is a basin: all in one network of sixteen, none, for 0, in two. One in three leaves
-// enough of 400 arcs for a chain over 255 vertices.
-pub fn self_loop_period(seed: usize) -> usize {
-    match plus(seed, seed / 64) % 16 {
+// One in so many records is a basin, but for pairings: all in one network of sixteen, none, for 0, in two. One in three leaves enough of
+// 400 arcs for a chain over 255 vertices. Where loops are asked for twelve of sixteen have none, since a basin by itself is one.
+pub fn self_loop_period(question: usize, seed: usize) -> usize {
+    let k = plus(seed, seed / 64) % 16;
+    if question == 4 && k % 5 != 0 {
+        return 0;
+    }
+    match k {
         0 => 1,
         1 | 2 => 0,
         3 | 4 | 5 | 6 => 3,
@@ -83,9 +91,9 @@ fn end_to_end(shape: usize) -> bool {
     shape == 1 || shape == 2 || shape == 5 || shape == 6
 }
 
-// The first vertex for such a shape and for a pairing, else any.
+// The first vertex for such a shape, for a pairing and for loops, else any.
 fn source(question: usize, n: usize, shape: usize, seed: usize) -> usize {
-    if question == 3 {
+    if 2 < question {
         return 0;
     }
     if end_to_end(shape) {
@@ -95,7 +103,7 @@ fn source(question: usize, n: usize, shape: usize, seed: usize) -> usize {
 }
 
 fn sink(question: usize, n: usize, shape: usize, s: usize, seed: usize) -> usize {
-    if question == 3 {
+    if 2 < question {
         return 0;
     }
     if n < 2 {

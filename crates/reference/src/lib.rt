@@ -1,10 +1,11 @@
-// For test programs: another implementation of the three questions, and networks that look random to try it on.
+// For test programs: another implementation of the four questions, and networks that look random to try it on.
 use instances::Net;
 use rows::Rows;
 
 pub mod arcs;
 pub mod discharges;
 pub mod instances;
+pub mod loops;
 pub mod matrix;
 pub mod network_files;
 pub mod pairings;
@@ -22,6 +23,7 @@ pub fn truth(net: Net, a: &mut Rows) -> usize {
     match question {
         1 => routes::least(a, net.n, net.m, net.s, net.t),
         2 => discharges::greatest(a, net.n, net.s, net.t),
-        _ => pairings::least(a, net.n),
+        3 => pairings::least(a, net.n),
+        _ => loops::zero_or_none(a, net.n, net.m),
     }
 }

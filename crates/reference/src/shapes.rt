@@ -1,4 +1,4 @@
-// The ends of the records of a route or a discharge, 256 × tail + head, for n vertices, a seed and the record's place.
+// The ends of the records of a network but a pairing, 256 × tail + head, for n vertices, a seed and the record's place.
 use super::random::below;
 use super::rows::pair;
 use testing::numbers::minus;
@@ -41,6 +41,14 @@ fn from_few(n: usize, seed: usize, i: usize) -> usize {
 fn down(n: usize, seed: usize, i: usize) -> usize {
     let a = 1 + below(minus(n, 1), seed, i, 1) % 254;
     pair(a, below(a, seed, i, 2))
+}
+
+// The same, but for one arc from the first vertex to the last: a loop, where a chain leads back.
+fn down_and_up(n: usize, seed: usize, i: usize) -> usize {
+    if i == seed % 16 {
+        return pair(0, minus(n, 1));
+    }
+    down(n, seed, i)
 }
 
 // One to three further along, never past the last vertex.
@@ -93,7 +101,7 @@ pub fn self_loop(n: usize, seed: usize, i: usize, s: usize, t: usize) -> usize {
     pair(v, v)
 }
 
-// The ends of record i of a network of a shape, from s to t.
+// The ends of record i of a network of a shape, from s to t; one shape is the ring of all vertices.
 pub fn ends(shape: usize, n: usize, seed: usize, i: usize, s: usize, t: usize) -> usize {
     match shape {
         1 => chain(n, i),
@@ -104,6 +112,8 @@ pub fn ends(shape: usize, n: usize, seed: usize, i: usize, s: usize, t: usize) -
         6 => chain_and_any(n, seed, i),
         7 => star(n, seed, i, s, t),
         9 => both_ways(n, seed, i),
+        10 => around(n, i, 0),
+        11 => down_and_up(n, seed, i),
         _ => any(n, seed, i),
     }
 }
