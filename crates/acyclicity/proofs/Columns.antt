@@ -1,11 +1,11 @@
 -- Laws of lists: how many entries are 0, and the columns of records.
 -- Assumes nothing.
-use mathlib.Core.Path.{_≡_, refl}
+use mathlib.Core.Path.{_≡_, refl, _∙_, ap}
 use mathlib.Core.List.{List, [], _∷_}
 use Prim.Native.Nat.{ℕ, zero, suc, _+_, _<_}
 use native.Mathlib.Omega.{arith}
 use lib.ListN.{length, set, length-map, List·getD-map}
-use Rattle.network.specs.Network.{wordArc}
+use Rattle.network.specs.Network.{Arc, wordArc, wordArcs}
 use Rattle.packed_arcs.specs.Entries.{entry, zeroList}
 use Rattle.acyclicity.specs.Search.{tailsOf, headsOf}
 use Rattle.acyclicity.specs.Steps.{zeros}
@@ -39,13 +39,13 @@ zeros-more (suc a ∷ l) (suc i) h p = zeros-more l i (omega arith) p
 -- ---- the columns of records
 
 pub tails-len : (rs : List ℕ) → length (tailsOf rs) ≡ length rs
-tails-len rs = length-map rs (λ r. wordArc r .tail)
+tails-len rs = length-map (wordArcs rs) (λ e. e .tail) ∙ length-map rs wordArc
 
 pub heads-len : (rs : List ℕ) → length (headsOf rs) ≡ length rs
-heads-len rs = length-map rs (λ r. wordArc r .head)
+heads-len rs = length-map (wordArcs rs) (λ e. e .head) ∙ length-map rs wordArc
 
 pub tail-is : (rs : List ℕ) (e : ℕ) → entry (tailsOf rs) e ≡ wordArc (entry rs e) .tail
-tail-is rs e = List·getD-map (λ r. wordArc r .tail) rs e 0
+tail-is rs e = List·getD-map (λ a. a .tail) (wordArcs rs) e (wordArc 0) ∙ ap (λ (a : Arc). a .tail) (List·getD-map wordArc rs e 0)
 
 pub head-is : (rs : List ℕ) (e : ℕ) → entry (headsOf rs) e ≡ wordArc (entry rs e) .head
-head-is rs e = List·getD-map (λ r. wordArc r .head) rs e 0
+head-is rs e = List·getD-map (λ a. a .head) (wordArcs rs) e (wordArc 0) ∙ ap (λ (a : Arc). a .head) (List·getD-map wordArc rs e 0)

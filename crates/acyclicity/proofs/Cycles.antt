@@ -8,28 +8,17 @@ use native.Mathlib.Decide.{decLt, ℕ-discrete}
 use native.Mathlib.Omega.{arith}
 use lib.ListN.{length, set, length-set, length-replicate}
 use Rattle.network.specs.Network.{delta}
-use Rattle.packed_arcs.specs.Entries.{entry, zeroList}
+use Rattle.packed_arcs.specs.Entries.{entry, zeroList, flowAt}
 use Rattle.packed_arcs.proofs.LentParts.{zero-at}
+use Rattle.packed_arcs.proofs.ColumnSums.{flow-none, flow-add}
 use Rattle.packed_arcs.proofs.ListLoops.{set-cases}
-use Rattle.acyclicity.specs.Search.{marksAt, Circulates}
+use Rattle.acyclicity.specs.Search.{Circulates}
 use Rattle.acyclicity.specs.Steps.{Arcs, Points, Path, Closed}
 
--- ---- marks at a vertex
-
-pub at-none : (l : List ℕ) (n v : ℕ) → marksAt l (zeroList n) v ≡ 0
-unfolding marksAt
-at-none [] n v = refl
-at-none (a ∷ l) zero v = refl
-at-none (a ∷ l) (suc n) v = omega (arith, at-none l n v)
-
 -- the arc e, which has no mark, gets one
-pub at-marked : (l xs : List ℕ) (e v : ℕ) → e < length l → length xs ≡ length l → entry xs e ≡ 0
-    → marksAt l (set xs e 1) v ≡ marksAt l xs v + delta (entry l e) v
-unfolding marksAt
-at-marked [] xs e v h q z = absurd (omega arith)
-at-marked (a ∷ l) [] e v h q z = absurd (omega arith)
-at-marked (a ∷ l) (x ∷ xs) zero v h q z = rw z (omega arith)
-at-marked (a ∷ l) (x ∷ xs) (suc e) v h q z = omega (arith, at-marked l xs e v (omega arith) (omega arith) z)
+at-marked : (l xs : List ℕ) (e v : ℕ) → e < length l → length xs ≡ length l → entry xs e ≡ 0 → flowAt l (set xs e 1) v ≡ flowAt l xs v + delta (entry l e) v
+unfolding delta
+at-marked l xs e v h q z = let f = rw z at (flow-add l xs e 1 v h q) in omega (arith, f)
 
 -- ---- along the path
 
@@ -43,7 +32,7 @@ pub record Marking (tails heads into path spot marks : List ℕ) (k len i : ℕ)
   pub from : ℕ
   pub on-path : i < len → from ≡ entry path i
   pub around : len ≤ i → from ≡ entry path k
-  pub balance : (v : ℕ) → marksAt tails marks v + delta (entry path k) v ≡ marksAt heads marks v + delta from v
+  pub balance : (v : ℕ) → flowAt tails marks v + delta (entry path k) v ≡ flowAt heads marks v + delta from v
 
 -- what the code asks at the index i of the path
 pub record AtIndex (rs into path : List ℕ) (i : ℕ) : Type 0 where
@@ -128,7 +117,7 @@ module _ {n : ℕ} {tails heads into path spot : List ℕ} {len : ℕ} (A : Arcs
       from = entry path k;
       on-path = λ p. refl;
       around = λ p. absurd (omega (arith, within-path));
-      balance = λ v. omega (arith, at-none tails (length tails) v, at-none heads (length tails) v);
+      balance = λ v. omega (arith, flow-none tails (length tails) v, flow-none heads (length tails) v);
     })
 
     -- the arc e into the vertex at i gets a mark

@@ -2,14 +2,14 @@
 -- Assumes nothing.
 use mathlib.Core.Path.{_≡_}
 use mathlib.Core.Bool.{Bool, true, false, _&&_}
-use mathlib.Core.List.{List, [], _∷_, map}
-use Prim.Native.Nat.{ℕ, _+_, _*_, _<_, _≤_}
+use mathlib.Core.List.{List, map}
+use Prim.Native.Nat.{ℕ, _<_, _≤_}
 use lib.Dec.{eqb, leb, ltb}
 use lib.ListN.{length}
 use Rattle.prelude.specs.Lists.{all}
 use Rattle.network.specs.Limits.{mostVertices, mostArcs}
-use Rattle.network.specs.Network.{wordArc, delta}
-use Rattle.packed_arcs.specs.Entries.{entry, zeroList}
+use Rattle.network.specs.Network.{wordArc, wordArcs}
+use Rattle.packed_arcs.specs.Entries.{entry, zeroList, flowAt}
 use Rattle.acyclicity.specs.declared.Found.{Found}
 use Rattle.acyclicity.specs.declared.Found.the-variants.{Order, Cycle, Refused}
 
@@ -17,11 +17,11 @@ use Rattle.acyclicity.specs.declared.Found.the-variants.{Order, Cycle, R
 
 -- The column of tails of the arcs of the records.
 abbrev pub tailsOf : List ℕ → List ℕ
-tailsOf rs = map (λ r. wordArc r .tail) rs
+tailsOf rs = map (λ e. e .tail) (wordArcs rs)
 
 -- The column of their heads.
 abbrev pub headsOf : List ℕ → List ℕ
-headsOf rs = map (λ r. wordArc r .head) rs
+headsOf rs = map (λ e. e .head) (wordArcs rs)
 
 -- The arc of the record joins vertices below n.
 abbrev pub joinsBelow : ℕ → ℕ → Bool
@@ -38,19 +38,13 @@ pub record Ordered (tails heads ranks : List ℕ) : Type 0 where
   pub below : (v : ℕ) → entry ranks v ≤ length ranks
   pub rises : (e : ℕ) → e < length tails → entry ranks (entry tails e) < entry ranks (entry heads e)
 
--- The sum of the marks on the arcs whose end in the column is v: how many marked arcs leave v, in the column of tails, or enter it, in that of heads.
-unfoldable pub marksAt : List ℕ → List ℕ → ℕ → ℕ
-marksAt [] xs v = 0
-marksAt (a ∷ l) [] v = 0
-marksAt (a ∷ l) (x ∷ xs) v = x * delta a v + marksAt l xs v
-
 -- A circulation: a mark 0 or 1 for each arc, not all 0, and at every vertex as many marked arcs leave as enter.
 pub record Circulates (tails heads marks : List ℕ) : Type 0 where
   pub len : length marks ≡ length tails
   pub zero-or-one : (e : ℕ) → entry marks e ≤ 1
   pub one : ℕ
   pub marked : 0 < entry marks one
-  pub balanced : (v : ℕ) → marksAt tails marks v ≡ marksAt heads marks v
+  pub balanced : (v : ℕ) → flowAt tails marks v ≡ flowAt heads marks v
 
 -- The three outcomes: an order, and no mark; a cycle, and ranks 0; or a refusal, with nothing changed.
 pub data SearchOutcome (rs ranks marks ranks' marks' : List ℕ) : Found → Type 0 where

@@ -9,11 +9,12 @@ use native.Mathlib.Omega.{arith}
 use lib.Dec.{eqb, ltb}
 use borrow.Author.Tests.{lt-ltb, le-ltb, eq-eqb, ne-eqb}
 use lib.ListN.{length, set, length-set}
-use Rattle.packed_arcs.specs.Entries.{entry}
+use Rattle.packed_arcs.specs.Entries.{entry, flowAt}
+use Rattle.packed_arcs.proofs.ColumnSums.{flow-add, flow-sub}
 use Rattle.packed_arcs.proofs.ListLoops.{set-cases}
 use Rattle.engine.specs.Residual.{unreached}
 use Rattle.prelude.specs.Choice.{pick, indicator}
-use Rattle.engine.specs.Push.{flowAt, ParentLink, PushReady, ParentArcWithin, Augmentable, Moved, codeArc, residualCapacity}
+use Rattle.engine.specs.Push.{ParentLink, PushReady, ParentArcWithin, Augmentable, Moved, codeArc, residualCapacity}
 
 -- the vertex that the residual arc comes from
 abbrev pub codeStart : List ℕ → List ℕ → ℕ → ℕ
@@ -22,29 +23,6 @@ codeStart from to code = pick (ltb code 4096) (entry from code) (entry to (code 
 -- the amounts after g went by the residual arc
 abbrev pub shifted : List ℕ → ℕ → ℕ → List ℕ
 shifted x code g = pick (ltb code 4096) (set x code (entry x code + g)) (set x (code - 4096) (entry x (code - 4096) - g))
-
--- one arc's amount, raised or lowered by g
-pub flow-add : (l x : List ℕ) (e g w : ℕ) → e < length l → length x ≡ length l → flowAt l (set x e (entry x e + g)) w ≡ flowAt l x w + indicator (eqb (entry l e) w) * g
-unfolding flowAt
-flow-add [] x e g w h n = absurd (omega arith)
-flow-add (a ∷ l) [] e g w h n = absurd (omega arith)
-flow-add (a ∷ l) (y ∷ x) zero g w h n = go (eqb a w)
-  where
-    go : (b : Bool) → indicator b * (y + g) + flowAt l x w ≡ indicator b * y + flowAt l x w + indicator b * g
-    go true = omega arith
-    go false = omega arith
-flow-add (a ∷ l) (y ∷ x) (suc e) g w h n = omega (arith, flow-add l x e g w (omega arith) (omega arith))
-
-pub flow-sub : (l x : List ℕ) (e g w : ℕ) → e < length l → length x ≡ length l → g ≤ entry x e → flowAt l (set x e (entry x e - g)) w + indicator (eqb (entry l e) w) * g ≡ flowAt l x w
-unfolding flowAt
-flow-sub [] x e g w h n k = absurd (omega arith)
-flow-sub (a ∷ l) [] e g w h n k = absurd (omega arith)
-flow-sub (a ∷ l) (y ∷ x) zero g w h n k = go (eqb a w)
-  where
-    go : (b : Bool) → indicator b * (y - g) + flowAt l x w + indicator b * g ≡ indicator b * y + flowAt l x w
-    go true = omega arith
-    go false = omega arith
-flow-sub (a ∷ l) (y ∷ x) (suc e) g w h n k = omega (arith, flow-sub l x e g w (omega arith) (omega arith) k)
 
 -- `left` at w after g was taken at v
 pub left-sub : (l : List ℕ) (v g w : ℕ) → v < length l → g ≤ entry l v → entry (set l v (entry l v - g)) w + indicator (eqb v w) * g ≡ entry l w

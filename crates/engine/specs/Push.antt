@@ -1,20 +1,14 @@
 -- What pushing an amount along parent arcs keeps.
 -- Assumes nothing.
 use mathlib.Core.Path.{_≡_}
-use mathlib.Core.List.{List, [], _∷_}
+use mathlib.Core.List.{List}
 use mathlib.Core.Logic.{_⊎_}
 use Prim.Native.Nat.{ℕ, _+_, _*_, _-_, _<_, _≤_}
 use lib.Dec.{eqb, ltb}
 use lib.ListN.{length, set}
 use Rattle.prelude.specs.Choice.{pick, indicator}
-use Rattle.packed_arcs.specs.Entries.{entry}
+use Rattle.packed_arcs.specs.Entries.{entry, flowAt}
 use Rattle.engine.specs.Residual.{unreached}
-
--- The sum of x over the arcs whose vertex in the column is w.
-unfoldable pub flowAt : List ℕ → List ℕ → ℕ → ℕ
-flowAt [] xs w = 0
-flowAt (a ∷ l) [] w = 0
-flowAt (a ∷ l) (x ∷ xs) w = indicator (eqb a w) * x + flowAt l xs w
 
 -- The parent arc of v: its other end has a lower key.
 pub data ParentLink (from to key : List ℕ) (code v : ℕ) : Type 0 where

@@ -2,3 +2,4 @@ pub mod ArcColumns
 pub mod LentParts
 pub mod ListLoops
 pub mod LimitTests
+pub mod ColumnSums

@@ -1,8 +1,10 @@
--- Lists of numbers: their entries, and zeros.
+-- Lists of numbers: their entries, zeros, and the sum of amounts at a vertex.
 -- Assumes nothing.
-use mathlib.Core.List.{List}
-use Prim.Native.Nat.{ℕ}
+use mathlib.Core.List.{List, [], _∷_}
+use Prim.Native.Nat.{ℕ, _+_, _*_}
+use lib.Dec.{eqb}
 use lib.ListN.{getD, replicate}
+use Rattle.prelude.specs.Choice.{indicator}
 
 -- The entry of a list of numbers at the index i, 0 past the end.
 abbrev pub entry : List ℕ → ℕ → ℕ
@@ -11,3 +13,9 @@ entry l i = getD l i 0
 -- n zeros.
 abbrev pub zeroList : ℕ → List ℕ
 zeroList n = replicate n 0
+
+-- The sum of x over the arcs whose vertex in the column is w.
+unfoldable pub flowAt : List ℕ → List ℕ → ℕ → ℕ
+flowAt [] xs w = 0
+flowAt (a ∷ l) [] w = 0
+flowAt (a ∷ l) (x ∷ xs) w = indicator (eqb a w) * x + flowAt l xs w

@@ -18,12 +18,13 @@ use Rattle.network.specs.Question.{Question, acyclicity, Setting, Allowed, Answ
 use Rattle.network.proofs.Rules.{ZeroOrOne, NoAmount, Rises, AcyclicCertificate, CyclicCertificate, RulesHold}
 use Rattle.packed_arcs.specs.Entries.{entry, zeroList}
 use Rattle.packed_arcs.proofs.LentParts.{zero-at}
-use Rattle.acyclicity.specs.Search.{tailsOf, headsOf, joinsBelow, searchable, Ordered, marksAt, Circulates, SearchOutcome}
+use Rattle.acyclicity.specs.Search.{tailsOf, headsOf, joinsBelow, searchable, Ordered, Circulates, SearchOutcome}
 use Rattle.acyclicity.specs.declared.Found.{Found}
 use Rattle.acyclicity.specs.declared.Found.the-variants.{Order, Cycle, Refused}
 use Rattle.solver.specs.Instance.{numberOf}
 use Rattle.solver.specs.Certify.{NodeNumbers, Solution}
 use Rattle.solver.specs.declared.vertices.NumberKind.the-variants.{Potential}
+use Rattle.solver.proofs.ColumnsAndLoads.{flow-sum}
 use Rattle.solver.proofs.Solutions.{written-at, solution}
 
 -- ---- columns and loads
@@ -42,18 +43,6 @@ unfolding loadsOf
 amounts P [] xs z h = tt
 amounts P (r ∷ rs) [] z h = (z, amounts P rs [] z h)
 amounts P (r ∷ rs) (x ∷ xs) z h = (h 0, amounts P rs xs z (λ e. h (suc e)))
-
-no-sum : (g : Arc → ℕ) (rs : List ℕ) → sumOf g (loadsOf (wordArcs rs) []) ≡ 0
-unfolding sumOf loadsOf
-no-sum g [] = refl
-no-sum g (r ∷ rs) = omega (arith, no-sum g rs)
-
--- the marks at a vertex are the sum of the amounts there
-marks-sum : (end : Arc → ℕ) (rs xs : List ℕ) (v : ℕ) → marksAt (map (λ r. end (wordArc r)) rs) xs v ≡ sumOf (λ e. delta (end e) v) (loadsOf (wordArcs rs) xs)
-unfolding marksAt sumOf loadsOf
-marks-sum end [] xs v = refl
-marks-sum end (r ∷ rs) [] v = omega (arith, no-sum (λ e. delta (end e) v) (r ∷ rs))
-marks-sum end (r ∷ rs) (x ∷ xs) v = omega (arith, marks-sum end rs xs v)
 
 some-amount : (rs xs : List ℕ) (e : ℕ) → length xs ≡ length rs → 0 < entry xs e → 0 < sumOf (λ a. 1) (loadsOf (wordArcs rs) xs)
 unfolding sumOf loadsOf
@@ -113,7 +102,7 @@ module _ (st : Setting) (rs : List ℕ) (a : Admissible st (wordArcs rs)) (q : a
   found-case en em (SearchOutcome.ordered ok len o z) =
       record { few = omega (arith, len, en, a .opened .sized .at-most); order = o; unmarked = z ∙ ap zeroList em }
   found-case en em (SearchOutcome.cyclic ok z c) =
-      record { no-ranks = z ∙ ap zeroList en; marks-len = c .len ∙ length-map rs (λ r. wordArc r .tail); cycle = c }
+      record { no-ranks = z ∙ ap zeroList en; marks-len = c .len ∙ length-map (wordArcs rs) (λ e. e .tail) ∙ length-map rs wordArc; cycle = c }
   found-case {ranks} {marks} en em (SearchOutcome.refused off er em') = absurd (false≢true (sym off ∙ may-search ranks marks en em))
 
   -- what is written is small
@@ -148,8 +137,8 @@ module _ (st : Setting) (rs : List ℕ) (a : Admissible st (wordArcs rs)) (q : a
             omega (
               signed,
               parts-sub (pos (leaving v (loadsOf (wordArcs rs) marks'))) (pos (entering v (loadsOf (wordArcs rs) marks'))),
-              marks-sum (λ e. e .tail) rs marks' v,
-              marks-sum (λ e. e .head) rs marks' v,
+              flow-sum (λ e. e .tail) (wordArcs rs) marks' v,
+              flow-sum (λ e. e .head) (wordArcs rs) marks' v,
               c .cycle .balanced v,
             );
         some = some-amount rs marks' (c .cycle .one) (c .marks-len) (c .cycle .marked);

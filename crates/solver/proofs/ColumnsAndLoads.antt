@@ -23,9 +23,8 @@ use Rattle.network.specs.Limits.{mostPotential}
 use Rattle.network.specs.Certificate.{marked}
 use Rattle.network.proofs.Rules.{InRange, Marks, WithinCapacity}
 use Rattle.network.proofs.Sums.{delta-same, delta-other, Compared, compared, sumTo-at, sumOf-add, Inside, across}
-use Rattle.packed_arcs.specs.Entries.{entry}
+use Rattle.packed_arcs.specs.Entries.{entry, flowAt}
 use Rattle.engine.specs.Residual.{unreached}
-use Rattle.engine.specs.Push.{flowAt}
 use Rattle.solver.specs.Instance.{tails, heads, weights, constant, VertexList, single, Falls, reached, distanceOf, markOf}
 use Rattle.packed_arcs.proofs.LentParts.{zero-at}
 
