@@ -32,11 +32,11 @@ module _ (net : List Arc) (y : ℕ → ℤ) (rule : Every (λ e. y (e .tail) <�
       go [] some k h = some refl
       go (e ∷ es) some k h =
           absurd (
-            omega (
-              arith,
-              parts-lt (every-at (λ e. y (e .tail) <ℤ y (e .head)) net rule (k .0)),
-              rw (← h .0) at (climbs es (e .head) (c .vertex) (k .1) (h .1)),
-            )
+          omega (
+            arith,
+            parts-lt (every-at (λ e. y (e .tail) <ℤ y (e .head)) net rule (k .0)),
+            rw (← h .0) at (climbs es (e .head) (c .vertex) (k .1) (h .1)),
+          )
           )
 
 -- ---- a self-loop

@@ -66,12 +66,12 @@ module _ (st : Setting) (rs : List ℕ) (a : Admissible st (wordArcs rs)) (q : a
   may-search : (ranks marks : List ℕ) → length ranks ≡ st .n → length marks ≡ length rs → searchable rs (length ranks) (length marks) ≡ true
   may-search ranks marks en em =
       rw en (
-        both-on (leb (st .n) mostVertices && leb (length rs) mostArcs && eqb (length marks) (length rs)) (all (joinsBelow (st .n)) rs) true
-        (both-on (leb (st .n) mostVertices && leb (length rs) mostArcs) (eqb (length marks) (length rs)) true
-        (both-on (leb (st .n) mostVertices) (leb (length rs) mostArcs) true
-        (le-leb (st .n) mostVertices (a .opened .sized .at-most)) (le-leb (length rs) mostArcs (omega (arith, a .few, length-map rs wordArc))))
-        (eq-eqb (length marks) (length rs) em))
-        (each-joins st rs (a .allowed))
+      both-on (leb (st .n) mostVertices && leb (length rs) mostArcs && eqb (length marks) (length rs)) (all (joinsBelow (st .n)) rs) true
+      (both-on (leb (st .n) mostVertices && leb (length rs) mostArcs) (eqb (length marks) (length rs)) true
+      (both-on (leb (st .n) mostVertices) (leb (length rs) mostArcs) true
+      (le-leb (st .n) mostVertices (a .opened .sized .at-most)) (le-leb (length rs) mostArcs (omega (arith, a .few, length-map rs wordArc))))
+      (eq-eqb (length marks) (length rs) em))
+      (each-joins st rs (a .allowed))
       )
 
   -- ---- what is written of what was found
