@@ -8,7 +8,7 @@ use Rattle.field.specs.Field.{product}
 use Rattle.network.specs.Network.{delta, sumOf, sumAcross, loadsOf}
 use Rattle.network.specs.Tests.{readingAll}
 use Rattle.format.specs.Files.{networkFile}
-use Rattle.worked_examples.specs.Table.{R1, R2, R3, R4, R5, R6}
+use Rattle.worked_examples.specs.Table.{R1, R2, R3, R4, R5, R6, L1, L2}
 use Rattle.worked_examples.specs.Promises.{WorkedExamples}
 use Rattle.worked_examples.proofs.Routes.{r1-lengths, r4-lengths}
 use Rattle.worked_examples.proofs.Plans.{plan-yields}
@@ -32,4 +32,6 @@ worked-examples =
     and r8-yields
     and r9-yields
     and record { keyed = refl; taken = tt }
+    and plan-yields L1 refl refl refl refl refl refl tt tt tt
+    and plan-yields L2 refl refl refl refl refl refl tt tt tt
     and tt

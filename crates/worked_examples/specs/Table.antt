@@ -1,4 +1,4 @@
--- The worked examples R1 to R10 (PANEL 13), one table, and what it means that the definitions yield the outcomes of an example.
+-- The worked examples R1 to R10, L1 and L2 (PANEL 13), one table, and what it means that the definitions yield the outcomes of an example.
 -- Assumes nothing.
 use mathlib.Core.Path.{_≡_}
 use mathlib.Core.List.{List, [], _∷_, map}
@@ -53,7 +53,7 @@ pub record Meeting : Type 0 where
   pub repeated : List Arc
   pub points : List ℕ
 
--- R1 to R6 are plans, R7 and R10 products, R8 and R9 meetings.
+-- R1 to R6, L1 and L2 are plans, R7 and R10 products, R8 and R9 meetings.
 pub data Example : Type 0 where
   plan : Plan → Example
   product : Product → Example
@@ -114,7 +114,7 @@ Yields (meeting w) = MeetingYields w
 
 -- ---- the table
 
--- The channels of R1 and R2.
+-- The channels of R1, R2 and L1.
 abbrev pub fiveArcs : List Arc
 fiveArcs = arcOf 0 1 2 ∷ arcOf 1 3 5 ∷ arcOf 0 2 4 ∷ arcOf 2 3 2 ∷ arcOf 1 2 1 ∷ []
 
@@ -217,6 +217,40 @@ R9 = record { read = arcOf 0 1 2 ∷ arcOf 0 1 4 ∷ []; repeated = arcOf 0 1 3 
 abbrev pub R10 : Product
 R10 = record { arc = arcOf 254 253 32767; key = 2139029503; prints = [] }
 
+-- L1: no loop over the channels of R1.
+abbrev pub L1 : Plan
+L1 = record {
+  setting = record { question = 4; n = 4; s = 0; t = 0 };
+  net = fiveArcs;
+  file =
+      0x44 ∷ 0x52 ∷ 0x4E ∷ 0x00 ∷ 0x01 ∷ 0x04 ∷ 0x04 ∷ 0x00 ∷ 0x00 ∷ 0x00 ∷ 0x05
+      ∷ 0x00 ∷ 0x01 ∷ 0x00 ∷ 0x02
+      ∷ 0x01 ∷ 0x03 ∷ 0x00 ∷ 0x05
+      ∷ 0x00 ∷ 0x02 ∷ 0x00 ∷ 0x04
+      ∷ 0x02 ∷ 0x03 ∷ 0x00 ∷ 0x02
+      ∷ 0x01 ∷ 0x02 ∷ 0x00 ∷ 0x01 ∷ [];
+  answer = value 0;
+  numbers = pos 0 ∷ pos 1 ∷ pos 2 ∷ pos 3 ∷ [];
+  amounts = 0 ∷ 0 ∷ 0 ∷ 0 ∷ 0 ∷ [];
+}
+
+-- L2: a loop by way of 1, 3 and 2, one of its channels with w 0.
+abbrev pub L2 : Plan
+L2 = record {
+  setting = record { question = 4; n = 4; s = 0; t = 0 };
+  net = arcOf 0 1 2 ∷ arcOf 1 3 5 ∷ arcOf 0 2 4 ∷ arcOf 2 1 0 ∷ arcOf 3 2 1 ∷ [];
+  file =
+      0x44 ∷ 0x52 ∷ 0x4E ∷ 0x00 ∷ 0x01 ∷ 0x04 ∷ 0x04 ∷ 0x00 ∷ 0x00 ∷ 0x00 ∷ 0x05
+      ∷ 0x00 ∷ 0x01 ∷ 0x00 ∷ 0x02
+      ∷ 0x01 ∷ 0x03 ∷ 0x00 ∷ 0x05
+      ∷ 0x00 ∷ 0x02 ∷ 0x00 ∷ 0x04
+      ∷ 0x02 ∷ 0x01 ∷ 0x00 ∷ 0x00
+      ∷ 0x03 ∷ 0x02 ∷ 0x00 ∷ 0x01 ∷ [];
+  answer = none;
+  numbers = pos 0 ∷ pos 0 ∷ pos 0 ∷ pos 0 ∷ [];
+  amounts = 0 ∷ 1 ∷ 0 ∷ 1 ∷ 1 ∷ [];
+}
+
 -- The table (PANEL 13).
 abbrev pub table : List Example
-table = plan R1 ∷ plan R2 ∷ plan R3 ∷ plan R4 ∷ plan R5 ∷ plan R6 ∷ product R7 ∷ meeting R8 ∷ meeting R9 ∷ product R10 ∷ []
+table = plan R1 ∷ plan R2 ∷ plan R3 ∷ plan R4 ∷ plan R5 ∷ plan R6 ∷ product R7 ∷ meeting R8 ∷ meeting R9 ∷ product R10 ∷ plan L1 ∷ plan L2 ∷ []
