@@ -81,6 +81,9 @@ pub fn row_of(question: u8, claim: u32) -> Row
     }
 }
 
+// What a unit counts where loops are asked for, whatever the weight of its arc.
+const EACH_UNIT: u32 = 1;
+
 // What a unit on the arc costs.
 pub fn unit_cost(question: Question, arc: Record) -> u32
     ensures { λ r. ⌜ r ≡ unitCost (questionHeld question) (arcHeld arc) ⌝ }
@@ -89,7 +92,7 @@ pub fn unit_cost(question: Question, arc: Record) -> u32
         Question::Path => arc.weight,
         Question::Flow => 0,
         Question::Assignment => arc.weight,
-        Question::Acyclicity => 1,
+        Question::Acyclicity => EACH_UNIT,
         Question::Unasked => 0,
     }
 }
