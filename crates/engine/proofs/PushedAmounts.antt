@@ -1,15 +1,14 @@
 -- An amount that moves along parent arcs: balances, room and supply after each arc.
 -- Assumes nothing.
 use mathlib.Core.Path.{_≡_, refl, sym, ap, subst, _∙_}
-use mathlib.Core.Bool.{Bool, true, false}
-use mathlib.Core.List.{List, [], _∷_}
+use mathlib.Core.List.{List}
 use mathlib.Core.Logic.{_⊎_, inl, inr, ⊎-elim}
-use Prim.Native.Nat.{ℕ, zero, suc, _+_, _*_, _-_, _<_, _≤_, min}
+use Prim.Native.Nat.{ℕ, _+_, _*_, _-_, _<_, _≤_, min}
 use native.Mathlib.Omega.{arith}
 use lib.Dec.{eqb, ltb}
 use borrow.Author.Tests.{lt-ltb, le-ltb, eq-eqb, ne-eqb}
 use lib.ListN.{length, set, length-set}
-use Rattle.packed_arcs.specs.Entries.{entry, flowAt}
+use Rattle.packed_arcs.specs.Entries.{entry}
 use Rattle.packed_arcs.proofs.ColumnSums.{flow-add, flow-sub}
 use Rattle.packed_arcs.proofs.ListLoops.{set-cases}
 use Rattle.engine.specs.Residual.{unreached}

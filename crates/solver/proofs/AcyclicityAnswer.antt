@@ -1,20 +1,20 @@
 -- The answer for acyclicity: ranks that rise are a certificate of the value 0, and marks that circulate are one of none.
 -- Assumes nothing.
 use mathlib.Core.Path.{_≡_, refl, sym, _∙_, ap, subst}
-use mathlib.Core.Bool.{Bool, true, false, _&&_, false≢true}
-use mathlib.Core.List.{List, [], _∷_, map}
-use Prim.Native.Nat.{ℕ, zero, suc, _+_, _*_, _≤_, _<_}
+use mathlib.Core.Bool.{true, _&&_, false≢true}
+use mathlib.Core.List.{List, [], _∷_}
+use Prim.Native.Nat.{ℕ, zero, suc, _≤_, _<_}
 use native.Mathlib.Omega.{arith}
 use borrow.Author.Tests.{eq-eqb, lt-ltb, le-leb}
-use lib.Dec.{T, eqb, leb, ltb, lt→ltb}
+use lib.Dec.{eqb, leb, ltb, lt→ltb}
 use lib.IntN.{ℤ, pos}
 use lib.ListN.{length, length-map}
 use Rattle.prelude.specs.Lists.{Every, all, at}
 use Rattle.prelude.proofs.Integers.{signed, parts-sub}
 use Rattle.prelude.proofs.Tested.{both-on}
 use Rattle.network.specs.Limits.{mostVertices, mostArcs, mostPotential}
-use Rattle.network.specs.Network.{Arc, Load, arcs, wordArc, wordArcs, loadsOf, delta, sumOf, leaving, entering, balance}
-use Rattle.network.specs.Question.{Question, acyclicity, Setting, Allowed, Answer, value, none, asks, Admissible}
+use Rattle.network.specs.Network.{wordArc, wordArcs, loadsOf, sumOf, leaving, entering}
+use Rattle.network.specs.Question.{acyclicity, Setting, Allowed, Answer, value, none, asks, Admissible}
 use Rattle.network.proofs.Rules.{ZeroOrOne, NoAmount, Rises, AcyclicCertificate, CyclicCertificate, RulesHold}
 use Rattle.packed_arcs.specs.Entries.{entry, zeroList}
 use Rattle.packed_arcs.proofs.LentParts.{zero-at}
@@ -24,26 +24,11 @@ use Rattle.acyclicity.specs.declared.Found.the-variants.{Order, Cycle, Refused}
 use Rattle.solver.specs.Instance.{numberOf}
 use Rattle.solver.specs.Certify.{NodeNumbers, Solution}
 use Rattle.solver.specs.declared.vertices.NumberKind.the-variants.{Potential}
-use Rattle.solver.proofs.ColumnsAndLoads.{flow-sum}
+use Rattle.solver.proofs.ColumnsAndLoads.{flow-sum, every-load, column-len, index}
+use Rattle.solver.proofs.EngineInputs.{few-records}
 use Rattle.solver.proofs.Solutions.{written-at, solution}
 
--- ---- columns and loads
-
--- the entries of the columns are the ends of the arcs
-rises : (ranks rs xs : List ℕ) → ((e : ℕ) → e < length (tailsOf rs) → entry ranks (entry (tailsOf rs) e) < entry ranks (entry (headsOf rs) e))
-    → Every (Rises (λ v. pos (entry ranks v))) (loadsOf (wordArcs rs) xs)
-unfolding loadsOf
-rises ranks [] xs h = tt
-rises ranks (r ∷ rs) [] h = (record { lt = lt→ltb _ _ (h 0 (omega arith)) }, rises ranks rs [] (λ e l. h (suc e) (omega arith)))
-rises ranks (r ∷ rs) (x ∷ xs) h = (record { lt = lt→ltb _ _ (h 0 (omega arith)) }, rises ranks rs xs (λ e l. h (suc e) (omega arith)))
-
--- what holds of every amount
-amounts : (P : ℕ → Type 0) (rs xs : List ℕ) → P 0 → ((e : ℕ) → P (entry xs e)) → Every (λ l. P (l .amount)) (loadsOf (wordArcs rs) xs)
-unfolding loadsOf
-amounts P [] xs z h = tt
-amounts P (r ∷ rs) [] z h = (z, amounts P rs [] z h)
-amounts P (r ∷ rs) (x ∷ xs) z h = (h 0, amounts P rs xs z (λ e. h (suc e)))
-
+-- an amount above 0 is one in the sum of all
 some-amount : (rs xs : List ℕ) (e : ℕ) → length xs ≡ length rs → 0 < entry xs e → 0 < sumOf (λ a. 1) (loadsOf (wordArcs rs) xs)
 unfolding sumOf loadsOf
 some-amount [] [] e q h = absurd (omega arith)
@@ -69,7 +54,7 @@ module _ (st : Setting) (rs : List ℕ) (a : Admissible st (wordArcs rs)) (q : a
       both-on (leb (st .n) mostVertices && leb (length rs) mostArcs && eqb (length marks) (length rs)) (all (joinsBelow (st .n)) rs) true
       (both-on (leb (st .n) mostVertices && leb (length rs) mostArcs) (eqb (length marks) (length rs)) true
       (both-on (leb (st .n) mostVertices) (leb (length rs) mostArcs) true
-      (le-leb (st .n) mostVertices (a .opened .sized .at-most)) (le-leb (length rs) mostArcs (omega (arith, a .few, length-map rs wordArc))))
+      (le-leb (st .n) mostVertices (a .opened .sized .at-most)) (le-leb (length rs) mostArcs (few-records rs a)))
       (eq-eqb (length marks) (length rs) em))
       (each-joins st rs (a .allowed))
       )
@@ -102,7 +87,7 @@ module _ (st : Setting) (rs : List ℕ) (a : Admissible st (wordArcs rs)) (q : a
   found-case en em (SearchOutcome.ordered ok len o z) =
       record { few = omega (arith, len, en, a .opened .sized .at-most); order = o; unmarked = z ∙ ap zeroList em }
   found-case en em (SearchOutcome.cyclic ok z c) =
-      record { no-ranks = z ∙ ap zeroList en; marks-len = c .len ∙ length-map (wordArcs rs) (λ e. e .tail) ∙ length-map rs wordArc; cycle = c }
+      record { no-ranks = z ∙ ap zeroList en; marks-len = c .len ∙ column-len (λ e. e .tail) (wordArcs rs) ∙ length-map rs wordArc; cycle = c }
   found-case {ranks} {marks} en em (SearchOutcome.refused off er em') = absurd (false≢true (sym off ∙ may-search ranks marks en em))
 
   -- what is written is small
@@ -118,8 +103,8 @@ module _ (st : Setting) (rs : List ℕ) (a : Admissible st (wordArcs rs)) (q : a
       certificate : AcyclicCertificate st (λ v. pos (entry ranks' v)) (loadsOf (wordArcs rs) marks') 0
       certificate = record {
         potentials = λ v h. record { above = omega signed; below = omega (signed, o .order .below v, o .few) };
-        amounts = amounts (λ k. k ≡ 0) rs marks' refl (λ e. rw (o .unmarked) (zero-at (length rs) e));
-        rising = rises ranks' rs marks' (o .order .rises);
+        amounts = every-load NoAmount (wordArcs rs) marks' (λ e h. rw (o .unmarked) (zero-at (length rs) e));
+        rising = every-load (Rises (λ v. pos (entry ranks' v))) (wordArcs rs) marks' (λ e h. record { lt = lt→ltb _ _ (o .order .rises e (index (wordArcs rs) e h)) });
         answer = refl;
       }
 
@@ -132,7 +117,7 @@ module _ (st : Setting) (rs : List ℕ) (a : Admissible st (wordArcs rs)) (q : a
       certificate : CyclicCertificate st (λ v. pos (entry ranks' v)) (loadsOf (wordArcs rs) marks')
       certificate = record {
         zeros = λ v h. record { above = omega (signed, rank-zero v); below = omega (signed, rank-zero v) };
-        amounts = amounts (λ k. k ≤ 1) rs marks' (omega arith) (c .cycle .zero-or-one);
+        amounts = every-load ZeroOrOne (wordArcs rs) marks' (λ e h. c .cycle .zero-or-one e);
         balances = λ v h.
             omega (
               signed,
