@@ -4,6 +4,7 @@ pub mod Settle
 pub mod Booleans
 pub mod Integers
 pub mod Lists
+pub mod Searches
 pub mod Permutations
 pub mod Sums
 pub mod Counts

@@ -2,7 +2,7 @@
 -- Assumes nothing.
 use mathlib.Core.Path.{_≡_}
 use mathlib.Core.Logic.{_⊎_}
-use mathlib.Core.Bool.{Bool, true, _&&_}
+use mathlib.Core.Bool.{Bool, true, false, _&&_, _||_}
 use mathlib.Core.List.{List, [], _∷_, _++_}
 use Prim.Native.Nat.{ℕ, zero, suc, _≤_}
 use lib.IntN.{ℤ, pos}
@@ -42,6 +42,11 @@ AtMost {A} k P = (l : List A) → Distinct l → Every P l → length l ≤ k
 abbrev pub all : {A : Type 0} → (A → Bool) → List A → Bool
 all p [] = true
 all p (a ∷ l) = p a && all p l
+
+-- The test holds of some element.
+abbrev pub any : {A : Type 0} → (A → Bool) → List A → Bool
+any p [] = false
+any p (a ∷ l) = p a || any p l
 
 -- g 0, …, g (n - 1).
 unfoldable pub listTo : {A : Type 0} → ℕ → (ℕ → A) → List A

@@ -7,14 +7,13 @@ ghost use Rattle.prelude.specs.Checks.{_unless_, firstBroken};
 ghost use Rattle.prelude.specs.Choice.{implies};
 ghost use Rattle.prelude.specs.Integers.{eqZ};
 ghost use Rattle.network.specs.Network.{arcHeld, loadHeld};
-ghost use Rattle.network.specs.Certificate.{staysInside, separates, nodeMeets};
-ghost use Rattle.network.specs.Tests.{claimOk};
+ghost use Rattle.network.specs.Certificate.{staysInside, separates};
+ghost use Rattle.network.specs.Tests.{claimNumber, claimOf, claimOk, nodeOk};
 ghost use Rattle.checks.specs.Held.{asked, rulesHeld};
 ghost use Rattle.rules.specs.Held.{endsHeld};
 use checks::HeldSetting;
 use checks::rows::Row;
 use checks::rows::row_of;
-use network::MOST_POTENTIAL;
 use network::Record;
 
 // What the ends of an arc have: node numbers and marks.
@@ -52,38 +51,6 @@ pub fn claim_ok(st: HeldSetting, claim: u32) -> bool
         return false;
     }
     is_admitted(row_of(st.question, claim))
-}
-
-// The lowest node number.
-fn lowest_node(row: Row) -> i32
-    ensures { λ r. ⌜ r ≡ rulesHeld row .lowest ⌝ }
-{
-    match row {
-        Row::PathValue => -MOST_POTENTIAL,
-        Row::FlowValue => 0,
-        Row::AssignmentValue => -MOST_POTENTIAL,
-        Row::PathNone => 0,
-        Row::AssignmentNone => 0,
-        Row::AcyclicityValue => -MOST_POTENTIAL,
-        Row::AcyclicityNone => 0,
-        Row::Nothing => 0,
-    }
-}
-
-// The highest node number.
-fn highest_node(row: Row) -> i32
-    ensures { λ r. ⌜ r ≡ rulesHeld row .highest ⌝ }
-{
-    match row {
-        Row::PathValue => MOST_POTENTIAL,
-        Row::FlowValue => 1,
-        Row::AssignmentValue => MOST_POTENTIAL,
-        Row::PathNone => 1,
-        Row::AssignmentNone => 1,
-        Row::AcyclicityValue => MOST_POTENTIAL,
-        Row::AcyclicityNone => 0,
-        Row::Nothing => 0,
-    }
 }
 
 // Is the node number of the source 0?
@@ -134,16 +101,24 @@ fn on_node(row: Row, st: HeldSetting, v: u32, z: i32) -> bool
     }
 }
 
-// 10: does the node number z of the vertex v meet the rules for it?
-pub fn node_ok(row: Row, st: HeldSetting, v: u32, z: i32) -> bool
-    ensures { λ r. ⌜ r ≡ nodeMeets (rulesHeld row) (asked st) v z ⌝ }
+// The number of a claim: 1 a value, else 2.
+fn claim_number(claim: u32) -> u32
+    ensures { λ r. ⌜ r ≡ claimNumber (claimOf claim) ⌝ }
 {
-    let low = lowest_node(row);
-    let high = highest_node(row);
-    if !words::signed::within(low, high, z) {
+    if claim == 1 {
+        return 1;
+    }
+    2
+}
+
+// 10: is the node number z of the vertex v in the range of the table, and does it meet the rule for it?
+pub fn node_ok(st: HeldSetting, claim: u32, v: u32, z: i32) -> bool
+    ensures { λ r. ⌜ r ≡ nodeOk (asked st) (claimOf claim) v z ⌝ }
+{
+    if !ranges::in_table(st.question, claim_number(claim), z) {
         return false;
     }
-    on_node(row, st, v, z)
+    on_node(row_of(st.question, claim), st, v, z)
 }
 
 // The most amount on an arc.

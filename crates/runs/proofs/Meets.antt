@@ -13,7 +13,7 @@ use lib.IntN.{ℤ}
 use lib.ListN.{length, take, length-map}
 use lib.Seq.{take-all}
 use Rattle.prelude.specs.Checks.{Check, settle, Hold}
-use Rattle.prelude.specs.Lists.{Every, Perm, all, at}
+use Rattle.prelude.specs.Lists.{Every, Member, Perm, all, at}
 use Rattle.prelude.proofs.Booleans.{and-left, and-right, both}
 use Rattle.prelude.proofs.Permutations.{perm-sym, perm-length, perm-every}
 use Rattle.prelude.proofs.Settle.{settled, hold-append, hold-left, hold-right, settled-back}
@@ -26,6 +26,8 @@ use Rattle.network.specs.Tests.{readingAll, claimNumber, claimOf, claimOk, Numb
 use Rattle.network.proofs.Allowed.{arc-rule, arc-test}
 use Rattle.network.proofs.Promises.{certificates-sound}
 use Rattle.network.proofs.Tests.{passed-certified, certified-passed, certified-answer}
+use Rattle.ranges.specs.Promises.{pairs}
+use Rattle.ranges.proofs.Promises.{pairs-of-check-nine}
 use Rattle.points.specs.Points.{printOf}
 use Rattle.points.specs.declared.Point.{Point}
 use Rattle.points.proofs.Prints.{same-print, print-same}
@@ -34,7 +36,7 @@ use Rattle.state.specs.Answers.{Said, accepted, gives, refused}
 use Rattle.runs.specs.Run.{Step, read, end, claim, number, repeat, finish, runFrom, listRead}
 use Rattle.runs.specs.Exchange.{exchange, last, numberingAll, repeatingAll, annotationRules, finalRules, verdict, Opens, Readable, Meets, MeetsAll}
 use Rattle.runs.specs.AcceptedLists.{AcceptedLists, over, reading, hasRead, claimed, repeatedIn, numbersOf, sumsAt, agreeAt, stepChecks, acceptedSays, reply, acceptedBy, ReadIs}
-use Rattle.runs.specs.Promises.{AnswersExactly, TrueWhereSame, ExchangeGives, ExchangeFinishes, ExchangeTrue, CertificatesPass}
+use Rattle.runs.specs.Promises.{ClaimsListed, AnswersExactly, TrueWhereSame, ExchangeGives, ExchangeFinishes, ExchangeTrue, CertificatesPass}
 use Rattle.runs.proofs.FirstAndLast.{no-answer}
 use Rattle.runs.proofs.Invariant.{LoadPassed, AnnotationPassed, settle-keeps, repeat-passed}
 use Rattle.runs.proofs.RunsAgree.{Known, running, answer-agrees, known-by, read-as-listed}
@@ -239,6 +241,13 @@ module _ (st : Setting) (r : Point) where
   met-truly (hasRead l) net v g e d m = absurd m
   met-truly (claimed l k ys f) net v (running o g) e d m =
       certificates-sound st net (at ys) f v o (subst (Every (Allowed st)) e (g .list .allowed)) d (m .certificate)
+
+-- check 9 let the claim pass
+listed : (st : Setting) (l : List Arc) (k : ℕ) (ys : List ℤ) (f : List Load) → Known st (claimed l k ys f) → Member (st .question, k) pairs
+listed st l k ys f (running o g) = pairs-of-check-nine .same st k .1 (g .claim-ok)
+
+pub claims-listed : ClaimsListed
+claims-listed st r steps l k ys f e = listed st l k ys f (subst (Known st) e (known-by st r steps))
 
 pub answers-exactly : AnswersExactly
 answers-exactly st r before a v = rw (answer-agrees st r before a) (reply-exactly st r (acceptedBy st r before) (known-by st r before) a v)

@@ -1,6 +1,6 @@
 -- The promises of specs/Promises.antt, kept.
 -- Assumes nothing.
-use Rattle.runs.specs.Promises.{VoidIsOver, OverForEver, RefusalLeaves, FiveChangesNothing, FinishEnds, RefusedOpeningVoid, OnlyRefusals, OpeningAnswers, AnswersOfLists, HoldsAccepted, PointUnseen, ReadAsListed, AnswersExactly, TrueWhereSame, FirstBroken, ExchangeGives, ExchangeFinishes, ExchangeTrue, CertificatesPass, FewWrong}
+use Rattle.runs.specs.Promises.{VoidIsOver, OverForEver, RefusalLeaves, FiveChangesNothing, FinishEnds, RefusedOpeningVoid, OnlyRefusals, OpeningAnswers, AnswersOfLists, HoldsAccepted, PointUnseen, ReadAsListed, ClaimsListed, AnswersExactly, TrueWhereSame, FirstBroken, ExchangeGives, ExchangeFinishes, ExchangeTrue, CertificatesPass, FewWrong}
 use Rattle.runs.proofs.Meets as meets
 use Rattle.runs.proofs.Refusals as refusals
 use Rattle.runs.proofs.RunsAgree as runs
@@ -46,6 +46,9 @@ point-unseen = runs.point-unseen
 
 pub read-as-listed : ReadAsListed
 read-as-listed = runs.read-as-listed
+
+pub claims-listed : ClaimsListed
+claims-listed = meets.claims-listed
 
 pub answers-exactly : AnswersExactly
 answers-exactly = meets.answers-exactly

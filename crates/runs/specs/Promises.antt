@@ -8,11 +8,12 @@ use Prim.Native.Nat.{ℕ}
 use lib.IntN.{ℤ}
 use lib.ListN.{length}
 use Rattle.prelude.specs.Checks.{settle}
-use Rattle.prelude.specs.Lists.{Every, Perm, AtMost, at}
+use Rattle.prelude.specs.Lists.{Every, Member, Perm, AtMost, at}
 use Rattle.network.specs.Network.{Arc, Load, arcs}
 use Rattle.network.specs.Question.{Setting, Answer, TrueAnswer}
 use Rattle.network.specs.Certificate.{claimFor, Certified}
 use Rattle.network.specs.Tests.{claimNumber}
+use Rattle.ranges.specs.Promises.{pairs}
 use Rattle.points.specs.Points.{IsPoint, misleadingPoints}
 use Rattle.points.specs.declared.Point.{Point}
 use Rattle.state.specs.Answers.{accepted, gives, refused, said}
@@ -22,7 +23,7 @@ use Rattle.session.specs.Session.{void, leaves}
 use Rattle.session.specs.Steps.{opening, finishStep}
 use Rattle.session.specs.declared.Session.{Session}
 use Rattle.runs.specs.Run.{Step, finish, step, run, sessionAfter, runFrom, answerTo, listRead, WrongAt}
-use Rattle.runs.specs.AcceptedLists.{agreeAt, replies, openedLists, acceptedBy, repeatedIn, ReadIs}
+use Rattle.runs.specs.AcceptedLists.{claimed, agreeAt, replies, openedLists, acceptedBy, repeatedIn, ReadIs}
 use Rattle.runs.specs.HeldAtPoint.{sessionOf}
 use Rattle.runs.specs.Exchange.{exchange, outcome, last, verdict, Opens, Readable, Meets, MeetsAll}
 
@@ -85,6 +86,12 @@ PointUnseen = (st : Setting) (r q : Point) (steps : List Step) → IsPoint r →
 -- The arcs that a session has read are the list read, found from the steps alone; so m is the length of that list.
 abbrev pub ReadAsListed : Type 0
 ReadAsListed = (st : Setting) (r : Point) (steps : List Step) → ReadIs (listRead st steps) (acceptedBy st r steps)
+
+-- Where a claim stands, the table of ranges has a row for the question and the claim (PANEL 6, check 10): no step asks it for another pair.
+abbrev pub ClaimsListed : Type 0
+ClaimsListed =
+    (st : Setting) (r : Point) (steps : List Step) (l : List Arc) (k : ℕ) (ys : List ℤ) (f : List Load)
+    → acceptedBy st r steps ≡ claimed l k ys f → Member (st .question, k) pairs
 
 -- A step gives an answer exactly if it is finishing, and what is accepted by then meets every rule of the certificate for that answer.
 abbrev pub AnswersExactly : Type 0

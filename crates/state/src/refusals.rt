@@ -12,7 +12,6 @@ use super::READING;
 use checks::HeldSetting;
 use checks::Opening;
 use checks::opening_check;
-use checks::rows::row_of;
 use network::Record;
 use points::Point;
 use reading::reading_check;
@@ -53,7 +52,7 @@ pub(crate) fn number_check(phase: u64, st: HeldSetting, claim: u32, given: u32, 
     if n <= given {
         return 5;
     }
-    if !node_ok(row_of(st.question, claim), st, given, y) {
+    if !node_ok(st, claim, given, y) {
         return 10;
     }
     0

@@ -1,3 +1,3 @@
-pub mod WindowLoops
+pub mod WindowCount
 pub mod OpenTests
 pub mod Promises

@@ -2,13 +2,13 @@
 -- Assumes nothing.
 use mathlib.Core.Path.{_≡_}
 use mathlib.Core.Logic.{_⊎_, _≢_}
-use mathlib.Core.Bool.{Bool, false, _&&_, _||_, not}
+use mathlib.Core.Bool.{Bool, _&&_, _||_, not}
 use mathlib.Core.List.{List, [], _∷_, map}
 use Prim.Native.Nat.{ℕ, _≤_, _<_}
 use lib.Dec.{eqb, leb, ltb}
 use lib.ListN.{length, getD}
 use Rattle.prelude.specs.Checks.{Check, _unless_}
-use Rattle.prelude.specs.Lists.{Every, Some, all}
+use Rattle.prelude.specs.Lists.{Every, Some, all, any}
 
 -- ---- windows
 
@@ -41,11 +41,6 @@ abbrev pub lastEnd : ℕ
 lastEnd = 10080
 
 -- ---- when a record is open
-
--- The test holds of some element.
-abbrev pub any : {A : Type 0} → (A → Bool) → List A → Bool
-any p [] = false
-any p (a ∷ l) = p a || any p l
 
 -- Is it a window of the record at the position k?
 abbrev pub isOf : ℕ → Window → Bool

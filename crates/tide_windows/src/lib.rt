@@ -2,8 +2,8 @@
 ghost use mathlib.Core.Path.{_≡_};
 ghost use mathlib.Core.Bool.{_&&_};
 ghost use Rattle.prelude.specs.Checks.{firstBroken};
-ghost use Rattle.prelude.specs.Lists.{all};
-ghost use Rattle.tide_windows.specs.Windows.{windowIn, windowsIn, any, isOf, includes, isOpen, windowOk, windowsChecks};
+ghost use Rattle.prelude.specs.Lists.{all, any};
+ghost use Rattle.tide_windows.specs.Windows.{windowIn, windowsIn, isOf, includes, isOpen, windowOk, windowsChecks};
 
 // The limits (PANEL 14): the most windows, the last minute of a week, and the last end.
 const MOST_WINDOWS: usize = 64;

@@ -1,16 +1,18 @@
 -- `tide_windows::has_window` meets its contract. The loop's invariant: no window before the row i is of the position.
 -- Assumes nothing.
 use mathlib.Core.Path.{sym}
+use mathlib.Core.List.{[]}
 use Prim.Native.Nat.{_-_}
 use lib.ListN.{length}
 use borrow.Author.Needs.{needs}
-use Rattle.tide_windows.specs.Windows.{any, isOf}
-use Rattle.tide_windows.proofs.WindowLoops.{Ahead, ahead-start, ahead-end, any-found, any-next}
+use Rattle.prelude.specs.Lists.{any}
+use Rattle.prelude.proofs.Searches.{Ahead, ahead-start, ahead-end, any-found, any-next}
+use Rattle.tide_windows.specs.Windows.{windowIn, isOf}
 use Rattle.tide_windows.proofs.has_window.Statement.{statement}
 use Rattle.tide_windows.proofs.has_window.Tie as tie
 
 abbrev Inv-loop : tie.InvT-loop
-Inv-loop windows position i₀ i = Ahead (any (isOf position)) windows i
+Inv-loop windows position i₀ i = Ahead windowIn (any (isOf position)) windows i
 
 abbrev μ-loop : tie.MeasureT-loop
 μ-loop windows position i₀ i = length windows - i
@@ -21,12 +23,12 @@ has-window-spec =
     (tie.spec
     Inv-loop
     μ-loop
-    (λ c. ahead-start _ _)
+    (λ c. ahead-start _ _ _)
     (λ c. search needs)
     (λ c. search needs)
     (λ c κs. tt)
-    (λ c. any-found _ (c .before .before .before .before .loop .inv) (c .before .before .before .loop-test .taken) (c .before .is-of .ensures) (c .if1 .taken))
+    (λ c. any-found windowIn _ [] (c .before .before .before .before .loop .inv) (c .before .before .before .loop-test .taken) (c .before .is-of .ensures) (c .if1 .taken))
     (λ c. search needs)
     (λ c. search needs)
-    (λ c. any-next _ (c .before .before .before .before .loop .inv) (c .before .before .before .loop-test .taken) (c .before .is-of .ensures) (c .if1 .left))
-    (λ c. sym (ahead-end _ _ _ (c .before .loop .inv) (c .loop-test .left))))
+    (λ c. any-next windowIn _ [] (c .before .before .before .before .loop .inv) (c .before .before .before .loop-test .taken) (c .before .is-of .ensures) (c .if1 .left))
+    (λ c. sym (ahead-end _ _ _ _ (c .before .loop .inv) (c .loop-test .left))))

@@ -2,7 +2,7 @@
 -- Assumes nothing.
 use borrow.Author.Tests.{le-leb, lt-leb}
 use Rattle.prelude.proofs.Tested.{passed, refused}
-use Rattle.tide_windows.proofs.WindowLoops.{too-many, few-enough}
+use Rattle.tide_windows.proofs.WindowCount.{too-many, few-enough}
 use Rattle.tide_windows.proofs.windows_check.Statement.{statement}
 use Rattle.tide_windows.proofs.windows_check.Tie as tie
 

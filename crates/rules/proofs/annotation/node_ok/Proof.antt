@@ -1,25 +1,21 @@
 -- `rules::annotation::node_ok` meets its contract.
 -- Assumes nothing.
-use mathlib.Core.Path.{_≡_}
-use mir.Syntax.{w32}
+use mathlib.Core.Path.{_≡_, sym, _∙_}
 use mir.Facts.{toZ-ofZ}
 use borrow.Author.Needs.{needs}
-use Rattle.prelude.specs.Integers.{between}
-use Rattle.checks.specs.Held.{rulesHeld}
-use Rattle.prelude.proofs.Tested.{tested}
-use Rattle.rules.proofs.Signed.{returned}
+use Rattle.network.specs.Tests.{claimNumber, claimOf}
+use Rattle.prelude.proofs.Tested.{passed, refused, first-off, and-on}
+use Rattle.checks.specs.Held.{asked}
+use Rattle.ranges.specs.Ranges.{inTable}
+use Rattle.ranges.proofs.Promises.{check-ten-same}
 use Rattle.rules.proofs.annotation.node_ok.Statement.{statement}
 use Rattle.rules.proofs.annotation.node_ok.Tie as tie
 
--- what the call of `within` tells, at the numbers themselves
-in-range : (c : tie.After-within) →
-    let a = c .before .before .before .args in
-    c .within .result ≡ between (rulesHeld (a .row) .lowest) (rulesHeld (a .row) .highest) (a .z)
-in-range c =
-    let low = c .before .before .lowest-node in
-    let high = c .before .highest-node in
-    let s = c .before .before .before in
-    simp (returned w32 (low .result) (low .ok) (low .ensures), returned w32 (high .result) (high .ok) (high .ensures), toZ-ofZ (s .fits .z)) at (c .within .ensures)
+-- what the table says of the number
+in-range : (c : tie.After-in-table) →
+    let a = c .before .before .args in
+    c .in-table .result ≡ inTable (a .st .question) (claimNumber (claimOf (a .claim))) (a .z)
+in-range c = rw (c .before .claim-number .ensures) at (simp (toZ-ofZ (c .before .before .fits .z)) at (c .in-table .ensures))
 
 pub node-ok-spec : {M : Type 1} → statement M
 node-ok-spec =
@@ -27,7 +23,13 @@ node-ok-spec =
     (tie.spec
     (λ c κs. search needs)
     (λ c κs. search needs)
+    (λ c.
+    let a = c .before .before .before .args in
+    sym (check-ten-same (asked (a .st)) (claimOf (a .claim)) (a .v) (a .z) ∙ first-off _ _ (refused _ _ (c .if1 .taken) (in-range (c .before)))))
     (λ c κs. search needs)
-    (λ c. let e = in-range (c .before) in search tested depth 12)
     (λ c κs. search needs)
-    (λ c. let e = in-range (c .before .before) in let f = simp (toZ-ofZ (c .before .before .before .before .before .fits .z)) at (c .on-node .ensures) in search tested depth 12))
+    (λ c.
+    let s = c .before .before .before .before .before in
+    let a = s .args in
+    let rule = rw (c .before .row-of .ensures) at (simp (toZ-ofZ (s .fits .z)) at (c .on-node .ensures)) in
+    rw (check-ten-same (asked (a .st)) (claimOf (a .claim)) (a .v) (a .z)) (and-on _ _ _ (passed _ _ (c .before .before .if1 .left) (in-range (c .before .before .before))) rule)))

@@ -14,6 +14,5 @@ number-check-spec =
     (λ c. search tested depth 12)
     (λ c. search tested depth 12)
     (λ c κs. tt)
-    (λ c κs. tt)
-    (λ c. let test = rw (c .before .before .row-of .ensures) at (simp (toZ-ofZ (c .before .before .before .before .before .before .fits .y)) at (c .before .node-ok .ensures)) in search tested depth 12)
-    (λ c. let test = rw (c .before .before .row-of .ensures) at (simp (toZ-ofZ (c .before .before .before .before .before .before .fits .y)) at (c .before .node-ok .ensures)) in search tested depth 12))
+    (λ c. let test = simp (toZ-ofZ (c .before .before .before .before .before .fits .y)) at (c .before .node-ok .ensures) in search tested depth 12)
+    (λ c. let test = simp (toZ-ofZ (c .before .before .before .before .before .fits .y)) at (c .before .node-ok .ensures) in search tested depth 12))
