@@ -1,6 +1,6 @@
 -- The promises of the table of ranges.
 -- Assumes nothing.
-use mathlib.Core.Path.{_≡_, ap, subst}
+use mathlib.Core.Path.{_≡_, ap}
 use mathlib.Core.Logic.{inl, inr}
 use mathlib.Core.Bool.{Bool, true, not, _&&_}
 use mathlib.Core.List.{List, [], _∷_}
@@ -11,9 +11,9 @@ use borrow.Author.Tests.{eq-eqb}
 use Rattle.prelude.specs.Lists.{Every, Member, Distinct, all}
 use Rattle.prelude.proofs.Booleans.{and-left, and-right}
 use Rattle.prelude.proofs.Lists.{every-at, all→every}
-use Rattle.network.specs.Question.{questionOf, unasked, Setting, asks}
+use Rattle.network.specs.Question.{questionOf, unasked}
 use Rattle.network.specs.Certificate.{rulesFor, MayClaim}
-use Rattle.network.specs.Tests.{claimOf, claimOk}
+use Rattle.network.specs.Tests.{claimOf}
 use Rattle.network.proofs.Allowed.{claim-rule}
 use Rattle.ranges.specs.Promises.{RangesAsCertified, pairs, PairsOfCheckNine, TableExact, CheckTenSame}
 use Rattle.ranges.proofs.Tables.{above}

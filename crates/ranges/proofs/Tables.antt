@@ -10,9 +10,10 @@ use borrow.Author.Tests.{ne-eqb, le-leb, lt-leb}
 use Rattle.prelude.specs.Integers.{between}
 use Rattle.prelude.specs.Lists.{any}
 use Rattle.network.specs.Question.{Question, shortestPath, maximumFlow, assignment, acyclicity, unasked, questionOf, Setting, asks}
-use Rattle.network.specs.Certificate.{Claim, ofValue, ofNone, rulesFor, rulesOf, nodeMeets}
-use Rattle.network.specs.Tests.{claimNumber, claimOf, claimOk, nodeOk}
+use Rattle.network.specs.Certificate.{Claim, ofValue, ofNone, rulesFor, nodeMeets}
+use Rattle.network.specs.Tests.{claimOf}
 use Rattle.ranges.specs.Ranges.{nodeRanges, covers, inTable}
+use Rattle.ranges.specs.Promises.{TableExact, CheckTenSame}
 
 -- found row by row, for the number y that z is
 pub by-rows : (q k : ℕ) (y z : ℤ) → y ≡ z → (b : Bool) → b ≡ any (covers q k y) nodeRanges → b ≡ inTable q k z
@@ -42,11 +43,8 @@ abbrev Exact : ℕ → ℕ → ℤ → Type 0
 Exact q k z = any (covers q k z) nodeRanges ≡ certified q k z
 
 -- a question that there is not
-unlisted : (q k : ℕ) (z : ℤ) → eqb q 1 ≡ false → eqb q 2 ≡ false → eqb q 3 ≡ false → eqb q 4 ≡ false → Exact q k z
-unlisted q k z a b c d = simp (a, b, c, d, and-false)
-
 past-four : (q k : ℕ) (z : ℤ) → 4 < q → Exact q k z
-past-four q k z h = unlisted q k z (above q 1 (omega arith)) (above q 2 (omega arith)) (above q 3 (omega arith)) (above q 4 h)
+past-four q k z h = simp (above q 1 (omega arith), above q 2 (omega arith), above q 3 (omega arith), above q 4 h, and-false)
 
 exact-value : (q : ℕ) (z : ℤ) → Exact q 1 z
 exact-value zero z = refl
@@ -76,7 +74,7 @@ exact q (suc (suc (suc k))) z =
     let n = suc (suc (suc k)) in
     exact-other q n z (above n 1 (omega arith)) (above n 2 (omega arith)) (rw (le-leb 1 n (omega arith)) (lt-leb n 2 (omega arith)))
 
-pub table-exact : (st : Setting) (k : ℕ) (z : ℤ) → inTable (st .question) k z ≡ (claimOk st k && between (rulesOf st (claimOf k) .lowest) (rulesOf st (claimOf k) .highest) z)
+pub table-exact : TableExact
 unfolding inTable
 table-exact st k z = exact (st .question) k z
 
@@ -96,6 +94,6 @@ admitted-meets acyclicity ofValue st v z = refl
 admitted-meets acyclicity ofNone st v z = refl
 admitted-meets unasked c st v z = and-false (between (pos 0) (pos 0) z)
 
-pub check-ten-same : (st : Setting) (c : Claim) (v : ℕ) (z : ℤ) → nodeOk st c v z ≡ (inTable (st .question) (claimNumber c) z && rulesOf st c .onNode st v z)
+pub check-ten-same : CheckTenSame
 check-ten-same st ofValue v z = rw (table-exact st 1 z) (admitted-meets (asks st) ofValue st v z)
 check-ten-same st ofNone v z = rw (table-exact st 2 z) (admitted-meets (asks st) ofNone st v z)
