@@ -293,9 +293,15 @@ impl State {
     {
         let reading = self.reading;
         let repeating = self.repeating;
+        let count = repeating.list.count;
+        let print = repeating.list.print;
         let question = question_of(reading.setting.question as u32);
+        // not by `with_arc`: compiled, the count and the product of what it hands back share a word, and judging takes longer
         let next = Repeating {
-            list: with_arc(reading.point, repeating.list, reading.list.count, arc),
+            list: Stream {
+                count: count + 1,
+                print: points::with_arc(reading.point, print, arc),
+            },
             cost: cost_after(repeating.cost, unit_cost(question, arc), x),
             cut: cut_after(repeating.cut, units_most(question, arc), crossing),
         };
