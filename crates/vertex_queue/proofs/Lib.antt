@@ -1,0 +1,2 @@
+pub mod LeastPlaces
+pub mod Laws
