@@ -57,9 +57,11 @@ fallen l from m v k inside after before less L = go (decLe k m)
     least : (i : ℕ) → from ≤ i → i < from + 16 → ((i ≡ v) × (entry (set l v k) i ≡ k)) ⊎ ((i ≢ v) × (entry (set l v k) i ≡ entry l i)) → min m k ≤ entry (set l v k) i
     least i g h (inl e) = omega (arith, e .1)
     least i g h (inr e) = omega (arith, e .1, L .below i g h)
+
     other : m < k → ((L .j ≡ v) × (entry (set l v k) (L .j) ≡ k)) ⊎ ((L .j ≢ v) × (entry (set l v k) (L .j) ≡ entry l (L .j))) → entry (set l v k) (L .j) ≡ m
     other q (inl e) = absurd (omega (arith, L .at-one, ap (λ (i : ℕ). entry l i) (e .0)))
     other q (inr e) = e .1 ∙ L .at-one
+
     go : Dec (k ≤ m) → LeastOf (set l v k) from 16 (min m k)
     go (yes q) =
         record {
@@ -99,6 +101,7 @@ stored keys low v k b m K inside after before L =
     away : (c : ℕ) → c ≢ b → Dec (b ≤ c) → v < 16 * c ⊎ 16 * c + 16 ≤ v
     away c n (yes q) = inl (omega arith)
     away c n (no q) = inr (omega arith)
+
     go : (c : ℕ) → c < 16 → ((c ≡ b) × (entry (set low b m) c ≡ m)) ⊎ ((c ≢ b) × (entry (set low b m) c ≡ entry low c)) → LeastOf (set keys v k) (16 * c) 16 (entry (set low b m) c)
     go c h (inl e) = rw (e .1, e .0) L
     go c h (inr e) = least-as (set keys v k) (16 * c) (entry low c) (entry (set low b m) c) (e .1) (elsewhere keys (16 * c) (entry low c) v k (away c (e .0) (decLe b c)) (K .least c h))

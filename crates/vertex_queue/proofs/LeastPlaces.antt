@@ -49,6 +49,7 @@ module _ (l : List ℕ) (from : ℕ) where
       more : (at : ℕ) → (i : ℕ) → i < from + suc (suc n) → (i < from + suc n → entry l at ≤ entry l i) → entry l at ≤ entry l (from + suc n) → Dec (i ≡ from + suc n) → entry l at ≤ entry l i
       more at i b f g (yes e) = omega (arith, entry-at l e)
       more at i b f g (no e) = f (omega arith)
+
       go : Dec (entry l (from + suc n) < entry l (leastFrom l from (suc n))) → PlaceOfLeast l from (suc n) (leastFrom l from (suc n)) → PlaceOfLeast l from (suc (suc n)) (leastFrom l from (suc (suc n)))
       go (yes less) F =
           let e = next-less (suc n) less in

@@ -42,10 +42,10 @@ fn least_entry(from: usize, l: &[u32]) -> u32
     ensures { λ r. ⌜ r ≡ leastEntry (now (l .entry)) from ⌝ }
 {
     let mut best = l[from];
-    let mut i = 1;
-    while i < 16 {
-        best = lesser(l[from + i], best);
-        i += 1;
+    let mut e = 1;
+    while e < 16 {
+        best = lesser(l[from + e], best);
+        e += 1;
     }
     best
 }
@@ -64,7 +64,8 @@ pub fn put(v: u8, k: u32, keys: &mut [u32; 256], low: &mut [u32; 16])
 {
     let b = (v / 16) as usize;
     keys[v as usize] = k;
-    low[b] = lesser(low[b], k);
+    let old = low[b];
+    low[b] = lesser(old, k);
 }
 
 // Takes the first vertex with the least key, which then waits no longer.

@@ -1,4 +1,4 @@
--- `vertex_queue::least_entry` meets its contract. The loop's invariant: the least among the first i entries.
+-- `vertex_queue::least_entry` meets its contract. The loop's invariant: the least among the first e entries.
 -- Assumes nothing.
 use Prim.Native.Nat.{_-_}
 use native.Mathlib.Omega.{arith}
@@ -8,22 +8,22 @@ use Rattle.vertex_queue.proofs.least_entry.Statement.{statement}
 use Rattle.vertex_queue.proofs.least_entry.Tie as tie
 
 abbrev Inv-loop : tie.InvT-loop
-Inv-loop from l best₀ i₀ best i = ScannedLeast l from i best
+Inv-loop from l best₀ e₀ best e = ScannedLeast l from e best
 
 abbrev μ-loop : tie.MeasureT-loop
-μ-loop from l best₀ i₀ best i = 16 - i
+μ-loop from l best₀ e₀ best e = 16 - e
 
 loop-again : tie.Need-loop-again Inv-loop μ-loop
 loop-again c =
     let a = c .before .before .before .before .before .before .args in
     let l = c .before .before .before .loop in
-    least-turn (a .l .now) (a .from) (l .i) (l .best) _ (c .before .before .loop-test .taken) (l .inv) (c .lesser .ensures)
+    least-turn (a .l .now) (a .from) (l .e) (l .best) _ (c .before .before .loop-test .taken) (l .inv) (c .lesser .ensures)
 
 returns : tie.Need-returns Inv-loop μ-loop
 returns c =
     let a = c .before .before .before .before .args in
     let l = c .before .loop in
-    least-end (a .l .now) (a .from) (l .i) (l .best) (c .loop-test .left) (l .inv)
+    least-end (a .l .now) (a .from) (l .e) (l .best) (c .loop-test .left) (l .inv)
 
 pub least-entry-spec : {M : Type 1} → statement M
 least-entry-spec =

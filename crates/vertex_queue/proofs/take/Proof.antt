@@ -14,9 +14,10 @@ returns c =
     let vertex = c .before .before .before .first-least2 in
     let b = block .result in
     let v = vertex .result in
-    let k = c .least-entry .result in
-    ( vertex-found keys low b v k (block .ensures .0) (vertex .ensures .0) (c .least-entry .ensures)
-    , taken-found keys low b v k (block .ensures .0) (vertex .ensures .0) (c .least-entry .ensures) )
+    let k = c .least-entry .result in (
+      vertex-found keys low b v k (block .ensures .0) (vertex .ensures .0) (c .least-entry .ensures),
+      taken-found keys low b v k (block .ensures .0) (vertex .ensures .0) (c .least-entry .ensures),
+    )
 
 pub take-spec : {M : Type 1} → statement M
 take-spec =
