@@ -20,15 +20,15 @@ loop-again c =
     let l = c .before .before .before .loop in
     let within = c .before .before .loop-test .taken in
     ⊎-elim
-    (λ w. scan-less (a .l .now) (a .from) (l .i) (l .at) (l .best) _ _ within (l .inv) (w .0 .taken) (w .1) (w .2))
-    (λ w. scan-not (a .l .now) (a .from) (l .i) (l .at) (l .best) _ _ within (l .inv) (w .0 .left) (w .1) (w .2))
+    (λ w. scan-less (a .l .now) (a .from) (l .i) (l .at) (l .best) _ _ (omega (arith, within)) (l .inv) (w .0 .taken) (w .1) (w .2))
+    (λ w. scan-not (a .l .now) (a .from) (l .i) (l .at) (l .best) _ _ (omega (arith, within)) (l .inv) (w .0 .left) (w .1) (w .2))
     (c .if1 .came)
 
 returns : tie.Need-returns Inv-loop μ-loop
 returns c =
     let a = c .before .before .before .args in
     let l = c .before .loop in
-    let e = scan-end (a .l .now) (a .from) (l .i) (l .at) (l .best) (c .loop-test .left) (l .inv) in
+    let e = scan-end (a .l .now) (a .from) (l .i) (l .at) (l .best) (omega (arith, c .loop-test .left)) (l .inv) in
     let P = first-of-16 (a .l .now) (a .from) in
     (e, omega (arith, P .after), omega (arith, P .before))
 

@@ -17,13 +17,13 @@ loop-again : tie.Need-loop-again Inv-loop μ-loop
 loop-again c =
     let a = c .before .before .before .before .before .before .args in
     let l = c .before .before .before .loop in
-    least-turn (a .l .now) (a .from) (l .e) (l .best) _ (c .before .before .loop-test .taken) (l .inv) (c .lesser .ensures)
+    least-turn (a .l .now) (a .from) (l .e) (l .best) _ (omega (arith, c .before .before .loop-test .taken)) (l .inv) (c .lesser .ensures)
 
 returns : tie.Need-returns Inv-loop μ-loop
 returns c =
     let a = c .before .before .before .before .args in
     let l = c .before .loop in
-    least-end (a .l .now) (a .from) (l .e) (l .best) (c .loop-test .left) (l .inv)
+    least-end (a .l .now) (a .from) (l .e) (l .best) (omega (arith, c .loop-test .left)) (l .inv)
 
 pub least-entry-spec : {M : Type 1} → statement M
 least-entry-spec =
