@@ -1,0 +1,6 @@
+pub mod Filled
+pub mod Growing
+pub mod Chains
+pub mod Ends
+pub mod Walks
+pub mod Promises

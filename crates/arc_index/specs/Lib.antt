@@ -1,0 +1,3 @@
+pub mod ArcIndex
+pub mod Chains
+pub mod Promises
