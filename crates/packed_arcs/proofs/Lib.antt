@@ -3,3 +3,4 @@ pub mod LentParts
 pub mod ListLoops
 pub mod LimitTests
 pub mod ColumnSums
+pub mod Zeros

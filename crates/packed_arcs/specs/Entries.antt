@@ -1,7 +1,7 @@
--- Lists of numbers: their entries, zeros, and the sum of amounts at a vertex.
+-- Lists of numbers: their entries, zeros and how many there are, and the sum of amounts at a vertex.
 -- Assumes nothing.
 use mathlib.Core.List.{List, [], _∷_}
-use Prim.Native.Nat.{ℕ, _+_, _*_}
+use Prim.Native.Nat.{ℕ, zero, suc, _+_, _*_}
 use lib.Dec.{eqb}
 use lib.ListN.{getD, replicate}
 use Rattle.prelude.specs.Choice.{indicator}
@@ -13,6 +13,12 @@ entry l i = getD l i 0
 -- n zeros.
 abbrev pub zeroList : ℕ → List ℕ
 zeroList n = replicate n 0
+
+-- How many entries are 0.
+unfoldable pub zeros : List ℕ → ℕ
+zeros [] = 0
+zeros (zero ∷ l) = 1 + zeros l
+zeros (suc a ∷ l) = zeros l
 
 -- The sum of x over the arcs whose vertex in the column is w.
 unfoldable pub flowAt : List ℕ → List ℕ → ℕ → ℕ

@@ -1,0 +1,4 @@
+pub mod Columns
+pub mod Matching
+pub mod Tree
+pub mod Augmenting

@@ -1,0 +1,38 @@
+// The ends and the weight of the arc of a record.
+ghost use mathlib.Core.Path.{_≡_};
+ghost use Prim.Native.Nat.{_<_};
+ghost use lib.ListN.{length};
+ghost use Rattle.packed_arcs.specs.Entries.{entry};
+ghost use Rattle.matching.specs.Columns.{tailsOf, headsOf, weightsOf};
+use network::arc_in;
+
+pub(crate) fn tail_at(e: usize, records: &[u32]) -> usize
+    requires { ⌜ e < length (now records) ⌝ }
+    ensures { λ r. ⌜ r ≡ entry (tailsOf (now (records .entry))) e ⌝ }
+{
+    let arc = arc_in(records[e]);
+    arc.tail as usize
+}
+
+pub(crate) fn head_at(e: usize, records: &[u32]) -> usize
+    requires { ⌜ e < length (now records) ⌝ }
+    ensures { λ r. ⌜ r ≡ entry (headsOf (now (records .entry))) e ⌝ }
+{
+    let arc = arc_in(records[e]);
+    arc.head as usize
+}
+
+pub(crate) fn weight_at(e: usize, records: &[u32]) -> u32
+    requires { ⌜ e < length (now records) ⌝ }
+    ensures { λ r. ⌜ r ≡ entry (weightsOf (now (records .entry))) e ⌝ }
+{
+    let arc = arc_in(records[e]);
+    arc.weight
+}
+
+// The number of an arc as an index of an array.
+pub(crate) fn place(e: u16) -> usize
+    ensures { λ r. ⌜ r ≡ e ⌝ }
+{
+    e as usize
+}

@@ -1,0 +1,5 @@
+// A matching of least cost.
+mod arcs;
+mod augment;
+mod raise;
+mod tree;
