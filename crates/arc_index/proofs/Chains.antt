@@ -5,10 +5,11 @@ use mathlib.Core.List.{List, [], _∷_}
 use Prim.Native.Nat.{ℕ, zero, suc, _+_, _<_, _≤_}
 use native.Mathlib.Numerals.{add-one}
 use native.Mathlib.Omega.{arith}
-use lib.ListN.{length, take}
+use lib.ListN.{length, take, set}
+use borrow.Author.Tests.{lt-ltb, le-ltb}
 use Rattle.prelude.specs.Lists.{Every}
 use Rattle.packed_arcs.specs.Entries.{entry}
-use Rattle.arc_index.specs.ArcIndex.{noArc, Index, linksOf, added, indexFrom}
+use Rattle.arc_index.specs.ArcIndex.{noArc, Index, indexOf, linksOf, added, addedBelow, indexFrom}
 use Rattle.arc_index.specs.Chains.{First, Chains}
 use Rattle.arc_index.proofs.Growing.{FirstOf, grown}
 
@@ -22,6 +23,14 @@ links-chains ends h b =
     record { few = h; len = G .room; firsts = λ v l. first-of (G .heads v l); nexts = λ e l. first-of (G .nexts e l) }
 
 -- ---- one arc after the other
+
+pub not-added : (e v : ℕ) (I : Index) → noArc ≤ e → I ≡ addedBelow e v I
+not-added e v I h = rw (le-ltb e noArc h)
+
+-- the arc e noted at the place p of its vertex
+pub noted : (e v p : ℕ) (links last links' : List ℕ) → e < noArc → p ≡ entry last v → links' ≡ set links p e → indexOf links' (set last v (256 + e)) ≡ addedBelow e v (indexOf links last)
+noted e v p links last links' h q s =
+    rw (lt-ltb e noArc h) (ap (λ (l : List ℕ). indexOf l (set last v (256 + e))) (s ∙ ap (λ (i : ℕ). set links i e) q))
 
 index-next : (k : ℕ) (ends : List ℕ) (e : ℕ) (I : Index) → e < length ends → indexFrom k (take (suc e) ends) I ≡ added (k + e) (entry ends e) (indexFrom k (take e ends) I)
 unfolding indexFrom

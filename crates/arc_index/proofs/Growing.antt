@@ -70,10 +70,10 @@ module _ (col : ℕ → ℕ) (most e v : ℕ) (I : Index) (within : e < most) (h
   p = entry (I .last) v
 
   abbrev links₁ : List ℕ
-  links₁ = set (I .links) p e
+  links₁ = added e v I .links
 
   abbrev last₁ : List ℕ
-  last₁ = set (I .last) v (256 + e)
+  last₁ = added e v I .last
 
   low : e ≤ noArc
   low = omega (arith, G .few)

@@ -49,13 +49,19 @@ pub fn begin(links: &mut [u16], last: &mut [u16; 256])
     *last = first_places();
 }
 
-// Notes the arc e at a place in links, and nothing past the end.
-fn note(e: u16, place: u16, links: &mut [u16])
-    ensures { λ _. ⌜ now (links .exit) ≡ set (now (links .entry)) place e ⌝ }
+// A place as an index of an array.
+fn place(k: u16) -> usize
+    ensures { λ r. ⌜ r ≡ k ⌝ }
 {
-    let i = place as usize;
-    if i < links.len() {
-        links[i] = e;
+    k as usize
+}
+
+// Notes the arc e at a place in links, and nothing past the end.
+fn note(e: u16, at: usize, links: &mut [u16])
+    ensures { λ _. ⌜ now (links .exit) ≡ set (now (links .entry)) at e ⌝ }
+{
+    if at < links.len() {
+        links[at] = e;
     }
 }
 
@@ -67,7 +73,8 @@ pub fn add(e: u16, v: u8, links: &mut [u16], last: &mut [u16; 256])
         return;
     }
     let i = v as usize;
-    note(e, last[i], links);
+    let p = place(last[i]);
+    note(e, p, links);
     last[i] = 256 + e;
 }
 

@@ -13,8 +13,8 @@ end-of-spec =
     (tie.spec
     (λ c κs. search needs)
     (λ c. search needs)
-    (λ c. record { fits = omega (arith, ap (λ (e : Arc). e .tail) (c .before .before .before .arc-in .ensures)) })
+    (λ c. record { fits = omega (arith, ap (λ (e : Arc). e .tail) (c .before .before .before .arc-in .ensures), ap (λ (e : Arc). e .head) (c .before .before .before .arc-in .ensures)) })
     (λ c. search needs)
-    (λ c. record { fits = omega (arith, ap (λ (e : Arc). e .head) (c .before .before .before .arc-in .ensures)) })
+    (λ c. record { fits = omega (arith, ap (λ (e : Arc). e .tail) (c .before .before .before .arc-in .ensures), ap (λ (e : Arc). e .head) (c .before .before .before .arc-in .ensures)) })
     (λ c. rw (c .before .enum-told .given .1) (ap (λ (e : Arc). e .tail) (c .before .before .before .arc-in .ensures)))
     (λ c. rw (c .before .enum-told2 .given .1) (ap (λ (e : Arc). e .head) (c .before .before .before .arc-in .ensures))))
