@@ -1,0 +1,26 @@
+-- `index_cases::all` is safe and ends: it counts to 192.
+-- Assumes nothing.
+use Prim.Native.Nat.{_-_}
+use native.Mathlib.Omega.{arith}
+use borrow.Author.Needs.{needs}
+use Rattle.index_cases.proofs.all.Statement.{statement}
+use Rattle.index_cases.proofs.all.Tie as tie
+
+abbrev Inv-loop : tie.InvT-loop
+Inv-loop tally₀ seed₀ tally seed = Unit {0}
+
+abbrev μ-loop : tie.MeasureT-loop
+μ-loop tally₀ seed₀ tally seed = 192 - seed
+
+pub all-spec : {M : Type 1} → statement M
+all-spec =
+    tie.close
+    (tie.spec
+    Inv-loop
+    μ-loop
+    (λ c. tt)
+    (λ c κs. search needs)
+    (λ c. omega arith)
+    (λ c. omega arith)
+    (λ c. tt)
+    (λ c. search needs))
