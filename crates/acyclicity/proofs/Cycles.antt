@@ -12,8 +12,9 @@ use Rattle.packed_arcs.specs.Entries.{entry, zeroList, flowAt}
 use Rattle.packed_arcs.proofs.LentParts.{zero-at}
 use Rattle.packed_arcs.proofs.ColumnSums.{flow-none, flow-add}
 use Rattle.packed_arcs.proofs.ListLoops.{set-cases}
-use Rattle.acyclicity.specs.Search.{Circulates}
-use Rattle.acyclicity.specs.Steps.{Arcs, Points, Path, Closed}
+use Rattle.arc_index.specs.ArcIndex.{noArc}
+use Rattle.acyclicity.specs.Search.{Circulation}
+use Rattle.acyclicity.specs.Steps.{Arcs, Points, Path, ClosedPath}
 
 -- the arc e, which has no mark, gets one
 at-marked : (l xs : List ℕ) (e v : ℕ) → e < length l → length xs ≡ length l → entry xs e ≡ 0 → flowAt l (set xs e 1) v ≡ flowAt l xs v + delta (entry l e) v
@@ -28,7 +29,7 @@ pub record Marking (tails heads into path spot marks : List ℕ) (k len i : ℕ)
   pub marks-len : length marks ≡ length tails
   pub zero-or-one : (e : ℕ) → entry marks e ≤ 1
   pub behind : (e : ℕ) → 0 < entry marks e → entry spot (entry heads e) ≤ i
-  pub hook : k < i → 0 < entry marks (entry into (entry path k) - 1)
+  pub hook : k < i → 0 < entry marks (entry into (entry path k))
   pub from : ℕ
   pub on-path : i < len → from ≡ entry path i
   pub around : len ≤ i → from ≡ entry path k
@@ -40,9 +41,8 @@ pub record AtIndex (rs into path : List ℕ) (i : ℕ) : Type 0 where
   pub low : i < 255
   pub vertex : entry path i < length into
   pub vertex-low : entry path i < 255
-  pub above : 1 ≤ entry into (entry path i)
-  pub arc : entry into (entry path i) - 1 < length rs
-  pub arc-low : entry into (entry path i) - 1 < 4096
+  pub arc : entry into (entry path i) < length rs
+  pub arc-low : entry into (entry path i) < 4096
 
 -- and of the vertex w from which an arc enters the last
 pub record AtEnd (spot : List ℕ) (w : ℕ) : Type 0 where
@@ -50,55 +50,54 @@ pub record AtEnd (spot : List ℕ) (w : ℕ) : Type 0 where
   pub low : w < 255
   pub some : 1 ≤ entry spot w
 
-module _ {n : ℕ} {tails heads into path spot : List ℕ} {len : ℕ} (A : Arcs n tails heads) (C : Closed n tails heads into path spot len) where
+module _ {n : ℕ} {tails heads into path spot : List ℕ} {len : ℕ} (A : Arcs n tails heads) (C : ClosedPath n tails heads into path spot len) where
   abbrev P : Path n tails into path spot len
   P = C .on-path
 
   -- the arc into the vertex at i
   module _ (i : ℕ) (h : i < len) where
     abbrev arc : ℕ
-    arc = entry into (entry path i) - 1
+    arc = entry into (entry path i)
 
-    pub place-above : 0 < entry into (entry path i)
-    place-above = go (decLt (i + 1) len)
+    some-arc : arc < noArc
+    some-arc = go (decLt (i + 1) len)
       where
-        go : Dec (i + 1 < len) → 0 < entry into (entry path i)
+        go : Dec (i + 1 < len) → arc < noArc
         go (yes l) = P .joined i l .some
-        go (no ne) = subst (λ (j : ℕ). 0 < entry into (entry path j)) (omega arith) (C .taken)
+        go (no ne) = subst (λ (j : ℕ). entry into (entry path j) < noArc) (omega arith) (C .taken)
 
-    at-vertex : Points heads (entry path i) (entry into (entry path i)) (length tails)
+    at-vertex : Points heads (entry path i) arc
     at-vertex = C .points (entry path i) (P .vertex i h)
 
     pub arc-below : arc < length tails
-    arc-below = omega (arith, place-above, at-vertex .within)
+    arc-below = omega (arith, at-vertex .within some-arc, A .heads-len)
 
     arc-head : entry heads arc ≡ entry path i
-    arc-head = at-vertex .here place-above
+    arc-head = at-vertex .here some-arc
 
   -- what the code asks at the index i
   pub at-index : (rs : List ℕ) → length tails ≡ length rs → (i : ℕ) → i < len → AtIndex rs into path i
   at-index rs q i h =
       let vertex : entry path i < n = P .vertex i h in
-      let arc : entry into (entry path i) - 1 < length tails = arc-below i h in
+      let arc : entry into (entry path i) < length tails = arc-below i h in
       record {
         inside = omega (arith, P .count, P .path-len);
         low = omega (arith, P .count, A .vertices);
         vertex = omega (arith, C .into-len);
         vertex-low = omega (arith, A .vertices);
-        above = place-above i h;
         arc = omega arith;
         arc-low = omega (arith, A .few);
       }
 
   -- w is the vertex from which an arc enters the last, and k is its index
-  module _ (w k : ℕ) (hw : w ≡ entry tails (entry into (entry path (len - 1)) - 1)) (hk : k ≡ entry spot w - 1) where
+  module _ (w k : ℕ) (hw : w ≡ entry tails (entry into (entry path (len - 1)))) (hk : k ≡ entry spot w - 1) where
     spotted : 0 < entry spot w
     spotted = subst (λ (u : ℕ). 0 < entry spot u) (sym hw) (C .closes)
 
     -- what the code asks of it
     pub at-end : AtEnd spot w
     at-end =
-        let below : w < n = omega (arith, A .tails-below (entry into (entry path (len - 1)) - 1) (arc-below (len - 1) (omega (arith, C .some)))) in
+        let below : w < n = omega (arith, A .tails-below (entry into (entry path (len - 1))) (arc-below (len - 1) (omega (arith, C .some)))) in
         record { inside = omega (arith, P .spot-len); low = omega (arith, A .vertices); some = spotted }
 
     pub within-path : k < len
@@ -150,10 +149,10 @@ module _ {n : ℕ} {tails heads into path spot : List ℕ} {len : ℕ} (A : Arcs
         hook = λ l. ⊎-elim
             (λ p. omega (arith, p .1))
             (λ p. omega (arith, p .1, M .hook (begun-before (p .0))))
-            (set-cases marks e 1 (entry into (entry path k) - 1) slot);
+            (set-cases marks e 1 (entry into (entry path k)) slot);
         from = entry tails e;
         on-path = λ l. ap (entry tails) he ∙ P .joined i l .tail;
-        around = λ l. ap (entry tails) he ∙ ap (λ (j : ℕ). entry tails (entry into (entry path j) - 1)) (last l) ∙ sym hw ∙ sym is-vertex;
+        around = λ l. ap (entry tails) he ∙ ap (λ (j : ℕ). entry tails (entry into (entry path j))) (last l) ∙ sym hw ∙ sym is-vertex;
         balance = λ v.
             let at-tail = at-marked tails marks e v below (M .marks-len) unmarked in
             let at-head = at-marked heads marks e v (omega (arith, below, A .heads-len)) (M .marks-len ∙ sym (A .heads-len)) unmarked in
@@ -164,18 +163,18 @@ module _ {n : ℕ} {tails heads into path spot : List ℕ} {len : ℕ} (A : Arcs
           last : len ≤ i + 1 → i ≡ len - 1
           last l = omega arith
 
-          begun-before : (entry into (entry path k) - 1 ≡ e → ⊥) → k < i
+          begun-before : (entry into (entry path k) ≡ e → ⊥) → k < i
           begun-before ne = go (ℕ-discrete k i)
             where
               go : Dec (k ≡ i) → k < i
-              go (yes q) = absurd (ne (ap (λ (j : ℕ). entry into (entry path j) - 1) q ∙ sym he))
+              go (yes q) = absurd (ne (ap (λ (j : ℕ). entry into (entry path j)) q ∙ sym he))
               go (no other) = omega (arith, M .begun)
 
-    pub circulates : {marks : List ℕ} {i : ℕ} → Marking tails heads into path spot marks k len i → len ≤ i → Circulates tails heads marks
+    pub circulates : {marks : List ℕ} {i : ℕ} → Marking tails heads into path spot marks k len i → len ≤ i → Circulation tails heads marks
     circulates M l = record {
       len = M .marks-len;
       zero-or-one = M .zero-or-one;
-      one = entry into (entry path k) - 1;
+      one = entry into (entry path k);
       marked = M .hook (omega (arith, within-path));
       balanced = λ v. omega (arith, M .balance v, ap (λ (u : ℕ). delta u v) (M .around l));
     }

@@ -1,6 +1,5 @@
 pub mod Columns
-pub mod ArcIndex
-pub mod MovingPlaces
+pub mod CurrentArcs
 pub mod Paths
 pub mod Rankings
 pub mod Cycles

@@ -3,7 +3,7 @@
 use mathlib.Core.Path.{_≡_, refl, sym, _∙_, ap, subst}
 use mathlib.Core.Bool.{Bool, true, false, not, _&&_}
 use mathlib.Core.List.{List}
-use Prim.Native.Nat.{ℕ, _<_, _≤_}
+use Prim.Native.Nat.{ℕ, _+_, _<_, _≤_}
 use native.Mathlib.Omega.{arith}
 use lib.Dec.{T, eqb, leb, ltb, eqb→eq, leb→le, ltb→lt}
 use lib.ListN.{length, length-replicate}
@@ -14,9 +14,13 @@ use Rattle.network.specs.Limits.{mostVertices, mostArcs}
 use Rattle.network.specs.Network.{wordArc}
 use Rattle.packed_arcs.specs.Entries.{entry, zeroList}
 use Rattle.packed_arcs.proofs.ListLoops.{each-entry}
+use Rattle.arc_index.specs.ArcIndex.{noArc}
+use Rattle.arc_index.specs.Chains.{Chains}
+use Rattle.arc_index.specs.declared.End.the-variants.{Head}
+use Rattle.arc_index.proofs.Ends.{Built, links-built, chains-built}
 use Rattle.acyclicity.specs.Search.{tailsOf, headsOf, joinsBelow, searchable, SearchOutcome}
-use Rattle.acyclicity.specs.Steps.{Arcs, Closed, Decided}
-use Rattle.acyclicity.specs.Steps.Decided.{ordered, cyclic}
+use Rattle.acyclicity.specs.Steps.{Arcs, Chained, ClosedPath, OrderOrCycle}
+use Rattle.acyclicity.specs.Steps.OrderOrCycle.{ordered, cyclic}
 use Rattle.acyclicity.specs.declared.Found.{Found}
 use Rattle.acyclicity.specs.declared.Found.the-variants.{Refused}
 use Rattle.acyclicity.proofs.Columns.{tails-len, heads-len, tail-is, head-is}
@@ -29,8 +33,15 @@ zeros-length {l} {n} q = ap length q ∙ length-replicate n 0
 pub zeros-as : {l : List ℕ} {n m : ℕ} → n ≡ m → l ≡ zeroList n → l ≡ zeroList m
 zeros-as q z = z ∙ ap zeroList q
 
-pub closed-as : {n n' : ℕ} {tails heads into path spot : List ℕ} {len : ℕ} → n' ≡ n → Closed n tails heads into path spot len → Closed n' tails heads into path spot len
-closed-as {n} {n'} {tails} {heads} {into} {path} {spot} {len} q C = subst (λ (k : ℕ). Closed k tails heads into path spot len) (sym q) C
+pub closed-as : {n n' : ℕ} {tails heads into path spot : List ℕ} {len : ℕ} → n' ≡ n → ClosedPath n tails heads into path spot len → ClosedPath n' tails heads into path spot len
+closed-as {n} {n'} {tails} {heads} {into} {path} {spot} {len} q C = subst (λ (k : ℕ). ClosedPath k tails heads into path spot len) (sym q) C
+
+-- ---- the index of the arcs by head, as it was built
+
+pub chained-built : (rs links₀ links : List ℕ) {n : ℕ} → Arcs n (tailsOf rs) (headsOf rs) → length links₀ ≡ 256 + length rs → Built Head rs links₀ links → Chained n (tailsOf rs) (headsOf rs) links
+chained-built rs links₀ links A q b =
+    let few : length rs ≤ noArc = omega (arith, A .few, tails-len rs) in
+    record { arcs = A; chains = subst (Chains (headsOf rs)) (sym (links-built Head rs links₀ links few q b)) (chains-built Head rs few) }
 
 -- ---- what passes the test
 
@@ -81,6 +92,6 @@ module _ (rs ranks marks : List ℕ) (u : Bool) (e : u ≡ searchable rs (length
 
     -- after ranks and marks were set to 0
     pub search-decided : {ranks₁ marks₁ ranks' marks' : List ℕ} {r : Found} → length ranks₁ ≡ length ranks → marks₁ ≡ zeroList (length marks)
-        → length ranks' ≡ length ranks → Decided (tailsOf rs) (headsOf rs) ranks₁ marks₁ ranks' marks' r → SearchOutcome rs ranks marks ranks' marks' r
+        → length ranks' ≡ length ranks → OrderOrCycle (tailsOf rs) (headsOf rs) ranks₁ marks₁ ranks' marks' r → SearchOutcome rs ranks marks ranks' marks' r
     search-decided q z k (ordered o m) = SearchOutcome.ordered ok k o (m ∙ z)
     search-decided q z k (cyclic p c) = SearchOutcome.cyclic ok (p ∙ ap zeroList q) c

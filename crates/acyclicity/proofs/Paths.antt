@@ -34,7 +34,7 @@ module _ {n : ℕ} {tails into path spot : List ℕ} {len : ℕ} (P : Path n tai
   pub path-apart : (i j : ℕ) → i < len → j < len → i ≢ j → entry path i ≢ entry path j
   path-apart i j h l ne q = ne (omega (arith, P .spots i h, P .spots j l, ap (entry spot) q))
 
-  -- the place of the last vertex moves on
+  -- the current arc of the last vertex moves on
   pub path-moved : (into' : List ℕ) → 0 < len → ((u : ℕ) → u ≢ entry path (len - 1) → entry into' u ≡ entry into u) → Path n tails into' path spot len
   path-moved into' some others = record {
     path-len = P .path-len;

@@ -6,26 +6,28 @@ use mathlib.Core.List.{List}
 use Prim.Native.Nat.{ℕ, _+_, _-_, _<_, _≤_}
 use native.Mathlib.Decide.{decLt}
 use native.Mathlib.Omega.{arith}
-use lib.ListN.{length, set, length-set}
+use lib.ListN.{length, set, take, length-set}
 use lib.Seq.{getD-set-other}
 use Rattle.packed_arcs.specs.Entries.{entry, zeroList}
 use Rattle.packed_arcs.proofs.LentParts.{zero-at}
 use Rattle.packed_arcs.proofs.ListLoops.{set-cases}
+use Rattle.arc_index.specs.ArcIndex.{noArc}
 use Rattle.acyclicity.specs.Search.{tailsOf, headsOf}
-use Rattle.acyclicity.specs.Steps.{zeros, Arcs, Points, Index, Chained, Looked, LeadsFrom, Path, Searching, Pushed, Started, Climbed, Ranking, Passed, Searched}
+use Rattle.acyclicity.specs.Steps.{zeros, Arcs, Points, Chained, Looked, LeadsFrom, Path, Searching, Pushed, Started, Climbed, Ranking, AllRanked, Searched}
 use Rattle.acyclicity.specs.Steps.Started.{kept, started}
 use Rattle.acyclicity.proofs.Columns.{zeros-all, zeros-fewer, tails-len}
+use Rattle.acyclicity.proofs.CurrentArcs.{watch-first}
 use Rattle.acyclicity.proofs.Paths.{path-none, path-moved, has-room, path-longer, path-shorter, not-last}
 
 -- ---- the path grows
 
 module _ {tails heads ranks into path spot : List ℕ} {len : ℕ} (S : Searching tails heads ranks into path spot len) where
   -- the last vertex is looked at
-  pub searching-looked : {into' : List ℕ} {v k : ℕ} → 0 < len → v ≡ entry path (len - 1) → Looked tails heads ranks into v into' k
+  pub searching-looked : {into' : List ℕ} {v e : ℕ} → 0 < len → v ≡ entry path (len - 1) → Looked tails heads ranks into v into' e
       → Searching tails heads ranks into' path spot len
-  searching-looked {into'} {v} {k} some last L = record {
+  searching-looked {into'} {v} {e} some last L = record {
     watch = L .moved .watch;
-    on-path = path-moved (S .on-path) into' some (λ u ne. L .moved .others u (λ e. ne (e ∙ last)));
+    on-path = path-moved (S .on-path) into' some (λ u ne. L .moved .others u (λ q. ne (q ∙ last)));
     unranked = S .unranked;
   }
 
@@ -51,22 +53,22 @@ module _ {tails heads ranks into path spot : List ℕ} {len : ℕ} (S : Searchin
     omega (arith, U .longer),
   )
 
--- the last vertex v of the path was looked at, and its place is k
-pub record TopLooked (rs next ranks into path spot into' : List ℕ) (len v k : ℕ) : Type 0 where
-  pub chained : Chained (length ranks) (tailsOf rs) (headsOf rs) next
+-- the last vertex v of the path was looked at, and its current arc is e
+pub record TopLooked (rs links ranks into path spot into' : List ℕ) (len v e : ℕ) : Type 0 where
+  pub chained : Chained (length ranks) (tailsOf rs) (headsOf rs) links
   pub searching : Searching (tailsOf rs) (headsOf rs) ranks into path spot len
   pub some : 0 < len
   pub last : v ≡ entry path (len - 1)
-  pub looked : Looked (tailsOf rs) (headsOf rs) ranks into v into' k
+  pub looked : Looked (tailsOf rs) (headsOf rs) ranks into v into' e
 
--- what the code asks of the arc there
-pub record AtTop (rs ranks spot : List ℕ) (k : ℕ) : Type 0 where
-  pub arc : k - 1 < length rs
-  pub tail : entry (tailsOf rs) (k - 1) < length ranks
+-- what the code asks of that arc
+pub record AtTop (rs ranks spot : List ℕ) (e : ℕ) : Type 0 where
+  pub arc : e < length rs
+  pub tail : entry (tailsOf rs) e < length ranks
   pub small : length ranks ≤ 255
-  pub slot : entry (tailsOf rs) (k - 1) < length spot
+  pub slot : entry (tailsOf rs) e < length spot
 
-module _ {rs next ranks into path spot into' : List ℕ} {len v k : ℕ} (T : TopLooked rs next ranks into path spot into' len v k) where
+module _ {rs links ranks into path spot into' : List ℕ} {len v e : ℕ} (T : TopLooked rs links ranks into path spot into' len v e) where
   abbrev tails : List ℕ
   tails = tailsOf rs
 
@@ -76,24 +78,26 @@ module _ {rs next ranks into path spot into' : List ℕ} {len v k : ℕ} (T : To
   pub moved-on : Searching tails heads ranks into' path spot len
   moved-on = searching-looked (T .searching) (T .some) (T .last) (T .looked)
 
-  place : entry into' (entry path (len - 1)) ≡ k
-  place = ap (entry into') (sym (T .last)) ∙ sym (T .looked .place)
+  current : entry into' (entry path (len - 1)) ≡ e
+  current = ap (entry into') (sym (T .last)) ∙ sym (T .looked .current)
 
-  pub climbed : (0 < k → 0 < entry spot (entry tails (k - 1))) → Climbed tails heads ranks into' path spot len
+  pub climbed : (e < noArc → 0 < entry spot (entry tails e)) → Climbed tails heads ranks into' path spot len
   climbed h = record {
     searching = moved-on;
     some = T .some;
-    closes = subst (λ (j : ℕ). 0 < j → 0 < entry spot (entry tails (j - 1))) (sym place) h;
+    closes = subst (λ (j : ℕ). j < noArc → 0 < entry spot (entry tails j)) (sym current) h;
   }
 
-  -- it names an arc, from w
-  module _ (above : 0 < k) where
-    arc-below : k - 1 < length tails
-    arc-below = omega (arith, place, moved-on .watch .points (entry path (len - 1)) (moved-on .on-path .vertex (len - 1) (omega (arith, T .some))) .within)
+  -- it is an arc, from w
+  module _ (above : e < noArc) where
+    arc-below : e < length tails
+    arc-below =
+        let p = subst (Points heads (entry path (len - 1))) current (moved-on .watch .points (entry path (len - 1)) (moved-on .on-path .vertex (len - 1) (omega (arith, T .some)))) in
+        omega (arith, p .within above, T .chained .arcs .heads-len)
 
-    pub at-top : AtTop rs ranks spot k
+    pub at-top : AtTop rs ranks spot e
     at-top =
-        let tail : entry tails (k - 1) < length ranks = T .chained .arcs .tails-below (k - 1) arc-below in
+        let tail : entry tails e < length ranks = T .chained .arcs .tails-below e arc-below in
         record {
           arc = omega (arith, arc-below, tails-len rs);
           tail = tail;
@@ -101,14 +105,14 @@ module _ {rs next ranks into path spot into' : List ℕ} {len v k : ℕ} (T : To
           slot = omega (arith, moved-on .on-path .spot-len);
         }
 
-    module _ {w : ℕ} (hw : w ≡ entry tails (k - 1)) (off : entry spot w ≤ 0) where
+    module _ {w : ℕ} (hw : w ≡ entry tails e) (off : entry spot w ≤ 0) where
       pub room-left : len < length ranks
       room-left = has-room (moved-on .on-path) w (omega (arith, at-top .tail)) (omega arith)
 
       pub searching-longer : {path' spot' : List ℕ} {r : ℕ} → Pushed w len path spot path' spot' r → Searching tails heads ranks into' path' spot' r
       searching-longer U =
           searching-pushed moved-on (omega (arith, at-top .tail)) (ap (entry ranks) hw ∙ T .looked .from above) (omega arith)
-          (λ h. record { some = omega (arith, place); tail = ap (λ (j : ℕ). entry tails (j - 1)) place ∙ sym hw }) U
+          (λ h. record { some = omega (arith, current); tail = ap (entry tails) current ∙ sym hw }) U
 
 -- ---- the next rank
 
@@ -117,11 +121,11 @@ pub record Progress (n : ℕ) (tails heads ranks into path spot : List ℕ) (r r
   pub size : length ranks ≡ n
   pub searching : Searching tails heads ranks into path spot len
   pub ranking : Ranking tails heads ranks r
-  pub passed : Passed ranks root
+  pub passed : AllRanked ranks root
 
 -- the last vertex v of the path, which no arc enters from a vertex without a rank, gets the rank r + 1
 module _ {tails heads ranks into path spot : List ℕ} {len r : ℕ} (A : Arcs (length ranks) tails heads) (C : Climbed tails heads ranks into path spot len)
-    (R : Ranking tails heads ranks r) (v : ℕ) (last : v ≡ entry path (len - 1)) (free : entry into v ≤ 0) where
+    (R : Ranking tails heads ranks r) (v : ℕ) (last : v ≡ entry path (len - 1)) (free : noArc ≤ entry into v) where
   abbrev S : Searching tails heads ranks into path spot len
   S = C .searching
 
@@ -156,7 +160,7 @@ module _ {tails heads ranks into path spot : List ℕ} {len r : ℕ} (A : Arcs (
     where
       go : Dec (0 < entry ranks (entry tails d)) → 0 < entry ranks (entry tails d)
       go (yes l) = l
-      go (no n) = absurd (omega (arith, S .watch .all d h (omega arith), ap (entry into) q))
+      go (no n) = absurd (omega (arith, S .watch .all d h (omega arith), ap (entry into) q, A .few))
 
   -- the tail of an arc to a vertex with a rank had one, lower than that
   tail-before : (d : ℕ) → d < length tails → 0 < entry ranks₁ (entry heads d)
@@ -191,7 +195,7 @@ module _ {tails heads ranks into path spot : List ℕ} {len r : ℕ} (A : Arcs (
       before : (u : ℕ) → entry ranks₁ u ≡ 0 → entry ranks u ≡ 0
       before u q = ⊎-elim (λ p. absurd (omega (arith, p .1))) (λ p. sym (p .1) ∙ q) (set-cases ranks v (r + 1) u vertex)
 
-  pub progress-more : {n root : ℕ} → length ranks ≡ n → Passed ranks root → Progress n tails heads ranks₁ into path (set spot v 0) (r + 1) root (len - 1)
+  pub progress-more : {n root : ℕ} → length ranks ≡ n → AllRanked ranks root → Progress n tails heads ranks₁ into path (set spot v 0) (r + 1) root (len - 1)
   progress-more q p = record {
     size = len₁ ∙ q;
     searching = searching-given;
@@ -203,6 +207,9 @@ module _ {tails heads ranks into path spot : List ℕ} {len r : ℕ} (A : Arcs (
 
 pub arcs-as : {n n' : ℕ} {tails heads : List ℕ} → n' ≡ n → Arcs n tails heads → Arcs n' tails heads
 arcs-as {n} {n'} {tails} {heads} q A = subst (λ (k : ℕ). Arcs k tails heads) (sym q) A
+
+pub chained-as : {n n' : ℕ} {tails heads links : List ℕ} → n' ≡ n → Chained n tails heads links → Chained n' tails heads links
+chained-as {n} {n'} {tails} {heads} {links} q C = subst (λ (k : ℕ). Chained k tails heads links) (sym q) C
 
 -- what the code asks of the last vertex v of the path
 pub record AtLast (ranks into path spot : List ℕ) (r len v : ℕ) : Type 0 where
@@ -248,17 +255,9 @@ same-lengths q S S₀ = record {
 
 -- ---- before the first rank, and after the last
 
-pub searching-none : {tails heads next ranks into path spot : List ℕ} {m : ℕ} → length tails ≡ m → Index heads next into (length ranks) m
+pub searching-none : {tails heads links ranks into path spot : List ℕ} → Chained (length ranks) tails heads links → into ≡ take (length ranks) links
     → length path ≡ length ranks → spot ≡ zeroList (length ranks) → Searching tails heads ranks into path spot 0
-searching-none {tails} {heads} {next} {ranks} {into} q I p z = record {
-  watch = record {
-    len = I .into-len;
-    points = λ v h. subst (λ (b : ℕ). Points heads v (entry into v) b) (sym q) (I .points v h);
-    all = λ e h k. I .all e (omega arith);
-  };
-  on-path = path-none p z;
-  unranked = λ i h. absurd (omega arith);
-}
+searching-none C q p z = record { watch = watch-first C q; on-path = path-none p z; unranked = λ i h. absurd (omega arith) }
 
 pub ranking-none : {tails heads : List ℕ} (ranks : List ℕ) → ranks ≡ zeroList (length ranks) → Ranking tails heads ranks 0
 ranking-none {tails} {heads} ranks z = record {
@@ -273,7 +272,7 @@ ranking-none {tails} {heads} ranks z = record {
 
 -- every vertex has a rank
 pub searched-all : {tails heads ranks into path spot : List ℕ} {r v : ℕ} → Arcs (length ranks) tails heads → Ranking tails heads ranks r
-    → Passed ranks v → length ranks ≤ v → Searched tails heads ranks into path spot 0
+    → AllRanked ranks v → length ranks ≤ v → Searched tails heads ranks into path spot 0
 searched-all {tails} {heads} {ranks} {into} {path} {spot} {r} {v} A R p h = record {
   order = λ q. record {
     below = λ u. omega (arith, R .low u, R .count);
@@ -284,9 +283,9 @@ searched-all {tails} {heads} {ranks} {into} {path} {spot} {r} {v} A R p h = reco
 
 -- an arc enters the last vertex v of the path from the path
 pub searched-closed : {tails heads ranks into path spot : List ℕ} {len : ℕ} (v : ℕ) → Climbed tails heads ranks into path spot len
-    → v ≡ entry path (len - 1) → 0 < entry into v → Searched tails heads ranks into path spot len
+    → v ≡ entry path (len - 1) → entry into v < noArc → Searched tails heads ranks into path spot len
 searched-closed {tails} {heads} {ranks} {into} {path} {spot} {len} v C last h =
-    let taken : 0 < entry into (entry path (len - 1)) = subst (λ (u : ℕ). 0 < entry into u) last h in
+    let taken : entry into (entry path (len - 1)) < noArc = subst (λ (u : ℕ). entry into u < noArc) last h in
     record {
       order = λ q. absurd (omega (arith, C .some));
       cycle = λ l. record {

@@ -39,7 +39,7 @@ pub record Ordered (tails heads ranks : List ℕ) : Type 0 where
   pub rises : (e : ℕ) → e < length tails → entry ranks (entry tails e) < entry ranks (entry heads e)
 
 -- A circulation: a mark 0 or 1 for each arc, not all 0, and at every vertex as many marked arcs leave as enter.
-pub record Circulates (tails heads marks : List ℕ) : Type 0 where
+pub record Circulation (tails heads marks : List ℕ) : Type 0 where
   pub len : length marks ≡ length tails
   pub zero-or-one : (e : ℕ) → entry marks e ≤ 1
   pub one : ℕ
@@ -52,7 +52,7 @@ pub data SearchOutcome (rs ranks marks ranks' marks' : List ℕ) : Found → Typ
       searchable rs (length ranks) (length marks) ≡ true → length ranks' ≡ length ranks → Ordered (tailsOf rs) (headsOf rs) ranks'
       → marks' ≡ zeroList (length marks) → SearchOutcome rs ranks marks ranks' marks' Order
   cyclic :
-      searchable rs (length ranks) (length marks) ≡ true → ranks' ≡ zeroList (length ranks) → Circulates (tailsOf rs) (headsOf rs) marks'
+      searchable rs (length ranks) (length marks) ≡ true → ranks' ≡ zeroList (length ranks) → Circulation (tailsOf rs) (headsOf rs) marks'
       → SearchOutcome rs ranks marks ranks' marks' Cycle
   refused :
       searchable rs (length ranks) (length marks) ≡ false → ranks' ≡ ranks → marks' ≡ marks

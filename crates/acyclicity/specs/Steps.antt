@@ -7,7 +7,9 @@ use Prim.Native.Nat.{ℕ, zero, suc, _+_, _-_, _<_, _≤_}
 use lib.ListN.{length, set}
 use Rattle.network.specs.Limits.{mostVertices, mostArcs}
 use Rattle.packed_arcs.specs.Entries.{entry, zeroList}
-use Rattle.acyclicity.specs.Search.{Ordered, Circulates}
+use Rattle.arc_index.specs.ArcIndex.{noArc}
+use Rattle.arc_index.specs.Chains.{Chains}
+use Rattle.acyclicity.specs.Search.{Ordered, Circulation}
 use Rattle.acyclicity.specs.declared.Found.{Found}
 use Rattle.acyclicity.specs.declared.Found.the-variants.{Order, Cycle}
 
@@ -27,57 +29,43 @@ pub record Arcs (n : ℕ) (tails heads : List ℕ) : Type 0 where
 
 -- ---- the index
 
--- A place k names the arc k - 1, or none where it is 0. It is at most the bound, and the arc enters v.
-pub record Points (heads : List ℕ) (v k bound : ℕ) : Type 0 where
-  pub within : k ≤ bound
-  pub here : 0 < k → entry heads (k - 1) ≡ v
+-- e is an arc into v, or none.
+pub record Points (heads : List ℕ) (v e : ℕ) : Type 0 where
+  pub within : e < noArc → e < length heads
+  pub here : e < noArc → entry heads e ≡ v
 
--- For each arc below k the place of the last one before it with the same head.
-pub record Next (heads next : List ℕ) (k : ℕ) : Type 0 where
-  pub len : length next ≡ length heads
-  pub points : (e : ℕ) → e < k → Points heads (entry heads e) (entry next e) e
-  pub all : (e d : ℕ) → e < k → d < e → entry heads d ≡ entry heads e → d < entry next e
-
--- The index of the arcs below k: for each of the n vertices the place of the last arc that enters it.
-pub record Index (heads next into : List ℕ) (n k : ℕ) : Type 0 where
-  pub within : k ≤ length heads
-  pub into-len : length into ≡ n
-  pub chain : Next heads next k
-  pub points : (v : ℕ) → v < n → Points heads v (entry into v) k
-  pub all : (e : ℕ) → e < k → e < entry into (entry heads e)
-
--- Arcs, and for each of them the place of the last one before it with the same head.
-pub record Chained (n : ℕ) (tails heads next : List ℕ) : Type 0 where
+-- Arcs, and their index by head.
+pub record Chained (n : ℕ) (tails heads links : List ℕ) : Type 0 where
   pub arcs : Arcs n tails heads
-  pub chain : Next heads next (length tails)
+  pub chains : Chains heads links
 
--- ---- places that move on
+-- ---- current arcs that move on
 
--- Each vertex has the place of an arc into it, and no arc into it past that place comes from a vertex without a rank.
+-- Each vertex has a current arc into it, or none, and no arc into it before that one comes from a vertex without a rank.
 pub record Watch (tails heads ranks into : List ℕ) : Type 0 where
   pub len : length into ≡ length ranks
-  pub points : (v : ℕ) → v < length ranks → Points heads v (entry into v) (length tails)
-  pub all : (e : ℕ) → e < length tails → entry ranks (entry tails e) ≡ 0 → e < entry into (entry heads e)
+  pub points : (v : ℕ) → v < length ranks → Points heads v (entry into v)
+  pub all : (e : ℕ) → e < length tails → entry ranks (entry tails e) ≡ 0 → entry into (entry heads e) ≤ e
 
--- The place of v moved on, and no other.
-pub record Moved (tails heads ranks into : List ℕ) (v : ℕ) (into' : List ℕ) : Type 0 where
+-- The current arc of v moved on, and no other.
+pub record MovedOn (tails heads ranks into : List ℕ) (v : ℕ) (into' : List ℕ) : Type 0 where
   pub watch : Watch tails heads ranks into'
   pub others : (u : ℕ) → u ≢ v → entry into' u ≡ entry into u
 
--- The place k of v is now 0, or that of an arc from a vertex without a rank.
-pub record Looked (tails heads ranks into : List ℕ) (v : ℕ) (into' : List ℕ) (k : ℕ) : Type 0 where
-  pub moved : Moved tails heads ranks into v into'
-  pub place : k ≡ entry into' v
-  pub from : 0 < k → entry ranks (entry tails (k - 1)) ≡ 0
+-- The current arc e of v is now none, or an arc from a vertex without a rank.
+pub record Looked (tails heads ranks into : List ℕ) (v : ℕ) (into' : List ℕ) (e : ℕ) : Type 0 where
+  pub moved : MovedOn tails heads ranks into v into'
+  pub current : e ≡ entry into' v
+  pub from : e < noArc → entry ranks (entry tails e) ≡ 0
 
 -- ---- the path
 
--- The place k names an arc from w.
-pub record LeadsFrom (tails : List ℕ) (k w : ℕ) : Type 0 where
-  pub some : 0 < k
-  pub tail : entry tails (k - 1) ≡ w
+-- e is an arc from w.
+pub record LeadsFrom (tails : List ℕ) (e w : ℕ) : Type 0 where
+  pub some : e < noArc
+  pub tail : entry tails e ≡ w
 
--- A path of len of the n vertices: path[i] is the vertex at i, and spot[v] is i + 1 for it, and 0 for a vertex off the path. The arc at the place of a
+-- A path of len of the n vertices: path[i] is the vertex at i, and spot[v] is i + 1 for it, and 0 for a vertex off the path. The current arc of a
 -- vertex on the path leads to it from the vertex after it.
 pub record Path (n : ℕ) (tails into path spot : List ℕ) (len : ℕ) : Type 0 where
   pub path-len : length path ≡ n
@@ -89,7 +77,7 @@ pub record Path (n : ℕ) (tails into path spot : List ℕ) (len : ℕ) : Type 0
   pub within : (v : ℕ) → entry spot v ≤ len
   pub back : (v : ℕ) → 0 < entry spot v → entry path (entry spot v - 1) ≡ v
 
--- The places, and a path of vertices without a rank.
+-- The current arcs, and a path of vertices without a rank.
 pub record Searching (tails heads ranks into path spot : List ℕ) (len : ℕ) : Type 0 where
   pub watch : Watch tails heads ranks into
   pub on-path : Path (length ranks) tails into path spot len
@@ -110,16 +98,16 @@ pub data Started (root len : ℕ) (path spot path' spot' : List ℕ) (r : ℕ) :
 pub record Climbed (tails heads ranks into path spot : List ℕ) (len : ℕ) : Type 0 where
   pub searching : Searching tails heads ranks into path spot len
   pub some : 0 < len
-  pub closes : 0 < entry into (entry path (len - 1)) → 0 < entry spot (entry tails (entry into (entry path (len - 1)) - 1))
+  pub closes : entry into (entry path (len - 1)) < noArc → 0 < entry spot (entry tails (entry into (entry path (len - 1))))
 
 -- A path of some of the n vertices whose last vertex is entered from one on the path.
-pub record Closed (n : ℕ) (tails heads into path spot : List ℕ) (len : ℕ) : Type 0 where
+pub record ClosedPath (n : ℕ) (tails heads into path spot : List ℕ) (len : ℕ) : Type 0 where
   pub into-len : length into ≡ n
-  pub points : (v : ℕ) → v < n → Points heads v (entry into v) (length tails)
+  pub points : (v : ℕ) → v < n → Points heads v (entry into v)
   pub on-path : Path n tails into path spot len
   pub some : 0 < len
-  pub taken : 0 < entry into (entry path (len - 1))
-  pub closes : 0 < entry spot (entry tails (entry into (entry path (len - 1)) - 1))
+  pub taken : entry into (entry path (len - 1)) < noArc
+  pub closes : 0 < entry spot (entry tails (entry into (entry path (len - 1))))
 
 -- ---- ranks
 
@@ -131,20 +119,20 @@ pub record Ranking (tails heads ranks : List ℕ) (r : ℕ) : Type 0 where
   pub count : r + zeros ranks ≡ length ranks
 
 -- Every vertex below v has a rank.
-abbrev pub Passed : List ℕ → ℕ → Type 0
-Passed ranks v = (u : ℕ) → u < v → 0 < entry ranks u
+abbrev pub AllRanked : List ℕ → ℕ → Type 0
+AllRanked ranks v = (u : ℕ) → u < v → 0 < entry ranks u
 
 -- v is the first vertex without a rank, or no vertex is without.
 pub record FirstUnranked (ranks : List ℕ) (v : ℕ) : Type 0 where
-  pub passed : Passed ranks v
+  pub passed : AllRanked ranks v
   pub none : v < length ranks → entry ranks v ≡ 0
 
 -- An order, where no vertex is left on the path; or a path that closes.
 pub record Searched (tails heads ranks into path spot : List ℕ) (len : ℕ) : Type 0 where
   pub order : len ≡ 0 → Ordered tails heads ranks
-  pub cycle : 0 < len → Closed (length ranks) tails heads into path spot len
+  pub cycle : 0 < len → ClosedPath (length ranks) tails heads into path spot len
 
 -- What comes of it: an order, and the marks as they were; or a cycle, and ranks 0.
-pub data Decided (tails heads ranks marks ranks' marks' : List ℕ) : Found → Type 0 where
-  ordered : Ordered tails heads ranks' → marks' ≡ marks → Decided tails heads ranks marks ranks' marks' Order
-  cyclic : ranks' ≡ zeroList (length ranks) → Circulates tails heads marks' → Decided tails heads ranks marks ranks' marks' Cycle
+pub data OrderOrCycle (tails heads ranks marks ranks' marks' : List ℕ) : Found → Type 0 where
+  ordered : Ordered tails heads ranks' → marks' ≡ marks → OrderOrCycle tails heads ranks marks ranks' marks' Order
+  cyclic : ranks' ≡ zeroList (length ranks) → Circulation tails heads marks' → OrderOrCycle tails heads ranks marks ranks' marks' Cycle

@@ -2,12 +2,12 @@
 ghost use mathlib.Core.Path.{_≡_};
 ghost use lib.ListN.{length};
 ghost use Rattle.packed_arcs.specs.Entries.{zeroList};
-ghost use Rattle.acyclicity.specs.Search.{tailsOf, headsOf, Circulates};
-ghost use Rattle.acyclicity.specs.Steps.{Arcs, Closed};
+ghost use Rattle.acyclicity.specs.Search.{tailsOf, headsOf, Circulation};
+ghost use Rattle.acyclicity.specs.Steps.{Arcs, ClosedPath};
 use super::index::place;
 use super::index::tail_at;
 
-// Marks the arcs of the cycle that the path closes: the arcs into its vertices, from that one on from which an arc enters the last.
+// Marks the arcs of the cycle that the path closes: the current arcs of its vertices, from that one on from which an arc enters the last.
 pub(crate) fn mark(
     len: usize,
     records: &[u32],
@@ -17,16 +17,16 @@ pub(crate) fn mark(
     marks: &mut [u16],
 )
     requires { ⌜ Arcs (length (now into)) (tailsOf (now records)) (headsOf (now records)) ⌝ }
-    requires { ⌜ Closed (length (now into)) (tailsOf (now records)) (headsOf (now records)) (now into) (now path) (now spot) len ⌝ }
+    requires { ⌜ ClosedPath (length (now into)) (tailsOf (now records)) (headsOf (now records)) (now into) (now path) (now spot) len ⌝ }
     requires { ⌜ now marks ≡ zeroList (length (now records)) ⌝ }
-    ensures { λ _. ⌜ Circulates (tailsOf (now (records .entry))) (headsOf (now (records .entry))) (now (marks .exit)) ⌝ }
+    ensures { λ _. ⌜ Circulation (tailsOf (now (records .entry))) (headsOf (now (records .entry))) (now (marks .exit)) ⌝ }
 {
     let top = path[len - 1];
-    let w = tail_at(place(into[top]) - 1, records);
+    let w = tail_at(place(into[top]), records);
     let mut i = spot[w] - 1;
     while i < len {
         let v = path[i];
-        let e = place(into[v]) - 1;
+        let e = place(into[v]);
         marks[e] = 1;
         i += 1;
     }

@@ -1,11 +1,14 @@
 // A depth-first search over the arcs of records: a topological order of the vertices, or the arcs of a cycle. What is not within the limits is refused, and then nothing is changed.
 ghost use mathlib.Core.Path.{_≡_};
+ghost use Prim.Native.Nat.{_+_};
 ghost use lib.ListN.{length};
 ghost use Rattle.packed_arcs.specs.Entries.{zeroList};
 ghost use Rattle.acyclicity.specs.Search.{tailsOf, headsOf, SearchOutcome};
-ghost use Rattle.acyclicity.specs.Steps.{Arcs, Decided};
+ghost use Rattle.acyclicity.specs.Steps.{Arcs, OrderOrCycle};
+use arc_index::End;
+use arc_index::index;
 use cycle::mark;
-use index::index;
+use index::first_arcs;
 use limits::is_searchable;
 use network::MOST_ARCS;
 use network::MOST_VERTICES;
@@ -31,18 +34,19 @@ fn decide(
     records: &[u32],
     ranks: &mut [u32],
     marks: &mut [u16],
-    next: &mut [u16],
+    links: &mut [u16],
     into: &mut [u16],
     path: &mut [usize],
     spot: &mut [usize],
 ) -> Found
-    requires { ⌜ Arcs (length (now ranks)) (tailsOf (now records)) (headsOf (now records)) × (length (now next) ≡ length (now records)) ⌝ }
+    requires { ⌜ Arcs (length (now ranks)) (tailsOf (now records)) (headsOf (now records)) × (length (now links) ≡ 256 + length (now records)) ⌝ }
     requires { ⌜ (now ranks ≡ zeroList (length (now ranks))) × (now marks ≡ zeroList (length (now records))) ⌝ }
-    requires { ⌜ (now into ≡ zeroList (length (now ranks))) × (length (now path) ≡ length (now ranks)) × (now spot ≡ zeroList (length (now ranks))) ⌝ }
-    ensures { λ r. ⌜ Decided (tailsOf (now (records .entry))) (headsOf (now (records .entry))) (now (ranks .entry)) (now (marks .entry)) (now (ranks .exit)) (now (marks .exit)) r ⌝ }
+    requires { ⌜ (length (now into) ≡ length (now ranks)) × (length (now path) ≡ length (now ranks)) × (now spot ≡ zeroList (length (now ranks))) ⌝ }
+    ensures { λ r. ⌜ OrderOrCycle (tailsOf (now (records .entry))) (headsOf (now (records .entry))) (now (ranks .entry)) (now (marks .entry)) (now (ranks .exit)) (now (marks .exit)) r ⌝ }
 {
-    index(records, next, into);
-    let len = rank_all(records, next, ranks, into, path, spot);
+    index(records, End::Head, links);
+    first_arcs(links, into);
+    let len = rank_all(records, links, ranks, into, path, spot);
     if len == 0 {
         return Found::Order;
     }
@@ -56,13 +60,13 @@ pub fn search(records: &[u32], ranks: &mut [u32], marks: &mut [u16]) -> Found
     ensures { λ r. ⌜ SearchOutcome (now (records .entry)) (now (ranks .entry)) (now (marks .entry)) (now (ranks .exit)) (now (marks .exit)) r ⌝ }
 {
     let n = ranks.len();
-    let m = records.len();
     if !is_searchable(records, n, marks.len()) {
         return Found::Refused;
     }
     clear_potentials(ranks);
     clear_amounts(marks);
-    let mut next = [0u16; MOST_ARCS as usize];
+    let k = 256 + records.len();
+    let mut links = [0u16; 256 + MOST_ARCS as usize];
     let mut into = [0u16; MOST_VERTICES as usize];
     let mut path = [0usize; MOST_VERTICES as usize];
     let mut spot = [0usize; MOST_VERTICES as usize];
@@ -70,7 +74,7 @@ pub fn search(records: &[u32], ranks: &mut [u32], marks: &mut [u16]) -> Found
         records,
         ranks,
         marks,
-        &mut next[..m],
+        &mut links[..k],
         &mut into[..n],
         &mut path[..n],
         &mut spot[..n],

@@ -1,30 +1,31 @@
 // The path of the search, backward along arcs: path[i] is its vertex at i, and spot[v] is i + 1 for that vertex, and 0 for a vertex off the path.
-// The arc at the place into[v] of a vertex on the path leads to it from the vertex after it.
+// The current arc into[v] of a vertex on the path leads to it from the vertex after it.
 ghost use mathlib.Core.Path.{_≡_};
 ghost use Prim.Native.Nat.{_<_};
 ghost use lib.ListN.{length};
 ghost use Rattle.packed_arcs.specs.Entries.{entry};
 ghost use Rattle.acyclicity.specs.Search.{tailsOf, headsOf};
 ghost use Rattle.acyclicity.specs.Steps.{Chained, Watch, Looked, Searching, Pushed, Started, Climbed};
+use super::index::NONE;
 use super::index::place;
 use super::index::tail_at;
 
-// The place of an arc into v from a vertex without a rank, or 0: the place of v moves on to it, past arcs from vertices with a rank.
-fn look(v: usize, records: &[u32], next: &[u16], ranks: &[u32], into: &mut [u16]) -> usize
-    requires { ⌜ Chained (length (now ranks)) (tailsOf (now records)) (headsOf (now records)) (now next) × (v < length (now ranks)) ⌝ }
+// An arc into v from a vertex without a rank, or none: the current arc of v moves on to it, past arcs from vertices with a rank.
+fn look(v: usize, records: &[u32], links: &[u16], ranks: &[u32], into: &mut [u16]) -> usize
+    requires { ⌜ Chained (length (now ranks)) (tailsOf (now records)) (headsOf (now records)) (now links) × (v < length (now ranks)) ⌝ }
     requires { ⌜ Watch (tailsOf (now records)) (headsOf (now records)) (now ranks) (now into) ⌝ }
-    ensures { λ k. ⌜ Looked (tailsOf (now (records .entry))) (headsOf (now (records .entry))) (now (ranks .entry)) (now (into .entry)) v (now (into .exit)) k ⌝ }
+    ensures { λ e. ⌜ Looked (tailsOf (now (records .entry))) (headsOf (now (records .entry))) (now (ranks .entry)) (now (into .entry)) v (now (into .exit)) e ⌝ }
 {
     loop {
-        let k = place(into[v]);
-        if k == 0 {
-            return 0;
+        let e = place(into[v]);
+        if NONE <= e {
+            return e;
         }
-        let u = tail_at(k - 1, records);
+        let u = tail_at(e, records);
         if ranks[u] == 0 {
-            return k;
+            return e;
         }
-        into[v] = next[k - 1];
+        into[v] = links[256 + e];
     }
 }
 
@@ -54,13 +55,13 @@ pub(crate) fn climb(
     root: usize,
     first: usize,
     records: &[u32],
-    next: &[u16],
+    links: &[u16],
     ranks: &[u32],
     into: &mut [u16],
     path: &mut [usize],
     spot: &mut [usize],
 ) -> usize
-    requires { ⌜ Chained (length (now ranks)) (tailsOf (now records)) (headsOf (now records)) (now next) ⌝ }
+    requires { ⌜ Chained (length (now ranks)) (tailsOf (now records)) (headsOf (now records)) (now links) ⌝ }
     requires { ⌜ Searching (tailsOf (now records)) (headsOf (now records)) (now ranks) (now into) (now path) (now spot) first ⌝ }
     requires { ⌜ (root < length (now ranks)) × (entry (now ranks) root ≡ 0) ⌝ }
     ensures { λ r. ⌜ Climbed (tailsOf (now (records .entry))) (headsOf (now (records .entry))) (now (ranks .entry)) (now (into .exit)) (now (path .exit)) (now (spot .exit)) r ⌝ }
@@ -68,11 +69,11 @@ pub(crate) fn climb(
     let mut len = start(root, first, path, spot);
     loop {
         let top = path[len - 1];
-        let k = look(top, records, next, ranks, into);
-        if k == 0 {
+        let e = look(top, records, links, ranks, into);
+        if NONE <= e {
             return len;
         }
-        let w = tail_at(k - 1, records);
+        let w = tail_at(e, records);
         if 0 < spot[w] {
             return len;
         }

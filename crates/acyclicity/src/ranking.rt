@@ -1,14 +1,15 @@
 // Ranks one after the other: the last vertex of the path gets the next one when no arc enters it from a vertex without.
 ghost use mathlib.Core.Path.{_≡_};
-ghost use lib.ListN.{length};
+ghost use lib.ListN.{length, take};
 ghost use Rattle.packed_arcs.specs.Entries.{zeroList};
 ghost use Rattle.acyclicity.specs.Search.{tailsOf, headsOf};
-ghost use Rattle.acyclicity.specs.Steps.{Arcs, Index, Passed, FirstUnranked, Searched};
+ghost use Rattle.acyclicity.specs.Steps.{Chained, AllRanked, FirstUnranked, Searched};
 use super::path::climb;
+use arc_index::NO_ARC;
 
 // The first vertex without a rank, or how many vertices there are, where every vertex below `from` has one.
 fn first_unranked(from: usize, ranks: &[u32]) -> usize
-    requires { ⌜ Passed (now ranks) from ⌝ }
+    requires { ⌜ AllRanked (now ranks) from ⌝ }
     ensures { λ v. ⌜ FirstUnranked (now (ranks .entry)) v ⌝ }
 {
     let mut v = from;
@@ -24,14 +25,13 @@ fn first_unranked(from: usize, ranks: &[u32]) -> usize
 // Ranks for the vertices, until all have one: 0; or until an arc enters the path's last vertex from the path: how many vertices are on it.
 pub(crate) fn rank_all(
     records: &[u32],
-    next: &[u16],
+    links: &[u16],
     ranks: &mut [u32],
     into: &mut [u16],
     path: &mut [usize],
     spot: &mut [usize],
 ) -> usize
-    requires { ⌜ Arcs (length (now ranks)) (tailsOf (now records)) (headsOf (now records)) ⌝ }
-    requires { ⌜ Index (headsOf (now records)) (now next) (now into) (length (now ranks)) (length (now records)) ⌝ }
+    requires { ⌜ Chained (length (now ranks)) (tailsOf (now records)) (headsOf (now records)) (now links) × (now into ≡ take (length (now ranks)) (now links)) ⌝ }
     requires { ⌜ (now ranks ≡ zeroList (length (now ranks))) × (length (now path) ≡ length (now ranks)) × (now spot ≡ zeroList (length (now ranks))) ⌝ }
     ensures { λ r. ⌜ Searched (tailsOf (now (records .entry))) (headsOf (now (records .entry))) (now (ranks .exit)) (now (into .exit)) (now (path .exit)) (now (spot .exit)) r ⌝ }
 {
@@ -43,9 +43,9 @@ pub(crate) fn rank_all(
         if ranks.len() <= root {
             return 0;
         }
-        len = climb(root, len, records, next, ranks, into, path, spot);
+        len = climb(root, len, records, links, ranks, into, path, spot);
         let v = path[len - 1];
-        if 0 < into[v] {
+        if into[v] < NO_ARC {
             return len;
         }
         r += 1;

@@ -18,7 +18,7 @@ use Rattle.network.specs.Question.{acyclicity, Setting, Allowed, Answer, value,
 use Rattle.network.proofs.Rules.{ZeroOrOne, NoAmount, Rises, AcyclicCertificate, CyclicCertificate, RulesHold}
 use Rattle.packed_arcs.specs.Entries.{entry, zeroList}
 use Rattle.packed_arcs.proofs.LentParts.{zero-at}
-use Rattle.acyclicity.specs.Search.{tailsOf, headsOf, joinsBelow, searchable, Ordered, Circulates, SearchOutcome}
+use Rattle.acyclicity.specs.Search.{tailsOf, headsOf, joinsBelow, searchable, Ordered, Circulation, SearchOutcome}
 use Rattle.acyclicity.specs.declared.Found.{Found}
 use Rattle.acyclicity.specs.declared.Found.the-variants.{Order, Cycle, Refused}
 use Rattle.solver.specs.Instance.{numberOf}
@@ -75,7 +75,7 @@ module _ (st : Setting) (rs : List ℕ) (a : Admissible st (wordArcs rs)) (q : a
   pub record InCycle (ranks' marks' : List ℕ) : Type 0 where
     pub no-ranks : ranks' ≡ zeroList (st .n)
     pub marks-len : length marks' ≡ length rs
-    pub cycle : Circulates (tailsOf rs) (headsOf rs) marks'
+    pub cycle : Circulation (tailsOf rs) (headsOf rs) marks'
 
   abbrev pub FoundCase : List ℕ → List ℕ → Found → Type 0
   FoundCase ranks' marks' Order = InOrder ranks' marks'

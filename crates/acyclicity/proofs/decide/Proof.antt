@@ -1,35 +1,28 @@
 -- `acyclicity::decide` meets its contract.
 -- Assumes nothing.
-use mathlib.Core.Path.{refl, sym, _∙_, ap, subst}
+use mathlib.Core.Path.{refl, _∙_, ap}
 use Prim.Native.Nat.{ℕ}
 use native.Mathlib.Omega.{arith}
-use lib.ListN.{length}
+use lib.ListN.{length, take}
 use borrow.Author.Needs.{needs}
 use Rattle.packed_arcs.specs.Entries.{zeroList}
-use Rattle.acyclicity.specs.Search.{headsOf}
-use Rattle.acyclicity.specs.Steps.{Index}
-use Rattle.acyclicity.specs.Steps.Decided.{ordered, cyclic}
+use Rattle.acyclicity.specs.Steps.OrderOrCycle.{ordered, cyclic}
 use Rattle.acyclicity.proofs.Rankings.{arcs-as}
-use Rattle.acyclicity.proofs.Outcomes.{zeros-length, zeros-as, closed-as}
+use Rattle.acyclicity.proofs.Outcomes.{closed-as, chained-built}
 use Rattle.acyclicity.proofs.decide.Statement.{statement}
 use Rattle.acyclicity.proofs.decide.Tie as tie
 
-index-requires : tie.Need-index-requires
-index-requires c κs =
-    let p = c .before .before .before .before .before .before .before .before .before .pre in
-    let as-many = zeros-length (p .1 .1 .0) in
-    (arcs-as as-many (p .0 .0), (p .0 .1, zeros-as (sym as-many) (p .1 .1 .0)))
-
 rank-all-requires : tie.Need-rank-all-requires
 rank-all-requires c κs =
-    let a = c .before .before .before .before .before .before .before .before .before .before .before .before .before .before .before .before .before .before .before .args in
-    let p = c .before .before .before .before .before .before .before .before .before .before .before .before .before .before .before .before .before .before .before .pre in
-    let i = c .before .before .before .before .before .before .before .before .before .index in
-    (p .0 .0, (subst (λ (n : ℕ). Index (headsOf (a .records .now)) (i .last .1 .0) (i .last .1 .1 .0) n (length (a .records .now))) (zeros-length (p .1 .1 .0)) (i .ensures), (p .1 .0 .0, p .1 .1 .1, p .1 .1 .2)))
+    let s = c .before .before .before .before .before .before .before .before .before .before .before .before .before .before .before .before .before .before .before .before .before in
+    let i = c .before .before .before .before .before .before .before .before .before .before .before .before .index in
+    let f = c .before .before .before .before .before .before .before .first-arcs in
+    let p = s .pre in
+    ((chained-built (s .args .records .now) (s .args .links .now) _ (p .0 .0) (p .0 .1) (i .ensures .1), f .ensures ∙ ap (λ (n : ℕ). take n (i .last .1 .1 .0)) (p .1 .1 .0)), (p .1 .0 .0, p .1 .1 .1, p .1 .1 .2))
 
 mark-requires : tie.Need-mark-requires
 mark-requires c κs =
-    let p = c .before .before .before .before .before .before .before .before .before .before .before .before .before .before .before .before .before .before .before .before .before .before .before .before .before .before .before .before .before .before .before .before .before .pre in
+    let p = c .before .before .before .before .before .before .before .before .before .before .before .before .before .before .before .before .before .before .before .before .before .before .before .before .before .before .before .before .before .before .before .before .before .before .before .pre in
     let found = c .before .before .before .before .before .before .before .before .before .before .before .before .before .rank-all in
     let closed = found .ensures .cycle (omega (arith, c .before .before .before .before .if1 .left)) in
     (arcs-as (closed .into-len ∙ found .kept .1 .1 .0) (p .0 .0), (closed-as (closed .into-len) closed, p .1 .0 .1))
@@ -38,7 +31,8 @@ pub decide-spec : {M : Type 1} → statement M
 decide-spec =
     tie.close
     (tie.spec
-    index-requires
+    (λ c κs. search needs)
+    (λ c κs. search needs)
     rank-all-requires
     (λ c. search needs)
     (λ c. search needs)

@@ -1,8 +1,11 @@
 -- `acyclicity::search` meets its contract.
 -- Assumes nothing.
 use mathlib.Core.Path.{_≡_, sym, _∙_}
+use Prim.Native.Nat.{_+_, _≤_}
+use native.Mathlib.Omega.{arith}
 use lib.ListN.{length, take}
 use denote.Ref.{now}
+use borrow.Author.Needs.{needs}
 use Rattle.packed_arcs.specs.Entries.{zeroList}
 use Rattle.packed_arcs.proofs.LentParts.{zero-list-length, zero-list-part}
 use Rattle.acyclicity.proofs.Rankings.{arcs-as}
@@ -17,12 +20,15 @@ Tested c = c .before .before .before .before .before
 facts : (c : tie.Else1) → let a = Tested c .args in Searchable (now (a .records)) (length (now (a .ranks))) (length (now (a .marks)))
 facts c = let a = Tested c .args in search-facts (now (a .records)) (now (a .ranks)) (now (a .marks)) _ (c .before .is-searchable .ensures) (c .if1 .left)
 
--- a part of an array for the vertices, and that for the records
+-- a part of an array for the vertices, and that for the links
 vertices-part : (c : tie.Else1) → let n = length (now (Tested c .args .ranks)) in length (take n (zeroList 255)) ≡ n
 vertices-part c = zero-list-length (length (now (Tested c .args .ranks))) 255 (facts c .small)
 
-records-part : (c : tie.Else1) → let m = length (now (Tested c .args .records)) in length (take m (zeroList 4096)) ≡ m
-records-part c = zero-list-length (length (now (Tested c .args .records))) 4096 (facts c .few)
+links-fit : (c : tie.Else1) → 256 + length (now (Tested c .args .records)) ≤ 4352
+links-fit c = omega (arith, facts c .few)
+
+links-part : (c : tie.Else1) → let k = 256 + length (now (Tested c .args .records)) in length (take k (zeroList 4352)) ≡ k
+links-part c = zero-list-length (256 + length (now (Tested c .args .records))) 4352 (links-fit c)
 
 returns : tie.Need-returns
 returns c = let a = c .before .before .before .before .before .args in search-refused (now (a .records)) (now (a .ranks)) (now (a .marks)) _ (c .before .is-searchable .ensures) (c .if1 .taken)
@@ -35,7 +41,7 @@ decide-requires c κs =
     let ranks = c .before .before .before .before .before .before .before .before .before .before .before .before .clear-potentials in
     let same = ranks .kept .0 in
     let none = zeros-as (sym same) (zero-list-part n 255 (f .small)) in
-    ((arcs-as same (f .arcs), records-part t), ((zeros-as (sym same) (ranks .ensures), zeros-as (f .one-each) (c .before .before .before .before .before .before .before .before .clear-amounts .ensures)), (none, vertices-part t ∙ sym same, none)))
+    ((arcs-as same (f .arcs), links-part t), ((zeros-as (sym same) (ranks .ensures), zeros-as (f .one-each) (c .before .before .before .before .before .before .before .before .clear-amounts .ensures)), (vertices-part t ∙ sym same, vertices-part t ∙ sym same, none)))
 
 returns-2 : tie.Need-returns-2
 returns-2 c =
@@ -55,8 +61,9 @@ search-spec =
     returns
     (λ c κs. tt)
     (λ c κs. tt)
-    (λ c. facts (c .before .before .before .before .before .before .before .before .before .before) .few)
-    (λ c. sym (records-part (c .before .before .before .before .before .before .before .before .before .before .before)))
+    (λ c. search needs)
+    (λ c. links-fit (c .before .before .before .before .before .before .before .before .before .before))
+    (λ c. sym (links-part (c .before .before .before .before .before .before .before .before .before .before .before)))
     (λ c. facts (c .before .before .before .before .before .before .before .before .before .before .before) .small)
     (λ c. sym (vertices-part (c .before .before .before .before .before .before .before .before .before .before .before .before)))
     (λ c. facts (c .before .before .before .before .before .before .before .before .before .before .before .before) .small)

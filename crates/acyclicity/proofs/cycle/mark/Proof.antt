@@ -26,8 +26,8 @@ at-top s = at-path s (s .args .len - 1) (omega (arith, s .pre .1 .0 .some))
 
 -- the vertex from which an arc enters the last
 closing : (c : tie.After-tail-at Inv-loop μ-loop)
-    → let a = c .before .before .before .before .before .before .before .before .before .args in c .tail-at .result ≡ entry (tailsOf (a .records .now)) (entry (a .into .now) (entry (a .path .now) (a .len - 1)) - 1)
-closing c = c .tail-at .ensures ∙ ap (λ (k : ℕ). entry (tailsOf (c .before .before .before .before .before .before .before .before .before .args .records .now)) (k - 1)) (c .before .place .ensures)
+    → let a = c .before .before .before .before .before .before .before .before .before .args in c .tail-at .result ≡ entry (tailsOf (a .records .now)) (entry (a .into .now) (entry (a .path .now) (a .len - 1)))
+closing c = c .tail-at .ensures ∙ ap (entry (tailsOf (c .before .before .before .before .before .before .before .before .before .args .records .now))) (c .before .place .ensures)
 
 at-closing : (c : tie.After-tail-at Inv-loop μ-loop) → AtEnd (c .before .before .before .before .before .before .before .before .before .args .spot .now) (c .tail-at .result)
 at-closing c = let s = c .before .before .before .before .before .before .before .before .before in at-end (s .pre .0) (s .pre .1 .0) _ _ (closing c) refl
@@ -44,7 +44,7 @@ here c = at-path (c .before .before .before .before .before .before .before .bef
 loop-again : tie.Need-loop-again Inv-loop μ-loop
 loop-again c =
     let s = c .before .before .before .before .before .before .before .before .before .before .before .before .before .before .before in
-    marking-more (s .pre .0) (s .pre .1 .0) _ _ (closing (c .before .before .before .before .before .before)) refl (c .before .before .before .before .loop .inv) (c .before .before .before .loop-test .taken) (ap (λ (k : ℕ). k - 1) (c .place2 .ensures))
+    marking-more (s .pre .0) (s .pre .1 .0) _ _ (closing (c .before .before .before .before .before .before)) refl (c .before .before .before .before .loop .inv) (c .before .before .before .loop-test .taken) (c .place2 .ensures)
 
 same-length : tie.Need-same-length Inv-loop μ-loop
 same-length c =
@@ -64,7 +64,6 @@ mark-spec =
     (λ c. omega (arith, at-top (c .before .before .before .before .before .before)))
     (λ c. at-top (c .before .before .before .before .before .before .before) .vertex)
     (λ c κs. tt)
-    (λ c. omega (arith, c .place .ensures, at-top (c .before .before .before .before .before .before .before .before)))
     (λ c κs. omega (arith, c .place .ensures, at-top (c .before .before .before .before .before .before .before .before)))
     (λ c. omega (arith, at-closing c))
     (λ c. at-closing (c .before) .inside)
@@ -75,7 +74,6 @@ mark-spec =
     (λ c. omega (arith, here (c .before)))
     (λ c. here (c .before .before) .vertex)
     (λ c κs. tt)
-    (λ c. omega (arith, c .place2 .ensures, here (c .before .before .before)))
     (λ c. omega (arith, c .place2 .ensures, here (c .before .before .before)))
     (λ c. omega (arith, c .place2 .ensures, here (c .before .before .before), c .before .before .before .before .loop .inv .marks-len, tails-len (c .before .before .before .before .before .before .before .before .before .before .before .before .before .before .before .args .records .now)))
     (λ c. omega (arith, here (c .before .before .before)))

@@ -5,12 +5,12 @@ use native.Mathlib.Omega.{arith}
 use lib.ListN.{length}
 use borrow.Author.Count.{below-more}
 use borrow.Author.Needs.{needs}
-use Rattle.acyclicity.specs.Steps.{Passed}
+use Rattle.acyclicity.specs.Steps.{AllRanked}
 use Rattle.acyclicity.proofs.ranking.first_unranked.Statement.{statement}
 use Rattle.acyclicity.proofs.ranking.first_unranked.Tie as tie
 
 abbrev Inv-loop : tie.InvT-loop
-Inv-loop from ranks v₀ v = Passed ranks v
+Inv-loop from ranks v₀ v = AllRanked ranks v
 
 abbrev μ-loop : tie.MeasureT-loop
 μ-loop from ranks v₀ v = length ranks - v

@@ -1,36 +1,35 @@
 -- `acyclicity::ranking::rank_all` meets its contract. The loop's invariant: r vertices have a rank, and those on the path have none. Each turn gives one.
 -- Assumes nothing.
-use mathlib.Core.Path.{refl, sym, subst}
-use Prim.Native.Nat.{ℕ, _-_}
+use mathlib.Core.Path.{refl}
+use Prim.Native.Nat.{_-_}
 use native.Mathlib.Omega.{arith}
 use lib.ListN.{length}
 use Rattle.packed_arcs.specs.Entries.{entry}
 use Rattle.acyclicity.specs.Search.{tailsOf, headsOf}
-use Rattle.acyclicity.specs.Steps.{Arcs, Next, Searching}
-use Rattle.acyclicity.proofs.Columns.{tails-len}
-use Rattle.acyclicity.proofs.Rankings.{Progress, AtLast, at-last, SameLengths, same-lengths, arcs-as, searching-none, ranking-none, searched-all, searched-closed, one-left, progress-more}
+use Rattle.acyclicity.specs.Steps.{Arcs, Searching}
+use Rattle.acyclicity.proofs.Rankings.{Progress, AtLast, at-last, SameLengths, same-lengths, arcs-as, chained-as, searching-none, ranking-none, searched-all, searched-closed, one-left, progress-more}
 use Rattle.acyclicity.proofs.ranking.rank_all.Statement.{statement}
 use Rattle.acyclicity.proofs.ranking.rank_all.Tie as tie
 
 abbrev Inv-loop : tie.InvT-loop
-Inv-loop records next ranks₀ into₀ path₀ spot₀ r₀ root₀ len₀ ranks into path spot r root len =
+Inv-loop records links ranks₀ into₀ path₀ spot₀ r₀ root₀ len₀ ranks into path spot r root len =
     Progress (length ranks₀) (tailsOf records) (headsOf records) ranks into path spot r root len
 
 abbrev μ-loop : tie.MeasureT-loop
-μ-loop records next ranks₀ into₀ path₀ spot₀ r₀ root₀ len₀ ranks into path spot r root len = length ranks₀ - r
+μ-loop records links ranks₀ into₀ path₀ spot₀ r₀ root₀ len₀ ranks into path spot r root len = length ranks₀ - r
 
 at-first : (s : tie.Start Inv-loop μ-loop)
     → let a = s .args in Searching (tailsOf (a .records .now)) (headsOf (a .records .now)) (a .ranks .now) (a .into .now) (a .path .now) (a .spot .now) 0
-at-first s = let p = s .pre .1 .1 in searching-none (tails-len (s .args .records .now)) (s .pre .1 .0) (p .1) (p .2)
+at-first s = searching-none (s .pre .0 .0) (s .pre .0 .1) (s .pre .1 .1) (s .pre .1 .2)
 
 loop-holds : tie.Need-loop-holds Inv-loop μ-loop
 loop-holds c =
     let s = c .before .before .before .before .before .before in
-    record { size = refl; searching = at-first s; ranking = ranking-none (s .args .ranks .now) (s .pre .1 .1 .0); passed = λ u h. absurd (omega arith) }
+    record { size = refl; searching = at-first s; ranking = ranking-none (s .args .ranks .now) (s .pre .1 .0); passed = λ u h. absurd (omega arith) }
 
 -- at the loop's top
 arcs : (c : tie.At-loop Inv-loop μ-loop) → let rs = c .before .before .before .before .before .before .before .args .records .now in Arcs (length (c .loop .ranks)) (tailsOf rs) (headsOf rs)
-arcs c = arcs-as (c .loop .inv .size) (c .before .before .before .before .before .before .before .pre .0)
+arcs c = arcs-as (c .loop .inv .size) (c .before .before .before .before .before .before .before .pre .0 .0 .arcs)
 
 lengths : (c : tie.At-loop Inv-loop μ-loop)
     → let l = c .loop in
@@ -46,7 +45,7 @@ climb-requires c κs =
     let l = c .before .before .before .before .before .before .before .loop in
     let s = c .before .before .before .before .before .before .before .before .before .before .before .before .before .before in
     let below = c .before .before .before .before .if1 .left in
-    (record { arcs = arcs (c .before .before .before .before .before .before .before); chain = subst (λ (k : ℕ). Next (headsOf (s .args .records .now)) (s .args .next .now) k) (sym (tails-len (s .args .records .now))) (s .pre .1 .0 .chain) }, (l .inv .searching, (below, c .before .before .before .before .before .first-unranked .ensures .none below)))
+    (chained-as (l .inv .size) (s .pre .0 .0), (l .inv .searching, (below, c .before .before .before .before .before .first-unranked .ensures .none below)))
 
 -- once the path cannot grow
 here : (c : tie.After-climb Inv-loop μ-loop)
