@@ -6,3 +6,6 @@ pub mod SearchSteps
 pub mod Raising
 pub mod Augmentation
 pub mod RaiseLoop
+pub mod Pairs
+pub mod Flows
+pub mod Outcomes

@@ -2,3 +2,4 @@ pub mod Columns
 pub mod Matching
 pub mod Tree
 pub mod Augmenting
+pub mod Outcome

@@ -2,4 +2,5 @@
 mod arcs;
 mod augment;
 mod raise;
+mod results;
 mod tree;
