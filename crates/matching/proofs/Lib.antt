@@ -9,3 +9,4 @@ pub mod RaiseLoop
 pub mod Pairs
 pub mod Flows
 pub mod Outcomes
+pub mod Serving

@@ -3,4 +3,5 @@ mod arcs;
 mod augment;
 mod raise;
 mod results;
+mod serve;
 mod tree;
