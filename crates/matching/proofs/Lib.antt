@@ -10,3 +10,4 @@ pub mod Pairs
 pub mod Flows
 pub mod Outcomes
 pub mod Serving
+pub mod Bidding

@@ -1,16 +1,14 @@
 -- What the matching and a search that found nothing say: a perfect matching of least cost, or none.
 -- Assumes nothing.
 use mathlib.Core.Path.{_≡_, refl, sym, ap, subst, _∙_}
-use mathlib.Core.Bool.{Bool, true, false}
 use mathlib.Core.List.{List}
 use mathlib.Core.Logic.{_⊎_, inl, inr, _≢_}
 use Prim.Native.Nat.{ℕ, zero, suc, _+_, _*_, _-_, _<_, _≤_}
 use native.Mathlib.Decide.{ℕ-discrete, decLt}
 use native.Mathlib.Omega.{arith}
-use lib.Dec.{eqb, ltb, leb}
 use lib.ListN.{length, List·getD-eq-default}
-use borrow.Author.Tests.{eq-eqb, ne-eqb, lt-ltb, le-ltb, le-leb, lt-leb, eqb-true}
-use Rattle.prelude.specs.Choice.{pick, indicator}
+use borrow.Author.Tests.{eq-eqb, ne-eqb, le-leb, lt-leb}
+use Rattle.prelude.specs.Choice.{indicator}
 use Rattle.prelude.specs.Lists.{listTo}
 use Rattle.prelude.specs.Sums.{sumTo}
 use Rattle.prelude.proofs.Choice.{ltb-on, ltb-off, eqb-on, eqb-off, leb-on, leb-off}
@@ -21,9 +19,9 @@ use Rattle.arc_index.specs.ArcIndex.{noArc}
 use Rattle.vertex_queue.specs.VertexQueue.{waitsNot}
 use Rattle.matching.specs.Matching.{Bipartite, Noted, Matching, State}
 use Rattle.matching.specs.Tree.{InTree, root, matched, Tree}
-use Rattle.matching.specs.Outcome.{matchedAmount, Amounts, Perfect, farMark, unreachedMark, Marks, Deficient}
+use Rattle.matching.specs.Outcome.{matchedAmount, Amounts, Perfect, farMark, Marks, Deficient}
 use Rattle.matching.proofs.Pairs.{noted, left-end, right-end}
-use Rattle.matching.proofs.Flows.{flow-none, flow-one, sum-less, sum-strict, sum-full, weighted, sum-weighted, weighted-same, sum-ones, listed-at}
+use Rattle.matching.proofs.Flows.{flow-none, flow-one, sum-less, sum-strict, sum-full, sum-weighted, weighted-same, sum-ones, listed-at}
 
 -- ---- amounts of a matching
 
@@ -46,6 +44,7 @@ module _ {h n : ℕ} {T H W mate x : List ℕ} (G : Bipartite h n T H W) (M : Ma
     where
       here : entry x e ≡ matchedAmount H mate e
       here = A .by e (omega (arith, G .heads-len))
+
       go : (matchedAmount H mate e ≡ 0) ⊎ ((matchedAmount H mate e ≡ 1) × (entry mate (entry H e) ≡ e)) → (entry x e ≡ 0) ⊎ ((entry x e ≡ 1) × Noted T H mate (entry H e) e)
       go (inl z) = inl (here ∙ z)
       go (inr q) = inr (here ∙ q .0, subst (λ (k : ℕ). Noted T H mate (entry H e) k) (q .1) (noted M (entry H e) (G .below e l) (omega (arith, q .1, G .few))))
@@ -60,11 +59,12 @@ module _ {h n : ℕ} {T H W mate x : List ℕ} (G : Bipartite h n T H W) (M : Ma
       near : (entry x e ≡ 0) ⊎ ((entry x e ≡ 1) × Noted T H mate (entry H e) e) → entry x e ≤ 1
       near (inl z) = omega arith
       near (inr N) = omega (arith, N .0)
+
       go : Dec (e < length T) → entry x e ≤ 1
       go (yes k) = near (carried e k)
       go (no k) = omega (arith, entry-past x e (omega (arith, A .len, G .heads-len)))
 
-  -- another arc at the vertex v of the arc k carries nothing
+  -- an arc at a vertex that is not the one noted there carries nothing
   left-other : (a e : ℕ) → e < length T → entry T e ≡ a → e ≢ entry mate a → entry x e ≡ 0
   left-other a e l q z = go (carried e l)
     where
@@ -123,16 +123,18 @@ module _ {h n : ℕ} {T H W mate x : List ℕ} (G : Bipartite h n T H W) (M : Ma
       let left : ℕ → ℕ = λ v. g v * flowAt T x v in
       let right : ℕ → ℕ = λ v. g v * flowAt H x v in
       let whole : h + (n - h) ≡ n = omega (arith, G .within) in
-      omega (arith,
-          sumTo-split h (n - h) left,
-          sumTo-split h (n - h) right,
-          ap (λ (k : ℕ). sumTo k left) whole,
-          ap (λ (k : ℕ). sumTo k right) whole,
-          sumTo-none (n - h) (λ i. left (h + i)) (λ i l. omega (arith, ap (λ (k : ℕ). g (h + i) * k) (from-right (h + i) (omega arith)))),
-          sumTo-none h right (λ a l. omega (arith, ap (λ (k : ℕ). g a * k) (to-left a l))),
-          sum-weighted n T x g (λ e l. omega (arith, G .from-left e l, G .within)),
-          sum-weighted n H x g (λ e l. G .below e (omega (arith, G .heads-len))),
-          weighted-same T H x g (G .heads-len) (λ e l. agree e l (carried e l)))
+      omega (
+        arith,
+        sumTo-split h (n - h) left,
+        sumTo-split h (n - h) right,
+        ap (λ (k : ℕ). sumTo k left) whole,
+        ap (λ (k : ℕ). sumTo k right) whole,
+        sumTo-none (n - h) (λ i. left (h + i)) (λ i l. omega (arith, ap (λ (k : ℕ). g (h + i) * k) (from-right (h + i) (omega arith)))),
+        sumTo-none h right (λ a l. omega (arith, ap (λ (k : ℕ). g a * k) (to-left a l))),
+        sum-weighted n T x g (λ e l. omega (arith, G .from-left e l, G .within)),
+        sum-weighted n H x g (λ e l. G .below e (omega (arith, G .heads-len))),
+        weighted-same T H x g (G .heads-len) (λ e l. agree e l (carried e l)),
+      )
     where
       agree : (e : ℕ) → e < length T → (entry x e ≡ 0) ⊎ ((entry x e ≡ 1) × Noted T H mate (entry H e) e) → g (entry T e) * entry x e ≡ g (entry H e) * entry x e
       agree e l (inl z) = ap (λ (k : ℕ). g (entry T e) * k) z ∙ omega arith ∙ sym (ap (λ (k : ℕ). g (entry H e) * k) z)
@@ -231,6 +233,7 @@ module _ {h n : ℕ} {T H W links mate pi : List ℕ} {t : ℕ} {dist par order 
           let a = S .graph .from-left e (N .arc) in
           let o : 0 < entry order (entry T e) = omega arith in
           inr (matched-mark b l i m ∙ near-left (entry T e) a o, record { D = entry dist (entry T e); j = entry order (entry T e); in-tree = matched m o refl refl; few = near (entry T e) a o })
+
       go : Dec (b ≡ t) → (entry mate b ≡ noArc) ⊎ Noted T H mate b (entry mate b)
           → (entry marks b ≡ 1) ⊎ ((entry marks b ≡ 0) × Near T mate dist order t b)
       go (yes q) N = inr (ap (entry marks) q ∙ root-mark, record { D = 0; j = 0; in-tree = root q refl refl; few = omega arith })
@@ -256,9 +259,11 @@ module _ {h n : ℕ} {T H W links mate pi : List ℕ} {t : ℕ} {dist par order 
       right : (entry marks v ≡ 1) ⊎ ((entry marks v ≡ 0) × Near T mate dist order t v) → entry marks v ≤ 1
       right (inl r) = omega arith
       right (inr r) = omega (arith, r .0)
+
       left : ((entry marks v ≡ 1) × (entry order v ≡ 0)) ⊎ ((entry marks v ≡ 0) × (0 < entry order v)) → entry marks v ≤ 1
       left (inl r) = omega (arith, r .0)
       left (inr r) = omega (arith, r .0)
+
       go : Dec (v < n) → Dec (v < h) → entry marks v ≤ 1
       go (no i) l = omega (arith, entry-past marks v (omega (arith, K .len)))
       go (yes i) (yes l) = left (left-cases v l)
@@ -273,23 +278,28 @@ module _ {h n : ℕ} {T H W links mate pi : List ℕ} {t : ℕ} {dist par order 
       let A : Amounts H mate x = record { len = listTo-length (length H) (matchedAmount H mate); by = listed-at (length H) (matchedAmount H mate) } in
       let g : ℕ → ℕ = λ v. 1 - entry marks v in
       let back : h + (t - h) ≡ t = omega (arith, F .right) in
-      omega (arith,
-          both-sides G M A g same-ends,
-          sum-less h g (λ a. g a * flowAt T x a) (λ a l. taken-once x A a l (left-cases a l)),
-          sum-strict (n - h) (λ i. g (h + i) * flowAt H x (h + i)) (λ i. g (h + i)) (t - h)
-          (λ i l. at-most (1 - entry marks (h + i)) (flowAt H x (h + i)) (right-most G M A (h + i) (omega arith) (omega arith))) (omega (arith, F .target, F .right))
-          (subst (λ (v : ℕ). g v * flowAt H x v < g v) (sym back) (none-at (entry marks t) (flowAt H x t) root-mark (right-exposed G M A t (F .bare)))))
+      omega (
+        arith,
+        both-sides G M A g same-ends,
+        sum-less h g (λ a. g a * flowAt T x a) (λ a l. taken-once x A a l (left-cases a l)),
+        sum-strict (n - h) (λ i. g (h + i) * flowAt H x (h + i)) (λ i. g (h + i)) (t - h)
+            (λ i l. at-most (1 - entry marks (h + i)) (flowAt H x (h + i)) (right-most G M A (h + i) (omega arith) (omega arith))) (omega (arith, F .target, F .right))
+            (subst (λ (v : ℕ). g v * flowAt H x v < g v) (sym back) (none-at (entry marks t) (flowAt H x t) root-mark (right-exposed G M A t (F .bare)))),
+      )
     where
       same-ends : (e : ℕ) → e < length T → Noted T H mate (entry H e) e → 1 - entry marks (entry T e) ≡ 1 - entry marks (entry H e)
       same-ends e l N =
           let q = matched-mark (entry H e) (S .graph .to-right e l) (S .graph .below e l) (omega (arith, N .at-head, S .graph .few)) in
           ap (λ (m : ℕ). 1 - m) (left-mark (entry T e) (S .graph .from-left e l) ∙ sym (q ∙ ap (λ (k : ℕ). farMark (entry dist (entry T k))) (N .at-head)))
+
       at-most : (g f : ℕ) → f ≤ 1 → g * f ≤ g
       at-most g zero p = omega arith
       at-most g (suc zero) p = omega arith
       at-most g (suc (suc f)) p = absurd (omega arith)
+
       none-at : (m f : ℕ) → m ≡ 0 → f ≡ 0 → (1 - m) * f < 1 - m
       none-at m f p q = rw (p, q) (omega arith)
+
       taken-once : (x : List ℕ) → Amounts H mate x → (a : ℕ) → a < h → ((entry marks a ≡ 1) × (entry order a ≡ 0)) ⊎ ((entry marks a ≡ 0) × (0 < entry order a))
           → 1 - entry marks a ≤ (1 - entry marks a) * flowAt T x a
       taken-once x A a l (inl r) = rw (r .0) (omega arith)

@@ -1,3 +1,4 @@
+pub mod Bidding
 pub mod Columns
 pub mod Matching
 pub mod Tree

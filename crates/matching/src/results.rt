@@ -40,10 +40,10 @@ pub(crate) fn write_amounts(records: &[u32], mate: &[u16], x: &mut [u16])
 fn far_mark(d: u32) -> u32
     ensures { λ r. ⌜ r ≡ farMark d ⌝ }
 {
-    if WAITS_NOT <= d {
-        return 1;
+    if d < WAITS_NOT {
+        return 0;
     }
-    0
+    1
 }
 
 // The mark of the vertex v after a search from t.

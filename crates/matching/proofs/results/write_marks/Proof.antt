@@ -1,7 +1,7 @@
 -- `matching::results::write_marks` meets its contract. The loop's invariant: the vertices below v have their marks.
 -- Assumes nothing.
 use mathlib.Core.Path.{_≡_, sym, subst}
-use Prim.Native.Nat.{ℕ, _-_, _<_}
+use Prim.Native.Nat.{ℕ, _-_}
 use native.Mathlib.Omega.{arith}
 use lib.ListN.{length}
 use borrow.Author.Needs.{needs}
@@ -27,9 +27,10 @@ mark-of-requires c κs =
     let a = s .args in
     let T = tailsOf (a .records .now) in
     let H = headsOf (a .records .now) in
-    let n = sym (s .pre .1 .len) in
-    ( subst (λ (k : ℕ). Bipartite (length (a .dist .now)) k T H (weightsOf (a .records .now))) n (s .pre .0)
-    , (subst (λ (k : ℕ). Matching k T H (a .mate .now)) n (s .pre .1), c .loop-test .taken) )
+    let n = sym (s .pre .1 .len) in (
+      subst (λ (k : ℕ). Bipartite (length (a .dist .now)) k T H (weightsOf (a .records .now))) n (s .pre .0),
+      (subst (λ (k : ℕ). Matching k T H (a .mate .now)) n (s .pre .1), c .loop-test .taken),
+    )
 
 mul-pi : tie.Need-mul-pi Inv-loop μ-loop
 mul-pi c = search needs

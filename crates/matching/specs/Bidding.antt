@@ -1,0 +1,65 @@
+-- Bids: the cheapest arcs to a right vertex, and what changes where one of them is taken.
+-- Assumes nothing.
+use mathlib.Core.Path.{_≡_}
+use mathlib.Core.List.{List}
+use mathlib.Core.Logic.{_≢_}
+use Prim.Native.Nat.{ℕ, _+_, _-_, _<_, _≤_}
+use lib.Dec.{eqb, leb}
+use lib.ListN.{length, set}
+use Rattle.prelude.specs.Choice.{pick}
+use Rattle.packed_arcs.specs.Entries.{entry}
+use Rattle.arc_index.specs.ArcIndex.{noArc}
+
+-- More than any arc costs.
+abbrev pub tooMuch : ℕ
+tooMuch = 4294967295
+
+-- What the arc e costs at its head: its weight, and the potential of its tail.
+abbrev pub costOf : List ℕ → List ℕ → List ℕ → ℕ → ℕ
+costOf T W pi e = entry W e + entry pi (entry T e)
+
+-- The same, and too much for an arc from the vertex `except`.
+abbrev pub costUnless : List ℕ → List ℕ → List ℕ → ℕ → ℕ → ℕ
+costUnless T W pi except e = pick (eqb (entry T e) except) tooMuch (costOf T W pi e)
+
+-- Every arc costs something that can be added up.
+abbrev pub Affordable : List ℕ → List ℕ → List ℕ → Type 0
+Affordable T W pi = (e : ℕ) → e < length T → (entry T e < length pi) × (costOf T W pi e ≤ 8355585)
+
+-- r is no arc, or among the arcs to t that do not come from `except` none is cheaper.
+pub record Cheapest (T H W pi : List ℕ) (t except r : ℕ) : Type 0 where
+  pub arc : r < noArc → r < length T
+  pub head : r < noArc → entry H r ≡ t
+  pub tail : r < noArc → entry T r ≢ except
+  pub least : r < noArc → (e : ℕ) → e < length T → entry H e ≡ t → entry T e ≢ except → costOf T W pi r ≤ costOf T W pi e
+
+-- The arc e to t may be taken for u: u covers its cost, no arc to t from another vertex costs less than u, and none from the same vertex weighs less.
+pub record Offer (T H W pi : List ℕ) (t e u : ℕ) : Type 0 where
+  pub arc : e < length T
+  pub head : entry H e ≡ t
+  pub covers : costOf T W pi e ≤ u
+  pub most : u ≤ 8322818
+  pub others : (j : ℕ) → j < length T → entry H j ≡ t → entry T j ≢ entry T e → u ≤ costOf T W pi j
+  pub same : (j : ℕ) → j < length T → entry H j ≡ t → entry T j ≡ entry T e → entry W e ≤ entry W j
+
+-- Indices within the lists, where the arc e to t is taken for u.
+pub record Room (T H W mate pi : List ℕ) (t e u : ℕ) : Type 0 where
+  pub few : length T ≤ noArc
+  pub arc : e < length T
+  pub tail : entry T e < length mate
+  pub right : t < length mate
+  pub same-len : length pi ≡ length mate
+  pub covers : entry W e ≤ u
+  pub matched : entry mate (entry T e) < noArc → (entry mate (entry T e) < length T) × (entry H (entry mate (entry T e)) < length mate)
+
+-- The head of the arc that is matched at a, if there is one, becomes exposed.
+abbrev pub freed : List ℕ → List ℕ → ℕ → List ℕ
+freed H mate a = pick (leb noArc (entry mate a)) mate (set mate (entry H (entry mate a)) noArc)
+
+-- The arc e from a to t is matched in place of the arc that was matched at a.
+abbrev pub assignedMates : List ℕ → List ℕ → ℕ → ℕ → ℕ → List ℕ
+assignedMates H mate a t e = set (set (freed H mate a) a e) t e
+
+-- t gets the potential u, and a that with which an arc of weight w between them has no reduced cost.
+abbrev pub assignedPotentials : List ℕ → ℕ → ℕ → ℕ → ℕ → List ℕ
+assignedPotentials pi a t u w = set (set pi t u) a (u - w)
