@@ -12,7 +12,7 @@ use Rattle.prelude.proofs.Filling.{Filling}
 use Rattle.packed_arcs.specs.Entries.{entry}
 use Rattle.packed_arcs.proofs.ListLoops.{set-cases, filled-as}
 use Rattle.arc_index.specs.ArcIndex.{noArc, nextArc}
-use Rattle.arc_index.specs.Chains.{First, Chains}
+use Rattle.arc_index.specs.Chains.{First}
 use Rattle.acyclicity.specs.Search.{tailsOf, headsOf}
 use Rattle.acyclicity.specs.Steps.{Points, Chained, Watch, MovedOn}
 use Rattle.acyclicity.proofs.Columns.{tails-len}

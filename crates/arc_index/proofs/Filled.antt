@@ -5,7 +5,7 @@ use mathlib.Core.List.{List, [], _∷_, _++_}
 use Prim.Native.Nat.{ℕ, zero, suc, _+_, _≤_, _<_}
 use native.Mathlib.Decide.{ℕ-discrete}
 use native.Mathlib.Omega.{arith}
-use lib.ListN.{length, getD, set, replicate, length-replicate, getD-replicate, List·getD-append}
+use lib.ListN.{length, set, replicate, length-replicate, getD-replicate, List·getD-append}
 use lib.Seq.{getD-append-seam}
 use Rattle.prelude.specs.Lists.{listTo}
 use Rattle.prelude.proofs.Filling.{Filling, fill-start, fill-turn}

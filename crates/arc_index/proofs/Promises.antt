@@ -12,7 +12,7 @@ use Rattle.prelude.specs.Lists.{Every, Member}
 use Rattle.prelude.proofs.Lists.{every-map, every-at}
 use Rattle.packed_arcs.specs.Entries.{entry}
 use Rattle.arc_index.specs.ArcIndex.{firstArc, emptyIndex, indexFrom, scanFrom}
-use Rattle.arc_index.specs.Promises.{ChainIsScan, Ascending, ArcsAt, ScanIsExact}
+use Rattle.arc_index.specs.Promises.{ChainIsScan, Ascending, ScanIsExact}
 use Rattle.arc_index.proofs.Growing.{grown}
 use Rattle.arc_index.proofs.Walks.{scan, scan-as, walk-from}
 

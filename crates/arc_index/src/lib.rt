@@ -5,7 +5,7 @@ ghost use Prim.Native.Nat.{_≤_};
 ghost use lib.ListN.{length, replicate, set};
 ghost use Rattle.prelude.specs.Choice.{pick};
 ghost use Rattle.prelude.specs.Lists.{listTo};
-ghost use Rattle.arc_index.specs.ArcIndex.{noArc, indexOf, emptyIndex, addedBelow, indexFrom, linksOf, endOf, endsOf, indexable};
+ghost use Rattle.arc_index.specs.ArcIndex.{noArc, indexOf, addedBelow, indexFrom, linksOf, endOf, endsOf, indexable};
 use network::arc_in;
 
 // What stands where there is no arc.

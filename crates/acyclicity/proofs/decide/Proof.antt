@@ -3,7 +3,7 @@
 use mathlib.Core.Path.{refl, _∙_, ap}
 use Prim.Native.Nat.{ℕ}
 use native.Mathlib.Omega.{arith}
-use lib.ListN.{length, take}
+use lib.ListN.{take}
 use borrow.Author.Needs.{needs}
 use Rattle.packed_arcs.specs.Entries.{zeroList}
 use Rattle.acyclicity.specs.Steps.OrderOrCycle.{ordered, cyclic}

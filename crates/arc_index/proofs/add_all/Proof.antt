@@ -2,7 +2,6 @@
 -- Assumes nothing.
 use Prim.Native.Nat.{_-_}
 use lib.ListN.{length}
-use native.Mathlib.Omega.{arith}
 use borrow.Author.Needs.{needs}
 use Rattle.arc_index.specs.ArcIndex.{indexOf}
 use Rattle.arc_index.proofs.Ends.{AddedTo, added-none, added-more, added-all, same-links}

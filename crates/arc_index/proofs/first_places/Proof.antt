@@ -3,7 +3,7 @@
 use mathlib.Core.Path.{_∙_, ap}
 use Prim.Native.Nat.{ℕ, _-_}
 use native.Mathlib.Omega.{arith}
-use lib.ListN.{length, length-replicate}
+use lib.ListN.{length-replicate}
 use borrow.Author.Needs.{needs}
 use Rattle.prelude.specs.Lists.{listTo}
 use Rattle.packed_arcs.specs.Entries.{zeroList}

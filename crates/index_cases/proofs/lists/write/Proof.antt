@@ -1,8 +1,7 @@
 -- `index_cases::lists::write` is safe and ends: it goes through the records.
 -- Assumes nothing.
-use mathlib.Core.Path.{_≡_, refl, _∙_}
+use mathlib.Core.Path.{_≡_, refl}
 use Prim.Native.Nat.{_-_}
-use native.Mathlib.Omega.{arith}
 use lib.ListN.{length}
 use borrow.Author.Needs.{needs}
 use Rattle.index_cases.proofs.lists.write.Statement.{statement}

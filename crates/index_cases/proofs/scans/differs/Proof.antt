@@ -1,7 +1,6 @@
 -- `index_cases::scans::differs` is safe and ends: it goes through the records.
 -- Assumes nothing.
 use Prim.Native.Nat.{_-_}
-use native.Mathlib.Omega.{arith}
 use lib.ListN.{length}
 use borrow.Author.Needs.{needs}
 use Rattle.index_cases.proofs.scans.differs.Statement.{statement}
