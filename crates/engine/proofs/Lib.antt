@@ -7,3 +7,4 @@ pub mod PhaseLaws
 pub mod LastSearch
 pub mod StartState
 pub mod CallOutcomes
+pub mod Conserving

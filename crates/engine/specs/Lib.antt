@@ -3,3 +3,5 @@ pub mod Push
 pub mod Phase
 pub mod PackedNetwork
 pub mod Calls
+pub mod Chains
+pub mod Preflow

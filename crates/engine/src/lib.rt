@@ -12,6 +12,7 @@ mod phases;
 mod push;
 mod search;
 mod sending;
+mod shifting;
 
 // The key of a vertex that is not reached.
 pub const UNREACHED: u32 = 2147483648;
