@@ -7,14 +7,15 @@ use Prim.Native.Nat.{ℕ, zero, suc, _+_, _*_, _-_, _<_, _≤_, min}
 use native.Mathlib.Omega.{arith}
 use lib.Dec.{eqb}
 use borrow.Author.Tests.{eq-eqb, ne-eqb}
-use lib.ListN.{length, set, length-set}
+use lib.ListN.{length, set, length-set, length-map}
 use Rattle.prelude.specs.Choice.{indicator}
 use Rattle.packed_arcs.specs.Entries.{entry, flowAt}
 use Rattle.packed_arcs.specs.PackedArcs.{tailOf, headOf, capacityOf, tailsOf, headsOf, capacitiesOf}
 use Rattle.packed_arcs.proofs.ArcColumns.{columns, listed, tail-at, head-at, capacity-at}
 use Rattle.packed_arcs.proofs.ColumnSums.{flow-add, flow-sub}
 use Rattle.packed_arcs.proofs.ListLoops.{set-cases}
-use Rattle.engine.specs.Preflow.{Conserved, PackedConserved, Ready, Moves, transferred}
+use Rattle.engine.specs.Chains.{Chains, First}
+use Rattle.engine.specs.Preflow.{Conserved, PackedConserved, Ready, Moves, Links, transferred}
 use Rattle.engine.specs.Residual.{sum}
 
 -- ---- sums
@@ -177,3 +178,28 @@ backward-moves arcs x left left' e a b room g h r ea eb er eg el =
       left-len = len;
       keeps = λ s c. rw (el, ← ta, ← tb) (backward-conserved c e g (listed arcs e h) (omega (arith, ap (entry left) tb)) (omega arith));
     }
+
+-- ---- walks along links
+
+-- the links of a column give on to later arcs
+pub chained : (arcs ends links : List ℕ) → length ends ≡ length arcs → Chains ends links → Links arcs links
+chained arcs ends links el c = record { few = omega (arith, c .few); len = omega (arith, c .len); later = λ e h. go e (c .nexts e (omega arith)) (omega (arith, c .few)) }
+  where
+    go : (e : ℕ) → First ends (entry ends e) (e + 1) (entry links (256 + e)) → e < 4096 → e < entry links (256 + e)
+    go e (First.found a b d f) h = omega arith
+    go e (First.none a f) h = omega arith
+
+pub out-links : (arcs out : List ℕ) → Chains (tailsOf arcs) out → Links arcs out
+out-links arcs out c = chained arcs (tailsOf arcs) out (columns arcs) c
+
+pub into-links : (arcs into : List ℕ) → Chains (headsOf arcs) into → Links arcs into
+into-links arcs into c = chained arcs (headsOf arcs) into (length-map arcs headOf) c
+
+-- what a state tells of the lengths
+pub record Sizes (arcs x left : List ℕ) : Type 0 where
+  pub few : length arcs ≤ 4096
+  pub x-len : length x ≡ length arcs
+  pub small : length left ≤ 255
+
+pub sizes : (arcs x left : List ℕ) → Ready arcs x left → Sizes arcs x left
+sizes arcs x left r = record { few = omega (arith, r .holds .few, columns arcs); x-len = r .holds .x-len ∙ columns arcs; small = omega (arith, r .holds .small, r .holds .left-len) }

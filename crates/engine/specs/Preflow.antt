@@ -6,7 +6,6 @@ use Prim.Native.Nat.{ℕ, _+_, _-_, _<_, _≤_}
 use lib.ListN.{length, set}
 use Rattle.packed_arcs.specs.Entries.{entry, flowAt}
 use Rattle.packed_arcs.specs.PackedArcs.{tailsOf, headsOf, capacitiesOf}
-use Rattle.engine.specs.Chains.{Chains}
 use Rattle.engine.specs.Residual.{sum}
 
 -- The amounts x leave `left` at the vertices, where `start` stood when all amounts were 0.
@@ -43,7 +42,8 @@ pub record Moves (arcs x left x' left' : List ℕ) : Type 0 where
 abbrev pub transferred : List ℕ → ℕ → ℕ → ℕ → List ℕ
 transferred left a b g = set (set left a (entry left a - g)) b (entry (set left a (entry left a - g)) b + g)
 
--- The links of the arcs by their tails and by their heads.
-pub record Indexed (arcs out into : List ℕ) : Type 0 where
-  pub tails : Chains (tailsOf arcs) out
-  pub heads : Chains (headsOf arcs) into
+-- What a walk along links asks of them: a place for each vertex and each arc, and from an arc on to a later one or none.
+pub record Links (arcs links : List ℕ) : Type 0 where
+  pub few : length arcs ≤ 4096
+  pub len : length links ≡ 256 + length arcs
+  pub later : (e : ℕ) → e < length arcs → e < entry links (256 + e)

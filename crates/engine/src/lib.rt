@@ -8,7 +8,9 @@ use packed_arcs::limits::is_solvable;
 use phases::run;
 use sending::search_and_push;
 
+mod labels;
 mod phases;
+mod preflow;
 mod push;
 mod search;
 mod sending;
