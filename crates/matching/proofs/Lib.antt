@@ -11,3 +11,4 @@ pub mod Flows
 pub mod Outcomes
 pub mod Serving
 pub mod Bidding
+pub mod Finding

@@ -1,15 +1,32 @@
 -- What is written at the end: amounts of a perfect matching, or marks that show that there is none.
 -- Assumes nothing.
 use mathlib.Core.Path.{_≡_}
+use mathlib.Core.Bool.{Bool, true, false, _&&_}
 use mathlib.Core.List.{List}
-use Prim.Native.Nat.{ℕ, _+_, _-_, _<_, _≤_}
+use Prim.Native.Nat.{ℕ, _+_, _*_, _-_, _<_, _≤_}
 use lib.Dec.{eqb, ltb, leb}
 use lib.ListN.{length}
 use Rattle.prelude.specs.Choice.{pick, indicator}
 use Rattle.prelude.specs.Sums.{sumTo}
-use Rattle.packed_arcs.specs.Entries.{entry, flowAt}
+use Rattle.prelude.specs.Lists.{all}
+use Rattle.network.specs.Limits.{mostArcs, mostWeight}
+use Rattle.network.specs.Network.{wordArc}
+use Rattle.packed_arcs.specs.Entries.{entry, flowAt, zeroList}
 use Rattle.arc_index.specs.ArcIndex.{noArc}
 use Rattle.vertex_queue.specs.VertexQueue.{waitsNot}
+use Rattle.matching.specs.Columns.{tailsOf, headsOf, weightsOf}
+use Rattle.matching.specs.declared.Match.{Match}
+use Rattle.matching.specs.declared.Match.the-variants.{Perfect as PerfectMatch, Deficient as NoMatch, Refused}
+
+-- ---- what is handed over
+
+-- The arc of the record leads from a left vertex, below h, to a right one, from h on and below n, and its weight is within the limit.
+abbrev pub leadsAcross : ℕ → ℕ → ℕ → Bool
+leadsAcross h n r = ltb (wordArc r .tail) h && leb h (wordArc r .head) && ltb (wordArc r .head) n && leb (wordArc r .weight) mostWeight
+
+-- What `solve` answers: h left and h right vertices, few enough of them and of records, an amount for each record, and arcs that lead across.
+abbrev pub matchable : List ℕ → ℕ → ℕ → ℕ → Bool
+matchable rs h n amounts = leb h 127 && eqb n (2 * h) && leb (length rs) mostArcs && eqb amounts (length rs) && all (leadsAcross h n) rs
 
 -- ---- a perfect matching of least cost
 
@@ -58,3 +75,16 @@ pub record Deficient (h n : ℕ) (T H marks : List ℕ) : Type 0 where
   pub zero-or-one : (v : ℕ) → entry marks v ≤ 1
   pub closed : (e : ℕ) → e < length T → entry marks (entry T e) ≡ 1 → entry marks (entry H e) ≡ 1
   pub fewer : sumTo h (λ a. 1 - entry marks a) < sumTo (n - h) (λ i. 1 - entry marks (h + i))
+
+-- ---- what is handed back
+
+-- What comes of the search: a perfect matching with its potentials; or marks, and no amounts.
+pub data FindOutcome (h n : ℕ) (T H W pi' x' : List ℕ) : Match → Type 0 where
+  perfect : Perfect h n T H W x' pi' → FindOutcome h n T H W pi' x' PerfectMatch
+  deficient : Deficient h n T H pi' → x' ≡ zeroList (length T) → FindOutcome h n T H W pi' x' NoMatch
+
+-- The outcome: that of the search, or refused, with nothing changed.
+pub data MatchOutcome (rs : List ℕ) (h : ℕ) (pi x pi' x' : List ℕ) : Match → Type 0 where
+  found :
+      {r : Match} → matchable rs h (length pi) (length x) ≡ true → FindOutcome h (length pi) (tailsOf rs) (headsOf rs) (weightsOf rs) pi' x' r → MatchOutcome rs h pi x pi' x' r
+  refused : matchable rs h (length pi) (length x) ≡ false → pi' ≡ pi → x' ≡ x → MatchOutcome rs h pi x pi' x' Refused
