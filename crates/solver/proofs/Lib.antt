@@ -10,3 +10,4 @@ pub mod Promises
 pub mod PathAnswer
 pub mod AcyclicityAnswer
 pub mod CertifyCases
+pub mod AssignmentAnswer

@@ -4,6 +4,7 @@ ghost use Rattle.checks.specs.Held.{asked};
 ghost use Rattle.solver.specs.Certify.{findingNumber, CertifyOutcome};
 use answers::certify_by_phases;
 use answers::certify_path;
+use assignments::certify_assignment;
 use checks::HeldSetting;
 use checks::rows::Question;
 use checks::rows::question_of;
@@ -11,6 +12,7 @@ use orders::certify_acyclicity;
 use records::is_admissible;
 
 mod answers;
+mod assignments;
 mod orders;
 mod records;
 mod vertices;
@@ -49,7 +51,7 @@ pub fn certify(
     match question {
         Question::Path => certify_path(st, records, numbers, amounts),
         Question::Flow => certify_by_phases(st, true, records, numbers, amounts),
-        Question::Assignment => certify_by_phases(st, false, records, numbers, amounts),
+        Question::Assignment => certify_assignment(st, records, numbers, amounts),
         Question::Acyclicity => certify_acyclicity(st, records, numbers, amounts),
         Question::Unasked => Finding::Refused,
     }

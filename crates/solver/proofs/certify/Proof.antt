@@ -48,8 +48,8 @@ certify-path-requires c κs = let a = c .before .before .before .before .before 
 certify-by-phases-requires : tie.Need-certify-by-phases-requires
 certify-by-phases-requires c κs = let a = c .before .before .before .before .before in let g = accepted-in a (c .before .before .before .before .if1 .left) in ((g .0, asks-as a (c .before .before .enum-told2 .given .1)), (g .1, g .2))
 
-certify-by-phases-requires-2 : tie.Need-certify-by-phases-requires-2
-certify-by-phases-requires-2 c κs = let a = c .before .before .before .before .before in let g = accepted-in a (c .before .before .before .before .if1 .left) in ((g .0, asks-as a (c .before .before .enum-told3 .given .1)), (g .1, g .2))
+certify-assignment-requires : tie.Need-certify-assignment-requires
+certify-assignment-requires c κs = let a = c .before .before .before .before .before in let g = accepted-in a (c .before .before .before .before .if1 .left) in ((g .0, asks-as a (c .before .before .enum-told3 .given .1)), (g .1, g .2))
 
 certify-acyclicity-requires : tie.Need-certify-acyclicity-requires
 certify-acyclicity-requires c κs = let a = c .before .before .before .before .before in let g = accepted-in a (c .before .before .before .before .if1 .left) in ((g .0, asks-as a (c .before .before .enum-told4 .given .1)), (g .1, g .2))
@@ -66,8 +66,8 @@ returns-3 c =
 
 returns-4 : tie.Need-returns-4
 returns-4 c =
-    let r = c .before .before .before .certify-by-phases2 in
-    ended-in (c .before .before .before .before .before .before .before .before .before) (c .before .before .before .before .before .before .before .before .if1 .left) (r .kept .1 .1 .1 .0) (r .kept .1 .1 .1 .1 .0) (r .ensures)
+    let r = c .before .before .before .certify-assignment in
+    ended-in (c .before .before .before .before .before .before .before .before .before) (c .before .before .before .before .before .before .before .before .if1 .left) (r .kept .1 .1 .0) (r .kept .1 .1 .1 .0) (r .ensures)
 
 returns-5 : tie.Need-returns-5
 returns-5 c =
@@ -90,7 +90,7 @@ certify-spec =
     (λ c. search needs)
     certify-by-phases-requires
     (λ c. search needs)
-    certify-by-phases-requires-2
+    certify-assignment-requires
     (λ c. search needs)
     certify-acyclicity-requires
     (λ c. search needs)
