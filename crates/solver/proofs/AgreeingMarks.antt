@@ -54,16 +54,3 @@ module _ (st : Setting) (y y' : ℕ → ℤ) (same : (v : ℕ) → v < st .n →
     amounts = c .amounts;
     closed = closed-too f i (c .closed);
   }
-
-  pub no-assignment-too : (f : List Load) → Every (Inside (st .n)) (arcs f) → NoAssignmentCertificate st y f → NoAssignmentCertificate st y' f
-  no-assignment-too f i c = record {
-    marks = marks-too (c .marks);
-    amounts = c .amounts;
-    closed = closed-too f i (c .closed);
-    more-pumps = omega (
-      arith,
-      c .more-pumps,
-      sumTo-ext (pumps st) (λ v. indicator (marked y v)) (λ v. indicator (marked y' v)) (λ v h. ap indicator (same-mark v (omega arith))),
-      sumTo-ext (sites st) (λ v. indicator (marked y (pumps st + v))) (λ v. indicator (marked y' (pumps st + v))) (λ v h. ap indicator (same-mark (pumps st + v) (omega arith))),
-    );
-  }

@@ -135,13 +135,6 @@ mark-low k = go (reached k)
     go false = omega arith
 
 module _ {q : Question} {st : Setting} {es : List Arc} {x' pi' need' key' : List ℕ} (r : EngineRunFor q st es x' pi' need' key') where
-  -- numbers can be written from the keys as marks, and from the potentials
+  -- numbers can be written from the keys as marks
   pub marks-writable : {k : ℕ} → k ≡ st .n → (k ≡ length key') × ((v : ℕ) → v < length key' → numberOf Mark (entry key' v) ≤ mostPotential)
   marks-writable h = (h ∙ sym (keys r), λ v l. mark-low (entry key' v))
-
-  pub potentials-writable : {k : ℕ} → k ≡ st .n → (k ≡ length pi') × ((v : ℕ) → v < length pi' → numberOf Potential (entry pi' v) ≤ mostPotential)
-  potentials-writable h =
-      (h ∙ sym (r .solved .state .sized .pi-len ∙ r .solved .left-len ∙ r .supply .len), λ v l. omega (arith, r .solved .state .sized .pis v))
-
-  pub cleared : {xs : List ℕ} → xs ≡ replicate (length x') 0 → xs ≡ constant es 0
-  cleared h = h ∙ ap (λ (k : ℕ). replicate k 0) (r .solved .state .sized .x-len ∙ length-map es (λ e. e .tail))

@@ -1,7 +1,6 @@
 pub mod ColumnsAndLoads
 pub mod PathInstance
 pub mod FlowInstance
-pub mod AssignmentInstance
 pub mod AgreeingMarks
 pub mod Solutions
 pub mod VertexLists

@@ -28,15 +28,14 @@ use Rattle.packed_arcs.specs.PackedArcs.{tailsOf, headsOf, costsOf, capacitiesO
 use Rattle.engine.specs.Residual.{unreached, residual}
 use Rattle.engine.specs.Push.{Moved}
 use Rattle.engine.specs.Phase.{SearchResult, PhaseState, Solved}
-use Rattle.solver.specs.Instance.{Fits, tails, heads, weights, constant, VertexList, single, plenty, pairRoom, markOf, toward, numberOf}
-use Rattle.solver.specs.Certify.{recordOk, admissible, capacityFor, packedFor, endFor, costs, capacities, standingFor, standing, EngineRunFor, EngineRun, NodeNumbers, Wanting, toldBy, Told, LengthsFor, Solution}
+use Rattle.solver.specs.Instance.{Fits, tails, heads, weights, constant, VertexList, single, plenty, markOf, toward, numberOf}
+use Rattle.solver.specs.Certify.{recordOk, admissible, capacityFor, packedFor, endFor, costs, capacities, standingFor, standing, EngineRunFor, EngineRun, NodeNumbers, toldBy, Told, LengthsFor, Solution}
 use Rattle.solver.specs.declared.vertices.NumberKind.{NumberKind}
 use Rattle.solver.specs.declared.vertices.NumberKind.the-variants.{Mark, Distance, Potential}
 use Rattle.solver.proofs.ColumnsAndLoads.{loads-arcs, is-reached, not-reached, Seen, Unseen, sight}
 use Rattle.solver.proofs.PathInstance.{path-certificate, no-path-certificate, least-lengths, no-walks, moved-one}
 use Rattle.solver.proofs.FlowInstance.{flow-certificate, total-most}
-use Rattle.solver.proofs.AssignmentInstance.{assignment-certificate, no-assignment-certificate}
-use Rattle.solver.proofs.AgreeingMarks.{flow-too, no-path-too, no-assignment-too}
+use Rattle.solver.proofs.AgreeingMarks.{flow-too, no-path-too}
 
 -- ---- what is accepted
 
@@ -170,35 +169,6 @@ module _ {st : Setting} {es : List Arc} (a : Admissible st es) where
       certificate =
           flow-certificate st es plenty ends (fits a) (omega (arith, total-most (st .n) es (fits a))) (r .supply) (r .demand) (r .solved .left-less) (r .solved .need-less)
           (subst (λ (c : List ℕ). Solved (tails es) (heads es) c (weights es) (constant es 0) (r .pi) (r .left) (r .need) x' pi' (r .left') need' key' (r .par')) (constant-map 0 es) (r .solved))
-
-  -- ---- assignment
-
-  module _ {x' pi' need' key' : List ℕ} (e : asks st ≡ assignment) (run : EngineRun st es x' pi' need' key') where
-    r : EngineRunFor assignment st es x' pi' need' key'
-    r = subst (λ (q : Question). EngineRunFor q st es x' pi' need' key') e run
-
-    even : st .n % 2 ≡ 0
-    even = subst (λ (q : Question). EvenFor q (st .n)) e (a .opened .sized .even)
-
-    sides : Every (PumpToSite st) es
-    sides = every-map (λ x (h : Allowed st x). subst (λ (q : Question). SidesFor q st x) e (h .joins .sides)) es (a .allowed)
-
-    asked : Solved (tails es) (heads es) (weights es) (constant es pairRoom) (constant es 0) (r .pi) (r .left) (r .need) x' pi' (r .left') need' key' (r .par')
-    asked = subst (λ (c : List ℕ). Solved (tails es) (heads es) (weights es) c (constant es 0) (r .pi) (r .left) (r .need) x' pi' (r .left') need' key' (r .par')) (constant-map pairRoom es) (r .solved)
-
-    pub assignment-solution : {ys : List ℤ} → ((v : ℕ) → entry need' v ≡ 0) → NodeNumbers Potential pi' ys → Solution st es ys x' 1
-    assignment-solution {ys} met w =
-        solution st es assignment e ys x' (value (cost (loadsOf es x')))
-        (subst (λ (y : ℕ → ℤ). RulesHold assignment st y (loadsOf es x') (value (cost (loadsOf es x')))) (sym (written-at Potential pi' ys refl w))
-        (assignment-certificate st es (fits a) even sides (r .supply) (r .demand) asked (λ v h. met v)))
-        tt
-
-    pub no-assignment-solution : {ys : List ℤ} → Wanting need' → NodeNumbers Mark key' ys → Solution st es ys (constant es 0) 2
-    no-assignment-solution {ys} u w =
-        solution st es assignment e ys (constant es 0) none
-        (no-assignment-too st (markOf key') (at ys) (λ v h. sym (w .each v (omega (arith, keys r)))) (loadsOf es (constant es 0)) (loads-inside a (constant es 0))
-        (no-assignment-certificate st es (fits a) even sides (r .supply) (r .demand) asked (r .solved .left-less) (u .vertex) (omega (arith, u .below, r .solved .state .need-len, r .solved .left-len, r .supply .len)) (u .more)))
-        tt
 
   -- ---- shortest path
 

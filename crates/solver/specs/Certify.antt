@@ -21,7 +21,7 @@ use Rattle.engine.specs.Phase.{Solved}
 use Rattle.solver.specs.declared.Finding.{Finding}
 use Rattle.solver.specs.declared.Finding.the-variants.{Value, None, Refused}
 use Rattle.solver.specs.declared.vertices.NumberKind.{NumberKind}
-use Rattle.solver.specs.Instance.{toward, single, plenty, pairRoom, atPumps, atSites, VertexList, tails, heads, constant, numberOf}
+use Rattle.solver.specs.Instance.{toward, single, plenty, VertexList, tails, heads, constant, numberOf}
 
 -- ---- what is handed over
 
@@ -36,11 +36,11 @@ admissible st rs numbers amounts =
 
 -- ---- how the engine is asked
 
--- The capacity of an arc: 1 for a path, for one unit is sent; its own for a flow; room to spare for an assignment. For acyclicity the engine is not asked.
+-- The capacity of an arc: 1 for a path, for one unit is sent; its own for a flow. For an assignment and for acyclicity the engine is not asked.
 abbrev pub capacityFor : Question → Arc → ℕ
 capacityFor shortestPath e = 1
 capacityFor maximumFlow e = e .weight
-capacityFor assignment e = pairRoom
+capacityFor assignment e = 0
 capacityFor acyclicity e = 0
 capacityFor unasked e = 0
 
@@ -56,7 +56,7 @@ endFor st wanted = pick wanted (st .t) (st .s)
 abbrev pub standingFor : Question → Setting → Bool → ℕ → ℕ
 standingFor shortestPath st wanted v = single (endFor st wanted) 1 v
 standingFor maximumFlow st wanted v = single (endFor st wanted) plenty v
-standingFor assignment st wanted v = pick wanted (atSites st v) (atPumps st v)
+standingFor assignment st wanted v = 0
 standingFor acyclicity st wanted v = 0
 standingFor unasked st wanted v = 0
 
@@ -91,12 +91,6 @@ EngineRun st net x' pi' need' key' = EngineRunFor (asks st) st net x' pi' need' 
 pub record NodeNumbers (kind : NumberKind) (from : List ℕ) (ys : List ℤ) : Type 0 where
   pub len : length ys ≡ length from
   pub each : (v : ℕ) → v < length from → at ys v ≡ pos (numberOf kind (entry from v))
-
--- Something is wanted still.
-pub record Wanting (need : List ℕ) : Type 0 where
-  pub vertex : ℕ
-  pub below : vertex < length need
-  pub more : 0 < entry need vertex
 
 -- ---- what is handed back
 

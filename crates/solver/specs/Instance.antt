@@ -1,4 +1,4 @@
--- Three of the questions as the engine is asked them: the columns of a network, lists by vertex, and node numbers read from keys.
+-- Two of the questions as the engine is asked them: the columns of a network, lists by vertex, and node numbers read from keys.
 -- Assumes nothing.
 use mathlib.Core.Path.{_≡_}
 use mathlib.Core.Bool.{Bool, not}
@@ -56,18 +56,6 @@ single k a v = a * delta k v
 -- More units than all arcs together can carry: what stands at the source of a flow, and is wanted at its sink.
 abbrev pub plenty : ℕ
 plenty = 1 + mostArcs * mostWeight
-
--- The capacity of an arc of an assignment: no more than 1 ever comes, so that the arc is never full.
-abbrev pub pairRoom : ℕ
-pairRoom = 2
-
--- 1 at every pump, 0 elsewhere.
-abbrev pub atPumps : Setting → ℕ → ℕ
-atPumps st v = indicator (ltb v (pumps st))
-
--- 1 at every site, 0 elsewhere.
-abbrev pub atSites : Setting → ℕ → ℕ
-atSites st v = indicator (not (ltb v (pumps st)))
 
 -- No entry of the second list is above that of the first.
 abbrev pub Falls : List ℕ → List ℕ → Type 0

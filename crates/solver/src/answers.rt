@@ -1,22 +1,19 @@
-// Certificates for the three questions that the engine is asked: a path that the engine sends along for a path, its phases for a flow and for an assignment.
+// Certificates for the two questions that the engine is asked: a path that the engine sends along for a path, its phases for a flow.
 ghost use mathlib.Core.Path.{_≡_};
 ghost use lib.ListN.{length};
-ghost use Rattle.prelude.specs.Choice.{pick};
 ghost use Rattle.network.specs.Network.{wordArcs};
-ghost use Rattle.network.specs.Question.{shortestPath, maximumFlow, assignment, asks, Admissible};
+ghost use Rattle.network.specs.Question.{shortestPath, maximumFlow, asks, Admissible};
 ghost use Rattle.checks.specs.Held.{asked};
 ghost use Rattle.solver.specs.Certify.{findingNumber, EngineRun, Solution};
 use super::Finding;
 use super::records::pack;
 use super::vertices::NumberKind;
-use super::vertices::met;
 use super::vertices::stand;
 use super::vertices::write;
 use checks::HeldSetting;
 use engine::Sent;
 use network::MOST_ARCS;
 use network::MOST_VERTICES;
-use packed_arcs::clearing::clear_amounts;
 
 // Asks the engine the question of the setting: supplies, demands, packed records.
 fn run(
@@ -41,10 +38,9 @@ fn run(
     engine::solve(&arcs[..m], x, pi, &mut left[..n], need, key);
 }
 
-// What is found, and numbers and amounts that certify it, for a flow or else an assignment.
-fn answer_by_phases(
+// Numbers and amounts that certify a greatest flow.
+fn answer_flow(
     st: HeldSetting,
-    flow: bool,
     records: &[u32],
     pi: &mut [u32],
     need: &mut [u32],
@@ -52,33 +48,23 @@ fn answer_by_phases(
     numbers: &mut [i32],
     amounts: &mut [u16],
 ) -> Finding
-    requires { ⌜ Admissible (asked st) (wordArcs (now records)) × (asks (asked st) ≡ pick flow maximumFlow assignment) ⌝ }
+    requires { ⌜ Admissible (asked st) (wordArcs (now records)) × (asks (asked st) ≡ maximumFlow) ⌝ }
     requires { ⌜ (length (now amounts) ≡ length (now records)) × (length (now numbers) ≡ st .n) ⌝ }
     requires { ⌜ (length (now pi) ≡ st .n) × (length (now need) ≡ st .n) × (length (now key) ≡ st .n) ⌝ }
     ensures { λ r. ⌜ Solution (asked st) (wordArcs (now (records .entry))) (now (numbers .exit)) (now (amounts .exit)) (findingNumber r) ⌝ }
 {
     run(st, records, amounts, pi, need, key);
-    if flow {
-        write(NumberKind::Mark, key, numbers);
-        return Finding::Value;
-    }
-    if met(need) {
-        write(NumberKind::Potential, pi, numbers);
-        return Finding::Value;
-    }
     write(NumberKind::Mark, key, numbers);
-    clear_amounts(amounts);
-    Finding::None
+    Finding::Value
 }
 
-pub(crate) fn certify_by_phases(
+pub(crate) fn certify_flow(
     st: HeldSetting,
-    flow: bool,
     records: &[u32],
     numbers: &mut [i32],
     amounts: &mut [u16],
 ) -> Finding
-    requires { ⌜ Admissible (asked st) (wordArcs (now records)) × (asks (asked st) ≡ pick flow maximumFlow assignment) ⌝ }
+    requires { ⌜ Admissible (asked st) (wordArcs (now records)) × (asks (asked st) ≡ maximumFlow) ⌝ }
     requires { ⌜ (length (now amounts) ≡ length (now records)) × (length (now numbers) ≡ st .n) ⌝ }
     ensures { λ r. ⌜ Solution (asked st) (wordArcs (now (records .entry))) (now (numbers .exit)) (now (amounts .exit)) (findingNumber r) ⌝ }
 {
@@ -86,9 +72,8 @@ pub(crate) fn certify_by_phases(
     let mut pi = [0u32; MOST_VERTICES as usize];
     let mut need = [0u32; MOST_VERTICES as usize];
     let mut key = [0u32; MOST_VERTICES as usize];
-    answer_by_phases(
+    answer_flow(
         st,
-        flow,
         records,
         &mut pi[..n],
         &mut need[..n],

@@ -2,7 +2,7 @@
 ghost use mathlib.Core.Path.{_≡_};
 ghost use Rattle.checks.specs.Held.{asked};
 ghost use Rattle.solver.specs.Certify.{findingNumber, CertifyOutcome};
-use answers::certify_by_phases;
+use answers::certify_flow;
 use answers::certify_path;
 use assignments::certify_assignment;
 use checks::HeldSetting;
@@ -50,7 +50,7 @@ pub fn certify(
     }
     match question {
         Question::Path => certify_path(st, records, numbers, amounts),
-        Question::Flow => certify_by_phases(st, true, records, numbers, amounts),
+        Question::Flow => certify_flow(st, records, numbers, amounts),
         Question::Assignment => certify_assignment(st, records, numbers, amounts),
         Question::Acyclicity => certify_acyclicity(st, records, numbers, amounts),
         Question::Unasked => Finding::Refused,

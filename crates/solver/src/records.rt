@@ -18,9 +18,6 @@ use network::Record;
 use network::arc_in;
 use reading::arc_check;
 
-// The capacity of an arc of an assignment: it is never full.
-const PAIR_ROOM: u32 = 2;
-
 // The capacity of an arc as the engine is told it.
 fn capacity_of(question: Question, arc: Record) -> u32
     ensures { λ r. ⌜ r ≡ capacityFor (questionHeld question) (arcHeld arc) ⌝ }
@@ -28,7 +25,7 @@ fn capacity_of(question: Question, arc: Record) -> u32
     match question {
         Question::Path => 1,
         Question::Flow => arc.weight,
-        Question::Assignment => PAIR_ROOM,
+        Question::Assignment => 0,
         Question::Acyclicity => 0,
         Question::Unasked => 0,
     }

@@ -6,9 +6,9 @@ ghost use lib.ListN.{length};
 ghost use Rattle.prelude.specs.Choice.{pick};
 ghost use Rattle.network.specs.Limits.{mostVertices, mostPotential};
 ghost use Rattle.checks.specs.Held.{asked};
-ghost use Rattle.solver.specs.Certify.{endFor, standing, NodeNumbers, Wanting};
+ghost use Rattle.solver.specs.Certify.{endFor, standing, NodeNumbers};
 ghost use Rattle.packed_arcs.specs.Entries.{entry};
-ghost use Rattle.solver.specs.Instance.{VertexList, single as singleAt, atPumps, atSites, reached, numberOf};
+ghost use Rattle.solver.specs.Instance.{VertexList, single as singleAt, reached, numberOf};
 use checks::HeldSetting;
 use checks::pumps;
 use checks::rows::Question;
@@ -38,22 +38,6 @@ fn end_of(st: HeldSetting, wanted: bool) -> u8
     st.s
 }
 
-// For an assignment: 1 at every pump, or at every site where wanted.
-fn on_side(st: HeldSetting, wanted: bool, v: u8) -> u32
-    ensures { λ r. ⌜ r ≡ pick wanted (atSites (asked st) v) (atPumps (asked st) v) ⌝ }
-{
-    if v < pumps(st) {
-        if wanted {
-            return 0;
-        }
-        return 1;
-    }
-    if wanted {
-        return 1;
-    }
-    0
-}
-
 // What stands at the vertex v: the supply, or what is wanted.
 fn standing_at(st: HeldSetting, wanted: bool, v: u8) -> u32
     ensures { λ r. ⌜ r ≡ standing (asked st) wanted v ⌝ }
@@ -63,7 +47,7 @@ fn standing_at(st: HeldSetting, wanted: bool, v: u8) -> u32
     match question {
         Question::Path => single(end, 1, v),
         Question::Flow => single(end, PLENTY, v),
-        Question::Assignment => on_side(st, wanted, v),
+        Question::Assignment => 0,
         Question::Acyclicity => 0,
         Question::Unasked => 0,
     }
@@ -133,18 +117,4 @@ pub(crate) fn write(kind: NumberKind, from: &[u32], numbers: &mut [i32])
         numbers[v] = number_of(kind, from[v]) as i32;
         v += 1;
     }
-}
-
-// Is nothing wanted any more?
-pub(crate) fn met(need: &[u32]) -> bool
-    ensures { λ r. ⌜ (r ≡ true → (v : ℕ) → entry (now (need .entry)) v ≡ 0) × (r ≡ false → Wanting (now (need .entry))) ⌝ }
-{
-    let mut v = 0;
-    while v < need.len() {
-        if 0 < need[v] {
-            return false;
-        }
-        v += 1;
-    }
-    true
 }

@@ -45,8 +45,8 @@ returns c = turned-away _ _ _ _ _ (c .if1 .taken) (c .before .is-admissible .ens
 certify-path-requires : tie.Need-certify-path-requires
 certify-path-requires c κs = let a = c .before .before .before .before .before in let g = accepted-in a (c .before .before .before .before .if1 .left) in ((g .0, asks-as a (c .before .before .enum-told .given .1)), (g .1, g .2))
 
-certify-by-phases-requires : tie.Need-certify-by-phases-requires
-certify-by-phases-requires c κs = let a = c .before .before .before .before .before in let g = accepted-in a (c .before .before .before .before .if1 .left) in ((g .0, asks-as a (c .before .before .enum-told2 .given .1)), (g .1, g .2))
+certify-flow-requires : tie.Need-certify-flow-requires
+certify-flow-requires c κs = let a = c .before .before .before .before .before in let g = accepted-in a (c .before .before .before .before .if1 .left) in ((g .0, asks-as a (c .before .before .enum-told2 .given .1)), (g .1, g .2))
 
 certify-assignment-requires : tie.Need-certify-assignment-requires
 certify-assignment-requires c κs = let a = c .before .before .before .before .before in let g = accepted-in a (c .before .before .before .before .if1 .left) in ((g .0, asks-as a (c .before .before .enum-told3 .given .1)), (g .1, g .2))
@@ -61,8 +61,8 @@ returns-2 c =
 
 returns-3 : tie.Need-returns-3
 returns-3 c =
-    let r = c .before .before .before .certify-by-phases in
-    ended-in (c .before .before .before .before .before .before .before .before .before) (c .before .before .before .before .before .before .before .before .if1 .left) (r .kept .1 .1 .1 .0) (r .kept .1 .1 .1 .1 .0) (r .ensures)
+    let r = c .before .before .before .certify-flow in
+    ended-in (c .before .before .before .before .before .before .before .before .before) (c .before .before .before .before .before .before .before .before .if1 .left) (r .kept .1 .1 .0) (r .kept .1 .1 .1 .0) (r .ensures)
 
 returns-4 : tie.Need-returns-4
 returns-4 c =
@@ -88,7 +88,7 @@ certify-spec =
     (λ c. search needs)
     certify-path-requires
     (λ c. search needs)
-    certify-by-phases-requires
+    certify-flow-requires
     (λ c. search needs)
     certify-assignment-requires
     (λ c. search needs)

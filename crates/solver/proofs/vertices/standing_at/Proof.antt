@@ -19,7 +19,7 @@ returns-2 c =
     rw (sym (c .before .before .before .before .question-of .ensures) ∙ ap questionHeld (c .before .enum-told2 .given .1)) (c .single2 .ensures ∙ end)
 
 returns-3 : tie.Need-returns-3
-returns-3 c = rw (sym (c .before .before .before .before .question-of .ensures) ∙ ap questionHeld (c .before .enum-told3 .given .1)) (c .on-side .ensures)
+returns-3 c = rw (sym (c .before .before .before .question-of .ensures) ∙ ap questionHeld (c .enum-told3 .given .1))
 
 returns-4 : tie.Need-returns-4
 returns-4 c = rw (sym (c .before .before .before .question-of .ensures) ∙ ap questionHeld (c .enum-told4 .given .1))
@@ -39,7 +39,6 @@ standing-at-spec =
     (λ c. search needs)
     (λ c κs. search needs)
     (λ c. search needs)
-    (λ c κs. search needs)
     (λ c. search needs)
     (λ c. search needs)
     returns
