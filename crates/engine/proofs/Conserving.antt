@@ -78,7 +78,9 @@ module _ {from to cap start x left : List ℕ} (C : Conserved from to cap start 
   forward-conserved hg hc =
       let len = transferred-len left (entry from e) (entry to e) g (C .tails e he) (C .heads e he) hg in
       record {
-        few = C .few; to-len = C .to-len; cap-len = C .cap-len;
+        few = C .few;
+        to-len = C .to-len;
+        cap-len = C .cap-len;
         x-len = length-set x e (entry x e + g) ∙ C .x-len;
         left-len = len ∙ C .left-len;
         small = C .small;
@@ -88,8 +90,13 @@ module _ {from to cap start x left : List ℕ} (C : Conserved from to cap start 
             (λ p. rw p.1 (omega (arith, ap (entry cap) p.0, C .within e he)))
             (λ p. rw p.1 (C .within j h))
             (set-cases x e (entry x e + g) j x-at);
-        balance = λ w. omega (arith, C .balance w, flow-add from x e g w he (C .x-len), flow-add to x e g w (omega (arith, C .to-len)) (omega (arith, C .x-len, C .to-len)),
-            transferred-at left (entry from e) (entry to e) g (C .tails e he) (C .heads e he) hg w);
+        balance = λ w. omega (
+          arith,
+          C .balance w,
+          flow-add from x e g w he (C .x-len),
+          flow-add to x e g w (omega (arith, C .to-len)) (omega (arith, C .x-len, C .to-len)),
+          transferred-at left (entry from e) (entry to e) g (C .tails e he) (C .heads e he) hg w,
+        );
         total = transferred-sum left (entry from e) (entry to e) g (C .tails e he) (C .heads e he) hg ∙ C .total;
         bounded = C .bounded;
       }
@@ -99,7 +106,9 @@ module _ {from to cap start x left : List ℕ} (C : Conserved from to cap start 
   backward-conserved hg hc =
       let len = transferred-len left (entry to e) (entry from e) g (C .heads e he) (C .tails e he) hg in
       record {
-        few = C .few; to-len = C .to-len; cap-len = C .cap-len;
+        few = C .few;
+        to-len = C .to-len;
+        cap-len = C .cap-len;
         x-len = length-set x e (entry x e - g) ∙ C .x-len;
         left-len = len ∙ C .left-len;
         small = C .small;
@@ -109,8 +118,13 @@ module _ {from to cap start x left : List ℕ} (C : Conserved from to cap start 
             (λ p. rw p.1 (omega (arith, ap (entry cap) p.0, C .within e he)))
             (λ p. rw p.1 (C .within j h))
             (set-cases x e (entry x e - g) j x-at);
-        balance = λ w. omega (arith, C .balance w, flow-sub from x e g w he (C .x-len) hc, flow-sub to x e g w (omega (arith, C .to-len)) (omega (arith, C .x-len, C .to-len)) hc,
-            transferred-at left (entry to e) (entry from e) g (C .heads e he) (C .tails e he) hg w);
+        balance = λ w. omega (
+          arith,
+          C .balance w,
+          flow-sub from x e g w he (C .x-len) hc,
+          flow-sub to x e g w (omega (arith, C .to-len)) (omega (arith, C .x-len, C .to-len)) hc,
+          transferred-at left (entry to e) (entry from e) g (C .heads e he) (C .tails e he) hg w,
+        );
         total = transferred-sum left (entry to e) (entry from e) g (C .heads e he) (C .tails e he) hg ∙ C .total;
         bounded = C .bounded;
       }

@@ -250,7 +250,10 @@ pub(crate) fn raised(
 ) -> u8
     requires { ⌜ (v < 256) × (length (now x) ≡ length (now arcs)) × Links (now arcs) (now out) × Links (now arcs) (now into) ⌝ }
 {
-    let low = lower(lowest_head(v, arcs, out, x, label), lowest_tail(v, arcs, into, x, label));
+    let low = lower(
+        lowest_head(v, arcs, out, x, label),
+        lowest_tail(v, arcs, into, x, label),
+    );
     if 253 < low {
         return 255;
     }

@@ -6,9 +6,6 @@ ghost use lib.ListN.{length};
 ghost use Rattle.packed_arcs.specs.PackedArcs.{tailsOf, headsOf};
 ghost use Rattle.engine.specs.Chains.{Chains};
 ghost use Rattle.engine.specs.Preflow.{Links, Ready, Moves};
-use packed_arcs::arcs::capacity_of;
-use packed_arcs::arcs::head_of;
-use packed_arcs::arcs::tail_of;
 use super::labels::arc_index;
 use super::labels::count_labels;
 use super::labels::count_one;
@@ -21,6 +18,9 @@ use super::labels::raised;
 use super::labels::was_last;
 use super::shifting::shift_backward;
 use super::shifting::shift_forward;
+use packed_arcs::arcs::capacity_of;
+use packed_arcs::arcs::head_of;
+use packed_arcs::arcs::tail_of;
 
 // ---- pushing what stands at a vertex
 
@@ -290,7 +290,10 @@ fn serve(
     if label[v] != top {
         return highest(top, bucket);
     }
-    highest(discharge(v, arcs, out, into, label, bucket, count, current, x, left), bucket)
+    highest(
+        discharge(v, arcs, out, into, label, bucket, count, current, x, left),
+        bucket,
+    )
 }
 
 // Serves the vertices with something to push, highest label first, and stops in any case after 30000 of them.
@@ -392,7 +395,17 @@ fn push_to_sink(
     count_labels(left.len(), label, &mut count);
     first_arcs(out, &mut current);
     supply_all(first_arc(s, out), arcs, out, label, &mut bucket, x, left);
-    drain(arcs, out, into, label, &mut bucket, &mut count, &mut current, x, left);
+    drain(
+        arcs,
+        out,
+        into,
+        label,
+        &mut bucket,
+        &mut count,
+        &mut current,
+        x,
+        left,
+    );
 }
 
 // ---- back to the source
@@ -444,7 +457,17 @@ fn sweep(
     let mut i = many;
     while 1 < i {
         i -= 1;
-        push_back(index_of(order[i]), t, arcs, out, into, label, &mut bucket, x, left);
+        push_back(
+            index_of(order[i]),
+            t,
+            arcs,
+            out,
+            into,
+            label,
+            &mut bucket,
+            x,
+            left,
+        );
     }
 }
 

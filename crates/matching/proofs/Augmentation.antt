@@ -12,7 +12,7 @@ use Rattle.packed_arcs.proofs.ListLoops.{set-cases}
 use Rattle.arc_index.specs.ArcIndex.{noArc}
 use Rattle.matching.specs.Matching.{Bipartite, Noted, Matching, Priced, State}
 use Rattle.matching.specs.Augmenting.{Onward, Alternating, Augmented}
-use Rattle.matching.proofs.TreeLaws.{noted}
+use Rattle.matching.proofs.Pairs.{noted}
 
 module _ {h n : ℕ} {T H W links mate pi par order : List ℕ} {t a : ℕ} (A : Alternating h n T H W links mate pi par order t a) where
   abbrev e : ℕ
@@ -176,16 +176,16 @@ module _ {h n : ℕ} {T H W links mate pi par order : List ℕ} {t a : ℕ} (A :
     pairs-on v l = ⊎-elim
         (λ p. inl (p.1))
         (λ p. ⊎-elim
-            (λ q. inr (subst (Noted T H freed v) (sym (p.1 ∙ q.1)) (record {
-              arc = next .arc;
-              end = ⊎-elim (λ z. inl (next .tail ∙ sym z)) (λ z. inr (sym z)) (q.0);
-              at-tail = ap (entry freed) (next .tail) ∙ freed-a;
-              at-head = freed-b;
-            })))
-            (λ q. ⊎-elim (λ z. inl (p.1 ∙ q.2 ∙ z)) (λ N. inr (other v N freed (p.1 ∙ q.2)
-                (same (entry T (entry mate v)) (not-a v N .0) (tail-not-b (entry mate v) (N .arc)) (apart v (q.1) (p.0) N .1))
-                (same (entry H (entry mate v)) (not-a v N .1) (apart v (q.1) (p.0) N .0) (head-left (entry mate v) (N .arc))))) (A .pairs .each v l))
-            (given-at v))
+        (λ q. inr (subst (Noted T H freed v) (sym (p.1 ∙ q.1)) (record {
+          arc = next .arc;
+          end = ⊎-elim (λ z. inl (next .tail ∙ sym z)) (λ z. inr (sym z)) (q.0);
+          at-tail = ap (entry freed) (next .tail) ∙ freed-a;
+          at-head = freed-b;
+        })))
+        (λ q. ⊎-elim (λ z. inl (p.1 ∙ q.2 ∙ z)) (λ N. inr (other v N freed (p.1 ∙ q.2)
+        (same (entry T (entry mate v)) (not-a v N .0) (tail-not-b (entry mate v) (N .arc)) (apart v (q.1) (p.0) N .1))
+        (same (entry H (entry mate v)) (not-a v N .1) (apart v (q.1) (p.0) N .0) (head-left (entry mate v) (N .arc))))) (A .pairs .each v l))
+        (given-at v))
         (freed-at v)
 
     -- the next vertex was taken before a

@@ -97,7 +97,6 @@ matchable-facts rs h n xs ok =
     p₄ : ℕ → Bool
     p₄ e = leb (wordArc (entry rs e) .weight) mostWeight
 
-
 -- ---- nothing is matched yet
 
 pub begun : (rs links₀ : List ℕ) {h n : ℕ} {links mate pi : List ℕ} → Bipartite h n (tailsOf rs) (headsOf rs) (weightsOf rs) → length links₀ ≡ 256 + length rs → Built Head rs links₀ links

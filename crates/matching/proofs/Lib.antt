@@ -1,4 +1,5 @@
 pub mod Columns
+pub mod Pairs
 pub mod TreeLaws
 pub mod TakenVertices
 pub mod Scans
@@ -6,7 +7,6 @@ pub mod SearchSteps
 pub mod Raising
 pub mod Augmentation
 pub mod RaiseLoop
-pub mod Pairs
 pub mod Flows
 pub mod Outcomes
 pub mod Serving

@@ -19,7 +19,8 @@ use Rattle.vertex_queue.specs.VertexQueue.{waitsNot}
 use Rattle.matching.specs.Matching.{Noted, State}
 use Rattle.matching.specs.Tree.{InTree, Parent, Taken, Tree}
 use Rattle.matching.specs.Augmenting.{riseOf, Raised, Onward, Alternating}
-use Rattle.matching.proofs.TreeLaws.{noted, right-end, left-end, partner, in-tree-near}
+use Rattle.matching.proofs.TreeLaws.{right-end, left-end, partner, in-tree-near}
+use Rattle.matching.proofs.Pairs.{noted}
 
 -- nobody rises by more than the distance
 pub rise-most : (h : ℕ) (T mate dist : List ℕ) (t d v : ℕ) → riseOf h T mate dist t d v ≤ d
@@ -88,8 +89,11 @@ module _ {h n : ℕ} {T H W links mate pi : List ℕ} (S : State h n T H W links
       go (Rose.by-tree D j I q) = by (decLt D d)
         where
           by : Dec (D < d) → entry pi' (entry H e) ≤ entry pi' (entry T e) + entry W e
-          by (yes l) = omega (arith, up-left (entry T e) (S .graph .from-left e he),
-              R .looked e D j he I (λ z. absurd (omega (arith, last D j (omega (arith, S .graph .below e he)) (subst (λ (y : ℕ). InTree T mate dist order t y D j) z I)))))
+          by (yes l) = omega (
+            arith,
+            up-left (entry T e) (S .graph .from-left e he),
+            R .looked e D j he I (λ z. absurd (omega (arith, last D j (omega (arith, S .graph .below e he)) (subst (λ (y : ℕ). InTree T mate dist order t y D j) z I)))),
+          )
           by (no l) = omega (arith, up-left (entry T e) (S .graph .from-left e he), S .priced .feasible e he)
 
   tight : (v : ℕ) → v < n → entry mate v < noArc → entry pi' (entry H (entry mate v)) ≡ entry pi' (entry T (entry mate v)) + entry W (entry mate v)

@@ -99,17 +99,25 @@ module _ {h n : ℕ} {T H W links mate pi : List ℕ} (S : State h n T H W links
     -- after the arc e
     after : {dist' par' keys' low' : List ℕ} {r : Bool} → Lowered a e far k mate dist par keys low dist' par' keys' low' r
         → (length dist' ≡ length dist) × (length par' ≡ length par) × ((t nd j : ℕ) (order : List ℕ) → InTree T mate dist₀ order t b k j → Kept keys₀ low₀
-          → Tree h n T H W mate pi t dist₀ par₀ order keys₀ k nd b 0 → Kept keys' low' × InTree T mate dist' order t b k j × Tree h n T H W mate pi t dist' par' order keys' k nd b (e + 1))
-    after (Lowered.kept q ed ep ek el) = (ap length ed, ap length ep, λ t nd j order I K R.
-        let g = G .grows t nd j order I K R in
-        rw (ed, ep, ek, el) (g .0, g .1, looked-kept S (g .2) j (g .1) e here (is-arc (G .next) l .1) (none-between (G .next) l) q))
-    after (Lowered.nearer q ed ep ek el z) = (rw ed (length-set dist a far), rw ep (length-set par a e), λ t nd j order I K R.
-        let g = G .grows t nd j order I K R in
-        rw (ed, ep, ek, el) (
-          put-kept keys low a far (g .0) (omega (arith, ha, S .graph .half)) (lower t nd j order (g .2) (g .1) q),
-          in-on S (g .2) j (g .1) e here (is-arc (G .next) l .1) (none-between (G .next) l) q b k j (g .1),
-          looked-nearer S (g .2) j (g .1) e here (is-arc (G .next) l .1) (none-between (G .next) l) q,
-        ))
+        → Tree h n T H W mate pi t dist₀ par₀ order keys₀ k nd b 0 → Kept keys' low' × InTree T mate dist' order t b k j × Tree h n T H W mate pi t dist' par' order keys' k nd b (e + 1))
+    after (Lowered.kept q ed ep ek el) = (
+      ap length ed,
+      ap length ep,
+      λ t nd j order I K R.
+          let g = G .grows t nd j order I K R in
+          rw (ed, ep, ek, el) (g .0, g .1, looked-kept S (g .2) j (g .1) e here (is-arc (G .next) l .1) (none-between (G .next) l) q),
+    )
+    after (Lowered.nearer q ed ep ek el z) = (
+      rw ed (length-set dist a far),
+      rw ep (length-set par a e),
+      λ t nd j order I K R.
+          let g = G .grows t nd j order I K R in
+          rw (ed, ep, ek, el) (
+            put-kept keys low a far (g .0) (omega (arith, ha, S .graph .half)) (lower t nd j order (g .2) (g .1) q),
+            in-on S (g .2) j (g .1) e here (is-arc (G .next) l .1) (none-between (G .next) l) q b k j (g .1),
+            looked-nearer S (g .2) j (g .1) e here (is-arc (G .next) l .1) (none-between (G .next) l) q,
+          ),
+    )
       where
         lower : (t nd j : ℕ) (order : List ℕ) → Tree h n T H W mate pi t dist par order keys k nd b (G .lo) → InTree T mate dist order t b k j → far < entry dist a → far ≤ entry keys a
         lower t nd j order R I q = omega (arith, R .waits a ha (fresh S R j I e here (is-arc (G .next) l .1) (none-between (G .next) l) q))
@@ -137,10 +145,24 @@ module _ {h n : ℕ} {T H W links mate pi : List ℕ} (S : State h n T H W links
   whole : {t : ℕ} {dist par order keys : List ℕ} {k nd b lo : ℕ} → ((i : ℕ) → lo ≤ i → i < length T → entry H i ≢ b)
       → Tree h n T H W mate pi t dist par order keys k nd b lo → Tree h n T H W mate pi t dist par order keys k nd n 0
   whole {t} {dist} {par} {order} {keys} {k} {nd} {b} {lo} rest R = record {
-    dist-len = R .dist-len; par-len = R .par-len; order-len = R .order-len; keys-len = R .keys-len; target = R .target; right = R .right; bare = R .bare;
-    parents = R .parents; waits = R .waits; gone = R .gone; nobody = R .nobody; most = R .most; taken = R .taken; ahead = R .ahead;
+    dist-len = R .dist-len;
+    par-len = R .par-len;
+    order-len = R .order-len;
+    keys-len = R .keys-len;
+    target = R .target;
+    right = R .right;
+    bare = R .bare;
+    parents = R .parents;
+    waits = R .waits;
+    gone = R .gone;
+    nobody = R .nobody;
+    most = R .most;
+    taken = R .taken;
+    ahead = R .ahead;
     looked = λ i D j hi I c. R .looked i D j hi I (λ z. below i hi z (decLt i lo));
-    near = R .near; not-below = R .not-below; count = R .count;
+    near = R .near;
+    not-below = R .not-below;
+    count = R .count;
   }
     where
       below : (i : ℕ) → i < length T → entry H i ≡ b → Dec (i < lo) → i < lo

@@ -1,7 +1,7 @@
 -- An exposed right vertex that is matched, and right vertices one after the other.
 -- Assumes nothing.
 use mathlib.Core.Path.{_≡_, refl, sym, _∙_, ap, subst}
-use mathlib.Core.Bool.{Bool, true, false, not}
+use mathlib.Core.Bool.{true, false}
 use mathlib.Core.List.{List}
 use mathlib.Core.Logic.{_⊎_, inl, inr, _≢_}
 use Prim.Native.Nat.{ℕ, _+_, _*_, _<_, _≤_}
@@ -72,10 +72,6 @@ is-exposed {h} {n} {T} {H} {W} {links} {mate} S t l g = go (S .pairs .each t l)
     go : (entry mate t ≡ noArc) ⊎ Noted T H mate t (entry mate t) → entry mate t ≡ noArc
     go (inl e) = e
     go (inr N) = absurd (omega (arith, N .arc, S .graph .few))
-
-pub not-off : (b : Bool) → not b ≡ false → b ≡ true
-not-off true e = refl
-not-off false e = sym e
 
 -- ---- one after the other
 

@@ -14,7 +14,8 @@ use Rattle.arc_index.specs.ArcIndex.{noArc}
 use Rattle.vertex_queue.specs.VertexQueue.{waitsNot}
 use Rattle.matching.specs.Matching.{Noted, State}
 use Rattle.matching.specs.Tree.{InTree, Parent, Taken, Tree}
-use Rattle.matching.proofs.TreeLaws.{noted, right-end, left-end, in-tree-near}
+use Rattle.matching.proofs.TreeLaws.{right-end, left-end, in-tree-near}
+use Rattle.matching.proofs.Pairs.{noted}
 
 module _ {h n : ℕ} {T H W links mate pi : List ℕ} (S : State h n T H W links mate pi) where
   module _ {t : ℕ} {dist par order keys : List ℕ} {k nd : ℕ} (R : Tree h n T H W mate pi t dist par order keys k nd n 0)
@@ -44,11 +45,24 @@ module _ {h n : ℕ} {T H W links mate pi : List ℕ} (S : State h n T H W links
 
     pub ended : Tree h n T H W mate pi t dist par order keys (entry dist a) nd n 0
     ended = record {
-      dist-len = R .dist-len; par-len = R .par-len; order-len = R .order-len; keys-len = R .keys-len; target = R .target; right = R .right; bare = R .bare;
-      parents = R .parents; waits = R .waits; gone = R .gone; nobody = R .nobody; most = R .most;
+      dist-len = R .dist-len;
+      par-len = R .par-len;
+      order-len = R .order-len;
+      keys-len = R .keys-len;
+      target = R .target;
+      right = R .right;
+      bare = R .bare;
+      parents = R .parents;
+      waits = R .waits;
+      gone = R .gone;
+      nobody = R .nobody;
+      most = R .most;
       taken = λ c hc o. taken-farther c (R .taken c hc o);
       ahead = none-nearer;
-      looked = R .looked; near = R .near; not-below = R .not-below; count = R .count;
+      looked = R .looked;
+      near = R .near;
+      not-below = R .not-below;
+      count = R .count;
     }
 
     -- ---- it is matched: the search goes on
@@ -96,7 +110,10 @@ module _ {h n : ℕ} {T H W links mate pi : List ℕ} (S : State h n T H W links
 
       parent-on : (c i : ℕ) → entry (dist) c < waitsNot → c < h → Parent T H W mate pi dist order t c i → Parent T H W mate pi dist order' t c i
       parent-on c i l hc P = record {
-        arc = P .arc; tail = P .tail; D = P .D; j = P .j;
+        arc = P .arc;
+        tail = P .tail;
+        D = P .D;
+        j = P .j;
         in-tree = in-on (entry H i) (P .D) (P .j) (P .in-tree);
         earlier = λ o. ⊎-elim
             (λ p. omega (arith, p.1, in-tree-near S R (entry H i) (P .D) (P .j) (S .graph .to-right i (P .arc)) (S .graph .below i (P .arc)) (P .in-tree)))

@@ -11,38 +11,19 @@ use lib.ListN.{length, set, length-set}
 use Rattle.packed_arcs.specs.Entries.{entry, zeros}
 use Rattle.packed_arcs.proofs.ListLoops.{set-cases}
 use Rattle.arc_index.specs.ArcIndex.{noArc}
-use Rattle.vertex_queue.specs.VertexQueue.{waitsNot, Kept}
-use Rattle.vertex_queue.proofs.Laws.{put-kept}
+use Rattle.vertex_queue.specs.VertexQueue.{waitsNot}
 use Rattle.matching.specs.Matching.{Bipartite, Noted, Matching, Priced, State}
-use Rattle.matching.specs.Tree.{InTree, Parent, Taken, Tree, Lowered}
-
--- the arc that is matched at a vertex
-pub noted : {n : ℕ} {T H mate : List ℕ} → Matching n T H mate → (v : ℕ) → v < n → entry mate v < noArc → Noted T H mate v (entry mate v)
-noted {n} {T} {H} {mate} M v h l = go (M .each v h)
-  where
-    go : (entry mate v ≡ noArc) ⊎ Noted T H mate v (entry mate v) → Noted T H mate v (entry mate v)
-    go (inl e) = absurd (omega arith)
-    go (inr N) = N
+use Rattle.matching.specs.Tree.{InTree, Parent, Taken, Tree}
+use Rattle.matching.proofs.Pairs as pairs
+use Rattle.matching.proofs.Pairs.{noted}
 
 module _ {h n : ℕ} {T H W links mate pi : List ℕ} (S : State h n T H W links mate pi) where
-  -- the arc of a right vertex ends there
+  -- the arc of a right vertex ends there, that of a left one begins there
   pub right-end : (b : ℕ) → h ≤ b → b < n → entry mate b < noArc → entry H (entry mate b) ≡ b
-  right-end b g l m = go (noted (S .pairs) b l m .end)
-    where
-      go : (entry T (entry mate b) ≡ b) ⊎ (entry H (entry mate b) ≡ b) → entry H (entry mate b) ≡ b
-      go (inl e) = absurd (omega (arith, S .graph .from-left (entry mate b) (noted (S .pairs) b l m .arc)))
-      go (inr e) = e
+  right-end b g l m = pairs.right-end (S .graph) b g (noted (S .pairs) b l m)
 
-  -- and that of a left one there
   pub left-end : (a : ℕ) → a < h → entry mate a < noArc → entry T (entry mate a) ≡ a
-  left-end a g m = go (noted (S .pairs) a (omega (arith, S .graph .within)) m .end)
-    where
-      e : ℕ
-      e = entry mate a
-
-      go : (entry T e ≡ a) ⊎ (entry H e ≡ a) → entry T e ≡ a
-      go (inl q) = q
-      go (inr q) = absurd (omega (arith, S .graph .to-right e (noted (S .pairs) a (omega (arith, S .graph .within)) m .arc)))
+  left-end a g m = pairs.left-end (S .graph) a g (noted (S .pairs) a (omega (arith, S .graph .within)) m)
 
   -- the left vertex that a right one is matched to
   pub partner : (b : ℕ) → h ≤ b → b < n → entry mate b < noArc → entry T (entry mate b) < h
@@ -109,9 +90,24 @@ module _ {h n : ℕ} {T H W links mate pi : List ℕ} (S : State h n T H W links
 
     pub looked-kept : entry dist a ≤ far → Tree h n T H W mate pi t dist par order keys k nd b (e + 1)
     looked-kept q = record {
-      dist-len = R .dist-len; par-len = R .par-len; order-len = R .order-len; keys-len = R .keys-len; target = R .target; right = R .right; bare = R .bare;
-      parents = R .parents; waits = R .waits; gone = R .gone; nobody = R .nobody; most = R .most; taken = R .taken; ahead = R .ahead;
-      looked = looked'; near = R .near; not-below = R .not-below; count = R .count;
+      dist-len = R .dist-len;
+      par-len = R .par-len;
+      order-len = R .order-len;
+      keys-len = R .keys-len;
+      target = R .target;
+      right = R .right;
+      bare = R .bare;
+      parents = R .parents;
+      waits = R .waits;
+      gone = R .gone;
+      nobody = R .nobody;
+      most = R .most;
+      taken = R .taken;
+      ahead = R .ahead;
+      looked = looked';
+      near = R .near;
+      not-below = R .not-below;
+      count = R .count;
     }
       where
         looked' : (i D l : ℕ) → i < length T → InTree T mate dist order t (entry H i) D l → (entry H i ≡ b → i < e + 1)
@@ -152,7 +148,10 @@ module _ {h n : ℕ} {T H W links mate pi : List ℕ} (S : State h n T H W links
 
       parent-on : (c i : ℕ) → entry (set dist a far) c ≡ entry dist c → Parent T H W mate pi dist order t c i → Parent T H W mate pi (set dist a far) order t c i
       parent-on c i s P = record {
-        arc = P .arc; tail = P .tail; D = P .D; j = P .j;
+        arc = P .arc;
+        tail = P .tail;
+        D = P .D;
+        j = P .j;
         in-tree = in-on (entry H i) (P .D) (P .j) (P .in-tree);
         earlier = P .earlier;
         far = omega (arith, s, P .far);
@@ -163,7 +162,10 @@ module _ {h n : ℕ} {T H W links mate pi : List ℕ} (S : State h n T H W links
 
       own : Parent T H W mate pi (set dist a far) order t a e
       own = record {
-        arc = he; tail = refl; D = k; j = j;
+        arc = he;
+        tail = refl;
+        D = k;
+        j = j;
         in-tree = in-on (entry H e) k j (subst (λ (z : ℕ). InTree T mate dist order t z k j) (sym hb) here);
         earlier = λ o. absurd (omega (arith, fresh q));
         far = own-far;

@@ -41,7 +41,15 @@ fn rise(v: usize, t: usize, d: u32, records: &[u32], mate: &[u16], dist: &[u32])
 }
 
 // Every potential rises, where the search from the root t reached the distance d.
-pub(crate) fn raise(t: usize, d: u32, records: &[u32], links: &[u16], mate: &[u16], dist: &[u32], pi: &mut [u32])
+pub(crate) fn raise(
+    t: usize,
+    d: u32,
+    records: &[u32],
+    links: &[u16],
+    mate: &[u16],
+    dist: &[u32],
+    pi: &mut [u32],
+)
     requires { ⌜ State (length (now dist)) (length (now pi)) (tailsOf (now records)) (headsOf (now records)) (weightsOf (now records)) (now links) (now mate) (now pi) ⌝ }
     requires { ⌜ d ≤ 2000000000 ⌝ }
     ensures { λ _. ⌜ Raised (length (now (dist .entry))) (tailsOf (now (records .entry))) (now (mate .entry)) (now (dist .entry)) t d (now (pi .entry)) (now (pi .exit)) ⌝ }

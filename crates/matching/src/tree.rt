@@ -137,7 +137,18 @@ pub(crate) fn search(
     let mut k = 0;
     let mut nd: u8 = 0;
     loop {
-        let r = scan(b, k, records, links, mate, pi, dist, par, &mut keys, &mut low);
+        let r = scan(
+            b,
+            k,
+            records,
+            links,
+            mate,
+            pi,
+            dist,
+            par,
+            &mut keys,
+            &mut low,
+        );
         if r < h {
             return r;
         }

@@ -9,7 +9,7 @@ use Rattle.packed_arcs.specs.Entries.{entry}
 use Rattle.matching.specs.Columns.{tailsOf}
 use Rattle.matching.specs.Augmenting.{riseOf}
 use Rattle.matching.proofs.Columns.{tails-len}
-use Rattle.matching.proofs.TreeLaws.{noted}
+use Rattle.matching.proofs.Pairs.{noted}
 use Rattle.matching.proofs.Raising.{rise-most}
 use Rattle.matching.proofs.RaiseLoop.{Rising, rising-start, rising-turn}
 use Rattle.matching.proofs.raise.raise.Statement.{statement}

@@ -5,10 +5,10 @@ use Prim.Native.Nat.{ℕ, _-_}
 use native.Mathlib.Omega.{arith}
 use lib.ListN.{length}
 use borrow.Author.Needs.{needs}
-use Rattle.prelude.proofs.Booleans.{true→T, not→false}
+use borrow.Author.Tests.{not-true, not-false}
 use Rattle.matching.specs.Columns.{tailsOf, headsOf, weightsOf}
 use Rattle.matching.specs.Serving.{Served}
-use Rattle.matching.proofs.Serving.{state-at, Passing, pass-start, pass-on, pass-stuck, pass-end, not-off}
+use Rattle.matching.proofs.Serving.{state-at, Passing, pass-start, pass-on, pass-stuck, pass-end}
 use Rattle.matching.proofs.serve.pass.Statement.{statement}
 use Rattle.matching.proofs.serve.pass.Tie as tie
 use Rattle.matching.proofs.serve.pass.Reads as reads
@@ -53,7 +53,7 @@ same-length-5 c = search needs
 
 -- src/serve.rt:83:13
 returns : tie.Need-returns Inv-loop μ-loop
-returns c = let l = c .before .before .before .before .before .before .before .before .before .before .before .before .before .before .before .before .before .before .loop in let P = l .inv .0 in pass-stuck (P .dist-len) (P .state .priced .len) P (omega (arith, c .before .before .before .before .before .before .before .before .before .before .before .before .before .before .before .before .before .loop-test .taken, P .state .pairs .len)) (subst (Served _ _ _ _ _ _ _ _ _ _ _) (not→false _ (true→T _ (c .if1 .taken))) (c .before .before .before .before .before .before .before .before .before .before .before .serve-exposed .ensures))
+returns c = let l = c .before .before .before .before .before .before .before .before .before .before .before .before .before .before .before .before .before .before .loop in let P = l .inv .0 in pass-stuck (P .dist-len) (P .state .priced .len) P (omega (arith, c .before .before .before .before .before .before .before .before .before .before .before .before .before .before .before .before .before .loop-test .taken, P .state .pairs .len)) (subst (Served _ _ _ _ _ _ _ _ _ _ _) (not-true _ (c .if1 .taken)) (c .before .before .before .before .before .before .before .before .before .before .before .serve-exposed .ensures))
 
 -- src/serve.rt:85:9
 add-t : tie.Need-add-t Inv-loop μ-loop
@@ -65,7 +65,7 @@ loop-less c = let l = c .before .before .before .before .before .before .before 
 
 -- src/serve.rt:81:5
 loop-again : tie.Need-loop-again Inv-loop μ-loop
-loop-again c = let l = c .before .before .before .before .before .before .before .before .before .before .before .before .before .before .before .before .before .before .loop in let P = l .inv .0 in (pass-on (P .dist-len) (P .state .priced .len) P (omega (arith, c .before .before .before .before .before .before .before .before .before .before .before .before .before .before .before .before .before .loop-test .taken, P .state .pairs .len)) (c .before .before .before .before .before .before .before .before .before .before .before .before .before .before .before .before .before .before .before .before .before .before .before .before .before .before .pre .1 .1) (subst (Served _ _ _ _ _ _ _ _ _ _ _) (not-off _ (c .if1 .left)) (c .before .before .before .before .before .before .before .before .before .before .before .serve-exposed .ensures)), c .before .before .before .before .before .before .before .before .before .before .before .serve-exposed .kept .1 .1 .1 .0 ∙ l .inv .1, c .before .before .before .before .before .before .before .before .before .before .before .serve-exposed .kept .1 .1 .1 .1 .0 ∙ l .inv .2, c .before .before .before .before .before .before .before .before .before .before .before .serve-exposed .kept .1 .1 .1 .1 .1 .1 .0 ∙ l .inv .3, c .before .before .before .before .before .before .before .before .before .before .before .serve-exposed .kept .1 .1 .1 .1 .1 .1 .1 .0 ∙ l .inv .4)
+loop-again c = let l = c .before .before .before .before .before .before .before .before .before .before .before .before .before .before .before .before .before .before .loop in let P = l .inv .0 in (pass-on (P .dist-len) (P .state .priced .len) P (omega (arith, c .before .before .before .before .before .before .before .before .before .before .before .before .before .before .before .before .before .loop-test .taken, P .state .pairs .len)) (c .before .before .before .before .before .before .before .before .before .before .before .before .before .before .before .before .before .before .before .before .before .before .before .before .before .before .pre .1 .1) (subst (Served _ _ _ _ _ _ _ _ _ _ _) (not-false _ (c .if1 .left)) (c .before .before .before .before .before .before .before .before .before .before .before .serve-exposed .ensures)), c .before .before .before .before .before .before .before .before .before .before .before .serve-exposed .kept .1 .1 .1 .0 ∙ l .inv .1, c .before .before .before .before .before .before .before .before .before .before .before .serve-exposed .kept .1 .1 .1 .1 .0 ∙ l .inv .2, c .before .before .before .before .before .before .before .before .before .before .before .serve-exposed .kept .1 .1 .1 .1 .1 .1 .0 ∙ l .inv .3, c .before .before .before .before .before .before .before .before .before .before .before .serve-exposed .kept .1 .1 .1 .1 .1 .1 .1 .0 ∙ l .inv .4)
 
 -- src/serve.rt:66:1
 same-length-6 : tie.Need-same-length-6 Inv-loop μ-loop

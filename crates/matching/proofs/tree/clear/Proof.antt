@@ -57,9 +57,10 @@ same-length-2 c = search needs
 
 -- src/tree.rt:26:1
 returns : tie.Need-returns Inv-loop μ-loop
-returns c = let l = c .before .loop in
-    (filled-as (λ i. waitsNot) 0 _ (l .dist) _ (l .a) (omega (arith, l .inv .0 .len, c .loop-test .left)) (length-replicate _ waitsNot) (λ i b. getD-replicate _ i waitsNot 0 b) (l .inv .0),
-     clear-end _ (l .order) (l .a) (omega (arith, l .inv .0 .len, l .inv .1 .len, c .loop-test .left, c .before .before .pre)) (l .inv .1) ∙ ap (λ (k : ℕ). replicate k 0) (c .before .before .pre))
+returns c = let l = c .before .loop in (
+  filled-as (λ i. waitsNot) 0 _ (l .dist) _ (l .a) (omega (arith, l .inv .0 .len, c .loop-test .left)) (length-replicate _ waitsNot) (λ i b. getD-replicate _ i waitsNot 0 b) (l .inv .0),
+  clear-end _ (l .order) (l .a) (omega (arith, l .inv .0 .len, l .inv .1 .len, c .loop-test .left, c .before .before .pre)) (l .inv .1) ∙ ap (λ (k : ℕ). replicate k 0) (c .before .before .pre),
+)
 
 pub clear-spec : {M : Type 1} → statement M
 clear-spec =
