@@ -8,6 +8,8 @@ use native.Mathlib.Omega.{arith}
 use lib.Dec.{eqb}
 use borrow.Author.Tests.{eq-eqb, ne-eqb}
 use lib.ListN.{length, set, length-set, length-map}
+use mir.Syntax.{w32}
+use mir.Val.{Fits}
 use Rattle.prelude.specs.Choice.{indicator}
 use Rattle.packed_arcs.specs.Entries.{entry, flowAt}
 use Rattle.packed_arcs.specs.PackedArcs.{tailOf, headOf, capacityOf, tailsOf, headsOf, capacitiesOf}
@@ -47,16 +49,16 @@ added-at l v g w h = ⊎-elim
     (λ p. rw (p.1, ne-eqb v w (λ e. p.0 (sym e))) (omega arith))
     (set-cases l v (entry l v + g) w h)
 
+-- what was taken at a can be added anywhere
+pub transfer-fits : (left : List ℕ) (a g w : ℕ) → a < length left → g ≤ entry left a → sum left ≤ 2147483648 → Fits w32 (entry (set left a (entry left a - g)) w + g)
+transfer-fits left a g w ha hg hs = omega (arith, entry-sum (set left a (entry left a - g)) w, sum-at left a (entry left a - g) ha)
+
 module _ (left : List ℕ) (a b g : ℕ) (ha : a < length left) (hb : b < length left) (hg : g ≤ entry left a) where
   abbrev less : List ℕ
   less = set left a (entry left a - g)
 
   less-len : length less ≡ length left
   less-len = length-set left a (entry left a - g)
-
-  -- what is added to fits
-  pub transfer-fits : entry less b + g ≤ sum left
-  transfer-fits = omega (arith, entry-sum less b, sum-at left a (entry left a - g) ha)
 
   pub transferred-len : length (transferred left a b g) ≡ length left
   transferred-len = length-set less b (entry less b + g) ∙ less-len

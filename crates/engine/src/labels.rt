@@ -16,6 +16,7 @@ pub(crate) fn index_of(l: u8) -> usize
     l as usize
 }
 
+// An arc, or none, as an index.
 pub(crate) fn arc_index(code: u16) -> usize
     ensures { λ r. ⌜ r ≡ code ⌝ }
 {
@@ -47,6 +48,7 @@ fn above(l: u8) -> u8 {
     254
 }
 
+// No vertex has a label.
 fn clear_labels(label: &mut [u8; 256]) {
     let mut v = 0;
     while v < 256 {
@@ -110,6 +112,7 @@ fn reach_head(
     found
 }
 
+// The tails of the arcs into v that have room are reached, with the label l: how many are in the order.
 fn reach_tails(
     v: usize,
     l: u8,
@@ -133,6 +136,7 @@ fn reach_tails(
     many
 }
 
+// The heads of the arcs out of v that carry something are reached, with the label l: how many are in the order.
 fn reach_heads(
     v: usize,
     l: u8,
@@ -214,6 +218,7 @@ fn lower_tail(e: usize, low: u8, arcs: &[u64], x: &[u16], label: &[u8; 256]) -> 
     low
 }
 
+// The lowest label at the heads of the arcs out of v that have room.
 fn lowest_head(v: usize, arcs: &[u64], out: &[u16], x: &[u16], label: &[u8; 256]) -> u8
     requires { ⌜ (v < 256) × (length (now x) ≡ length (now arcs)) × Links (now arcs) (now out) ⌝ }
 {
@@ -226,6 +231,7 @@ fn lowest_head(v: usize, arcs: &[u64], out: &[u16], x: &[u16], label: &[u8; 256]
     low
 }
 
+// The lowest label at the tails of the arcs into v that carry something.
 fn lowest_tail(v: usize, arcs: &[u64], into: &[u16], x: &[u16], label: &[u8; 256]) -> u8
     requires { ⌜ (v < 256) × (length (now x) ≡ length (now arcs)) × Links (now arcs) (now into) ⌝ }
 {
@@ -238,7 +244,7 @@ fn lowest_tail(v: usize, arcs: &[u64], into: &[u16], x: &[u16], label: &[u8; 256
     low
 }
 
-// The lowest label that v can have next to its residual arcs, of n vertices: 255 where that is n or more.
+// One more than the lowest label that a residual arc leads to from v; 255 where that is n, the number of vertices, or more.
 pub(crate) fn raised(
     v: usize,
     n: usize,
@@ -287,6 +293,7 @@ pub(crate) fn was_last(l: u8, count: &mut [u8; 256]) -> bool {
     false
 }
 
+// Counts the labels of the n vertices.
 pub(crate) fn count_labels(n: usize, label: &[u8; 256], count: &mut [u8; 256])
     requires { ⌜ n ≤ 256 ⌝ }
 {
@@ -297,6 +304,7 @@ pub(crate) fn count_labels(n: usize, label: &[u8; 256], count: &mut [u8; 256])
     }
 }
 
+// Takes the label of v away where it is from or more.
 fn lift_one(v: usize, from: u8, label: &mut [u8; 256], count: &mut [u8; 256])
     requires { ⌜ v < 256 ⌝ }
 {
@@ -307,7 +315,7 @@ fn lift_one(v: usize, from: u8, label: &mut [u8; 256], count: &mut [u8; 256])
     }
 }
 
-// No vertex whose label is from or more reaches the root: there is a gap below.
+// Takes away every label that is from or more: no vertex is left one below, so none of these reaches the root.
 pub(crate) fn lift(from: u8, n: usize, label: &mut [u8; 256], count: &mut [u8; 256])
     requires { ⌜ n ≤ 256 ⌝ }
 {

@@ -24,7 +24,8 @@ use packed_arcs::arcs::tail_of;
 
 // ---- pushing what stands at a vertex
 
-// Puts v first in the bucket of the label l, where nothing stood at v: else it is in one. Places below 256 are the first vertices by label, the others the next ones by vertex; 255 is none.
+// Puts v first into the bucket of the label l, where nothing stood at v: else it is in one already.
+// A bucket is a list: its first vertex stands at l, the next one after v at 256 + v, and 255 is none.
 fn activate(v: usize, l: u8, stood: u32, bucket: &mut [u8; 512])
     requires { ⌜ v < 256 ⌝ }
 {
@@ -143,6 +144,7 @@ fn resumed(v: usize, c: u16, into: &[u16]) -> usize
     arc_index(c - 8192)
 }
 
+// The code of the arc e forward.
 fn forward_code(e: usize) -> u16 {
     if e < 4096 {
         return e as u16;
@@ -150,6 +152,7 @@ fn forward_code(e: usize) -> u16 {
     4096
 }
 
+// The code of the arc e backward.
 fn backward_code(e: usize) -> u16 {
     if e < 4096 {
         return (8192 + e) as u16;
@@ -157,6 +160,7 @@ fn backward_code(e: usize) -> u16 {
     12288
 }
 
+// The label below l; 0 has none below.
 fn below(l: u8) -> u8 {
     if 0 < l {
         return l - 1;

@@ -10,6 +10,7 @@ use packed_arcs::arcs::capacity_of;
 use packed_arcs::arcs::head_of;
 use packed_arcs::arcs::tail_of;
 
+// An amount as a supply.
 fn wide(amount: u16) -> u32
     ensures { λ r. ⌜ r ≡ amount ⌝ }
 {

@@ -1,6 +1,5 @@
 -- `engine::shifting::transfer` meets its contract.
 -- Assumes nothing.
-use native.Mathlib.Omega.{arith}
 use Rattle.engine.proofs.Conserving.{transfer-fits}
 use borrow.Author.Needs.{needs}
 use Rattle.engine.proofs.shifting.transfer.Statement.{statement}
@@ -9,7 +8,7 @@ use Rattle.engine.proofs.shifting.transfer.Tie as tie
 add-left : tie.Need-add-left
 add-left c =
     let s = c .before .before in
-    omega (arith, transfer-fits (s .args .left .now) (s .args .a) (s .args .b) (s .args .got) (s .pre .0 .0) (s .pre .0 .1) (s .pre .0 .2), s .pre .1 .1)
+    transfer-fits (s .args .left .now) (s .args .a) (s .args .got) _ (s .pre .0 .0) (s .pre .0 .2) (s .pre .1 .1)
 
 pub transfer-spec : {M : Type 1} → statement M
 transfer-spec =
