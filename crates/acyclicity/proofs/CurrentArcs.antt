@@ -13,9 +13,9 @@ use Rattle.packed_arcs.specs.Entries.{entry}
 use Rattle.packed_arcs.proofs.ListLoops.{set-cases, filled-as}
 use Rattle.arc_index.specs.ArcIndex.{noArc, nextArc}
 use Rattle.arc_index.specs.Chains.{First}
-use Rattle.acyclicity.specs.Search.{tailsOf, headsOf}
+use Rattle.arc_index.specs.Columns.{tailsOf, headsOf}
 use Rattle.acyclicity.specs.Steps.{Points, Chained, Watch, MovedOn}
-use Rattle.acyclicity.proofs.Columns.{tails-len}
+use Rattle.arc_index.proofs.Columns.{tails-len}
 
 -- ---- arcs of a chain
 

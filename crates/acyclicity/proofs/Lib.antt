@@ -1,4 +1,3 @@
-pub mod Columns
 pub mod CurrentArcs
 pub mod Paths
 pub mod Rankings

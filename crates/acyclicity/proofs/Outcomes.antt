@@ -18,12 +18,13 @@ use Rattle.arc_index.specs.ArcIndex.{noArc}
 use Rattle.arc_index.specs.Chains.{Chains}
 use Rattle.arc_index.specs.declared.End.the-variants.{Head}
 use Rattle.arc_index.proofs.Ends.{Built, links-built, chains-built}
-use Rattle.acyclicity.specs.Search.{tailsOf, headsOf, joinsBelow, searchable, SearchOutcome}
+use Rattle.arc_index.specs.Columns.{tailsOf, headsOf}
+use Rattle.acyclicity.specs.Search.{joinsBelow, searchable, SearchOutcome}
 use Rattle.acyclicity.specs.Steps.{Arcs, Chained, ClosedPath, OrderOrCycle}
 use Rattle.acyclicity.specs.Steps.OrderOrCycle.{ordered, cyclic}
 use Rattle.acyclicity.specs.declared.Found.{Found}
 use Rattle.acyclicity.specs.declared.Found.the-variants.{Refused}
-use Rattle.acyclicity.proofs.Columns.{tails-len, heads-len, tail-is, head-is}
+use Rattle.arc_index.proofs.Columns.{tails-len, heads-len, tail-is, head-is}
 
 -- ---- lists of zeros, and as many vertices
 

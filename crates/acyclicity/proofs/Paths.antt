@@ -8,11 +8,11 @@ use native.Mathlib.Decide.{ℕ-discrete}
 use native.Mathlib.Omega.{arith}
 use lib.ListN.{length, set, length-set, length-replicate}
 use lib.Seq.{getD-set-same, getD-set-other}
-use Rattle.packed_arcs.specs.Entries.{entry, zeroList}
+use Rattle.packed_arcs.specs.Entries.{entry, zeroList, zeros}
 use Rattle.packed_arcs.proofs.LentParts.{zero-at}
 use Rattle.packed_arcs.proofs.ListLoops.{set-cases}
-use Rattle.acyclicity.specs.Steps.{zeros, LeadsFrom, Path}
-use Rattle.acyclicity.proofs.Columns.{zeros-all, zeros-fewer, zeros-more}
+use Rattle.acyclicity.specs.Steps.{LeadsFrom, Path}
+use Rattle.packed_arcs.proofs.Zeros.{zeros-all, zeros-fewer, zeros-more}
 
 pub path-none : {n : ℕ} {tails into path spot : List ℕ} → length path ≡ n → spot ≡ zeroList n → Path n tails into path spot 0
 path-none {n} {tails} {into} {path} {spot} q z = record {

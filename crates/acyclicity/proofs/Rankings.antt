@@ -8,14 +8,15 @@ use native.Mathlib.Decide.{decLt}
 use native.Mathlib.Omega.{arith}
 use lib.ListN.{length, set, take, length-set}
 use lib.Seq.{getD-set-other}
-use Rattle.packed_arcs.specs.Entries.{entry, zeroList}
+use Rattle.packed_arcs.specs.Entries.{entry, zeroList, zeros}
 use Rattle.packed_arcs.proofs.LentParts.{zero-at}
 use Rattle.packed_arcs.proofs.ListLoops.{set-cases}
 use Rattle.arc_index.specs.ArcIndex.{noArc}
-use Rattle.acyclicity.specs.Search.{tailsOf, headsOf}
-use Rattle.acyclicity.specs.Steps.{zeros, Arcs, Points, Chained, Looked, LeadsFrom, Path, Searching, Pushed, Started, Climbed, Ranking, AllRanked, Searched}
+use Rattle.arc_index.specs.Columns.{tailsOf, headsOf}
+use Rattle.acyclicity.specs.Steps.{Arcs, Points, Chained, Looked, LeadsFrom, Path, Searching, Pushed, Started, Climbed, Ranking, AllRanked, Searched}
 use Rattle.acyclicity.specs.Steps.Started.{kept, started}
-use Rattle.acyclicity.proofs.Columns.{zeros-all, zeros-fewer, tails-len}
+use Rattle.packed_arcs.proofs.Zeros.{zeros-all, zeros-fewer}
+use Rattle.arc_index.proofs.Columns.{tails-len}
 use Rattle.acyclicity.proofs.CurrentArcs.{watch-first}
 use Rattle.acyclicity.proofs.Paths.{path-none, path-moved, has-room, path-longer, path-shorter, not-last}
 

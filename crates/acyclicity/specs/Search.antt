@@ -10,18 +10,11 @@ use Rattle.prelude.specs.Lists.{all}
 use Rattle.network.specs.Limits.{mostVertices, mostArcs}
 use Rattle.network.specs.Network.{wordArc, wordArcs}
 use Rattle.packed_arcs.specs.Entries.{entry, zeroList, flowAt}
+use Rattle.arc_index.specs.Columns.{tailsOf, headsOf}
 use Rattle.acyclicity.specs.declared.Found.{Found}
 use Rattle.acyclicity.specs.declared.Found.the-variants.{Order, Cycle, Refused}
 
 -- ---- what is handed over
-
--- The column of tails of the arcs of the records.
-abbrev pub tailsOf : List ℕ → List ℕ
-tailsOf rs = map (λ e. e .tail) (wordArcs rs)
-
--- The column of their heads.
-abbrev pub headsOf : List ℕ → List ℕ
-headsOf rs = map (λ e. e .head) (wordArcs rs)
 
 -- The arc of the record joins vertices below n.
 abbrev pub joinsBelow : ℕ → ℕ → Bool

@@ -6,18 +6,12 @@ use mathlib.Core.List.{List, [], _∷_}
 use Prim.Native.Nat.{ℕ, zero, suc, _+_, _-_, _<_, _≤_}
 use lib.ListN.{length, set}
 use Rattle.network.specs.Limits.{mostVertices, mostArcs}
-use Rattle.packed_arcs.specs.Entries.{entry, zeroList}
+use Rattle.packed_arcs.specs.Entries.{entry, zeroList, zeros}
 use Rattle.arc_index.specs.ArcIndex.{noArc}
 use Rattle.arc_index.specs.Chains.{Chains}
 use Rattle.acyclicity.specs.Search.{Ordered, Circulation}
 use Rattle.acyclicity.specs.declared.Found.{Found}
 use Rattle.acyclicity.specs.declared.Found.the-variants.{Order, Cycle}
-
--- How many entries are 0.
-unfoldable pub zeros : List ℕ → ℕ
-zeros [] = 0
-zeros (zero ∷ l) = 1 + zeros l
-zeros (suc a ∷ l) = zeros l
 
 -- Few enough arcs between few enough vertices, 0 to n - 1. An arc may lead from a vertex to itself, and two arcs may join the same vertices.
 pub record Arcs (n : ℕ) (tails heads : List ℕ) : Type 0 where

@@ -2,7 +2,8 @@
 ghost use mathlib.Core.Path.{_≡_};
 ghost use lib.ListN.{length};
 ghost use Rattle.packed_arcs.specs.Entries.{zeroList};
-ghost use Rattle.acyclicity.specs.Search.{tailsOf, headsOf, Circulation};
+ghost use Rattle.arc_index.specs.Columns.{tailsOf, headsOf};
+ghost use Rattle.acyclicity.specs.Search.{Circulation};
 ghost use Rattle.acyclicity.specs.Steps.{Arcs, ClosedPath};
 use super::index::place;
 use super::index::tail_at;

@@ -3,7 +3,7 @@ ghost use mathlib.Core.Path.{_≡_};
 ghost use Prim.Native.Nat.{_<_, _≤_};
 ghost use lib.ListN.{length, take};
 ghost use Rattle.packed_arcs.specs.Entries.{entry};
-ghost use Rattle.acyclicity.specs.Search.{tailsOf};
+ghost use Rattle.arc_index.specs.Columns.{tailsOf};
 use network::arc_in;
 
 // What stands where there is no arc, as an index.

@@ -4,7 +4,7 @@ ghost use mathlib.Core.Path.{_≡_};
 ghost use Prim.Native.Nat.{_<_};
 ghost use lib.ListN.{length};
 ghost use Rattle.packed_arcs.specs.Entries.{entry};
-ghost use Rattle.acyclicity.specs.Search.{tailsOf, headsOf};
+ghost use Rattle.arc_index.specs.Columns.{tailsOf, headsOf};
 ghost use Rattle.acyclicity.specs.Steps.{Chained, Watch, Looked, Searching, Pushed, Started, Climbed};
 use super::index::NONE;
 use super::index::place;

@@ -2,7 +2,7 @@
 ghost use mathlib.Core.Path.{_≡_};
 ghost use lib.ListN.{length, take};
 ghost use Rattle.packed_arcs.specs.Entries.{zeroList};
-ghost use Rattle.acyclicity.specs.Search.{tailsOf, headsOf};
+ghost use Rattle.arc_index.specs.Columns.{tailsOf, headsOf};
 ghost use Rattle.acyclicity.specs.Steps.{Chained, AllRanked, FirstUnranked, Searched};
 use super::path::climb;
 use arc_index::NO_ARC;

@@ -4,3 +4,4 @@ pub mod Chains
 pub mod Ends
 pub mod Walks
 pub mod Promises
+pub mod Columns

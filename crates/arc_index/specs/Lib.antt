@@ -1,3 +1,4 @@
 pub mod ArcIndex
 pub mod Chains
 pub mod Promises
+pub mod Columns

@@ -19,13 +19,13 @@ use Rattle.arc_index.specs.ArcIndex.{noArc, linksOf, endsOf, indexable}
 use Rattle.arc_index.specs.Chains.{Chains}
 use Rattle.arc_index.specs.declared.End.the-variants.{Head}
 use Rattle.arc_index.proofs.Ends.{Built, links-built, chains-built}
-use Rattle.matching.specs.Columns.{tailsOf, headsOf, weightsOf}
+use Rattle.arc_index.specs.Columns.{tailsOf, headsOf, weightsOf}
 use Rattle.matching.specs.Matching.{Bipartite, Noted, State}
 use Rattle.matching.specs.Outcome.{leadsAcross, matchable, Amounts, Marks, Perfect, Deficient, FindOutcome}
 use Rattle.matching.specs.Serving.{PassOutcome}
 use Rattle.matching.specs.declared.Match.{Match}
 use Rattle.matching.specs.declared.Match.the-variants.{Perfect as PerfectMatch, Deficient as NoMatch}
-use Rattle.matching.proofs.Columns.{tails-len, heads-len, weights-len, tail-is, head-is, weight-is}
+use Rattle.arc_index.proofs.Columns.{tails-len, heads-len, weights-len, tail-is, head-is, weight-is}
 use Rattle.matching.proofs.Outcomes.{perfect, deficient}
 
 -- ---- what is handed over

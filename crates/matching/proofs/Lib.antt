@@ -1,4 +1,3 @@
-pub mod Columns
 pub mod Pairs
 pub mod TreeLaws
 pub mod TakenVertices

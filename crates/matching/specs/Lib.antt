@@ -1,5 +1,4 @@
 pub mod Bidding
-pub mod Columns
 pub mod Matching
 pub mod Tree
 pub mod Augmenting

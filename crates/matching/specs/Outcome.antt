@@ -14,7 +14,7 @@ use Rattle.network.specs.Network.{wordArc}
 use Rattle.packed_arcs.specs.Entries.{entry, flowAt, zeroList}
 use Rattle.arc_index.specs.ArcIndex.{noArc}
 use Rattle.vertex_queue.specs.VertexQueue.{waitsNot}
-use Rattle.matching.specs.Columns.{tailsOf, headsOf, weightsOf}
+use Rattle.arc_index.specs.Columns.{tailsOf, headsOf, weightsOf}
 use Rattle.matching.specs.declared.Match.{Match}
 use Rattle.matching.specs.declared.Match.the-variants.{Perfect as PerfectMatch, Deficient as NoMatch, Refused}
 

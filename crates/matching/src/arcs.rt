@@ -3,7 +3,7 @@ ghost use mathlib.Core.Path.{_≡_};
 ghost use Prim.Native.Nat.{_<_};
 ghost use lib.ListN.{length};
 ghost use Rattle.packed_arcs.specs.Entries.{entry};
-ghost use Rattle.matching.specs.Columns.{tailsOf, headsOf, weightsOf};
+ghost use Rattle.arc_index.specs.Columns.{tailsOf, headsOf, weightsOf};
 use network::arc_in;
 
 pub(crate) fn tail_at(e: usize, records: &[u32]) -> usize

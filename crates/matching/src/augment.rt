@@ -2,7 +2,7 @@
 ghost use mathlib.Core.Path.{_≡_};
 ghost use Prim.Native.Nat.{_<_, _≤_};
 ghost use lib.ListN.{length};
-ghost use Rattle.matching.specs.Columns.{tailsOf, headsOf, weightsOf};
+ghost use Rattle.arc_index.specs.Columns.{tailsOf, headsOf, weightsOf};
 ghost use Rattle.matching.specs.Augmenting.{Alternating, Augmented};
 use super::arcs::head_at;
 use super::arcs::place;

@@ -7,7 +7,7 @@ ghost use Rattle.packed_arcs.specs.Entries.{entry};
 ghost use Rattle.arc_index.specs.ArcIndex.{noArc};
 ghost use Rattle.arc_index.specs.Chains.{Chains};
 ghost use Rattle.matching.specs.Bidding.{costOf, costUnless, Affordable, Cheapest, Room, freed, assignedMates, assignedPotentials};
-ghost use Rattle.matching.specs.Columns.{tailsOf, headsOf, weightsOf};
+ghost use Rattle.arc_index.specs.Columns.{tailsOf, headsOf, weightsOf};
 ghost use Rattle.matching.specs.Matching.{State};
 use super::arcs::head_at;
 use super::arcs::place;

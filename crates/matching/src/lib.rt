@@ -5,7 +5,7 @@ ghost use Prim.Native.Nat.{_+_};
 ghost use lib.ListN.{length, replicate};
 ghost use Rattle.packed_arcs.specs.Entries.{zeroList};
 ghost use Rattle.arc_index.specs.ArcIndex.{noArc};
-ghost use Rattle.matching.specs.Columns.{tailsOf, headsOf, weightsOf};
+ghost use Rattle.arc_index.specs.Columns.{tailsOf, headsOf, weightsOf};
 ghost use Rattle.matching.specs.Matching.{Bipartite};
 ghost use Rattle.matching.specs.Outcome.{FindOutcome, MatchOutcome};
 use arc_index::End;

@@ -5,7 +5,7 @@ ghost use lib.ListN.{length, replicate};
 ghost use Rattle.packed_arcs.specs.Entries.{entry, zeroList};
 ghost use Rattle.vertex_queue.specs.VertexQueue.{waitsNot};
 ghost use Rattle.arc_index.specs.ArcIndex.{noArc};
-ghost use Rattle.matching.specs.Columns.{tailsOf, headsOf, weightsOf};
+ghost use Rattle.arc_index.specs.Columns.{tailsOf, headsOf, weightsOf};
 ghost use Rattle.matching.specs.Matching.{State};
 ghost use Rattle.matching.specs.Tree.{Lowered, Relaxable, Scanned, Searched};
 use super::arcs::head_at;

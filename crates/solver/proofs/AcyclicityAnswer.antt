@@ -18,7 +18,8 @@ use Rattle.network.specs.Question.{acyclicity, Setting, Allowed, Answer, value,
 use Rattle.network.proofs.Rules.{ZeroOrOne, NoAmount, Rises, AcyclicCertificate, CyclicCertificate, RulesHold}
 use Rattle.packed_arcs.specs.Entries.{entry, zeroList}
 use Rattle.packed_arcs.proofs.LentParts.{zero-at}
-use Rattle.acyclicity.specs.Search.{tailsOf, headsOf, joinsBelow, searchable, Ordered, Circulation, SearchOutcome}
+use Rattle.arc_index.specs.Columns.{tailsOf, headsOf}
+use Rattle.acyclicity.specs.Search.{joinsBelow, searchable, Ordered, Circulation, SearchOutcome}
 use Rattle.acyclicity.specs.declared.Found.{Found}
 use Rattle.acyclicity.specs.declared.Found.the-variants.{Order, Cycle, Refused}
 use Rattle.solver.specs.Instance.{numberOf}

@@ -27,7 +27,7 @@ use Rattle.network.proofs.Assignments.{Between, enters-no-pump, leaves-no-site,
 use Rattle.network.proofs.Sound.{balance-parts}
 use Rattle.packed_arcs.specs.Entries.{entry, zeroList, flowAt}
 use Rattle.packed_arcs.proofs.LentParts.{zero-at}
-use Rattle.matching.specs.Columns.{tailsOf, headsOf, weightsOf}
+use Rattle.arc_index.specs.Columns.{tailsOf, headsOf, weightsOf}
 use Rattle.matching.specs.Outcome.{leadsAcross, matchable, Perfect, Deficient, FindOutcome, MatchOutcome}
 use Rattle.matching.specs.declared.Match.{Match}
 use Rattle.matching.specs.declared.Match.the-variants.{Perfect as PerfectMatch, Deficient as NoMatch, Refused}

@@ -5,8 +5,8 @@ use Prim.Native.Nat.{ℕ, _-_, _<_}
 use native.Mathlib.Omega.{arith}
 use lib.ListN.{length, length-replicate}
 use Rattle.packed_arcs.specs.Entries.{entry, zeroList}
-use Rattle.acyclicity.specs.Search.{tailsOf, headsOf}
-use Rattle.acyclicity.proofs.Columns.{tails-len}
+use Rattle.arc_index.specs.Columns.{tailsOf, headsOf}
+use Rattle.arc_index.proofs.Columns.{tails-len}
 use Rattle.acyclicity.proofs.Cycles.{Marking, AtIndex, at-index, AtEnd, at-end, marking-none, marking-more, circulates}
 use Rattle.acyclicity.proofs.cycle.mark.Statement.{statement}
 use Rattle.acyclicity.proofs.cycle.mark.Tie as tie

@@ -3,7 +3,7 @@
 use mathlib.Core.Path.{sym, ap, _∙_}
 use borrow.Author.Needs.{needs}
 use Rattle.network.specs.Network.{Arc}
-use Rattle.acyclicity.proofs.Columns.{tail-is}
+use Rattle.arc_index.proofs.Columns.{tail-is}
 use Rattle.acyclicity.proofs.index.tail_at.Statement.{statement}
 use Rattle.acyclicity.proofs.index.tail_at.Tie as tie
 

@@ -5,7 +5,7 @@ use Prim.Native.Nat.{_-_, _<_}
 use native.Mathlib.Omega.{arith}
 use lib.ListN.{length}
 use Rattle.packed_arcs.specs.Entries.{entry}
-use Rattle.acyclicity.specs.Search.{tailsOf, headsOf}
+use Rattle.arc_index.specs.Columns.{tailsOf, headsOf}
 use Rattle.acyclicity.specs.Steps.{Searching}
 use Rattle.acyclicity.proofs.Rankings.{searching-started, TopLooked, AtTop, at-top, climbed, moved-on, room-left, searching-longer}
 use Rattle.acyclicity.proofs.path.climb.Statement.{statement}

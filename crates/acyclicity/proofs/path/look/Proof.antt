@@ -6,7 +6,7 @@ use native.Mathlib.Omega.{arith}
 use borrow.Author.Needs.{needs}
 use Rattle.packed_arcs.specs.Entries.{entry}
 use Rattle.arc_index.specs.ArcIndex.{noArc}
-use Rattle.acyclicity.specs.Search.{tailsOf, headsOf}
+use Rattle.arc_index.specs.Columns.{tailsOf, headsOf}
 use Rattle.acyclicity.specs.Steps.{MovedOn}
 use Rattle.acyclicity.proofs.CurrentArcs.{moved-none, Looking, at-arc, fewer-left, moved-more}
 use Rattle.acyclicity.proofs.path.look.Statement.{statement}

@@ -5,7 +5,7 @@ use Prim.Native.Nat.{_-_}
 use native.Mathlib.Omega.{arith}
 use lib.ListN.{length}
 use Rattle.packed_arcs.specs.Entries.{entry}
-use Rattle.acyclicity.specs.Search.{tailsOf, headsOf}
+use Rattle.arc_index.specs.Columns.{tailsOf, headsOf}
 use Rattle.acyclicity.specs.Steps.{Arcs, Searching}
 use Rattle.acyclicity.proofs.Rankings.{Progress, AtLast, at-last, SameLengths, same-lengths, arcs-as, chained-as, searching-none, ranking-none, searched-all, searched-closed, one-left, progress-more}
 use Rattle.acyclicity.proofs.ranking.rank_all.Statement.{statement}

@@ -3,7 +3,7 @@
 use mathlib.Core.Path.{sym, ap, _∙_}
 use borrow.Author.Needs.{needs}
 use Rattle.network.specs.Network.{Arc}
-use Rattle.matching.proofs.Columns.{head-is}
+use Rattle.arc_index.proofs.Columns.{head-is}
 use Rattle.matching.proofs.arcs.head_at.Statement.{statement}
 use Rattle.matching.proofs.arcs.head_at.Tie as tie
 

@@ -3,7 +3,7 @@
 use mathlib.Core.Path.{sym, ap, _∙_}
 use borrow.Author.Needs.{needs}
 use Rattle.network.specs.Network.{Arc}
-use Rattle.matching.proofs.Columns.{tail-is}
+use Rattle.arc_index.proofs.Columns.{tail-is}
 use Rattle.matching.proofs.arcs.tail_at.Statement.{statement}
 use Rattle.matching.proofs.arcs.tail_at.Tie as tie
 

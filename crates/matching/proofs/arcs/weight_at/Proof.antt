@@ -3,7 +3,7 @@
 use mathlib.Core.Path.{sym, ap, _∙_}
 use borrow.Author.Needs.{needs}
 use Rattle.network.specs.Network.{Arc}
-use Rattle.matching.proofs.Columns.{weight-is}
+use Rattle.arc_index.proofs.Columns.{weight-is}
 use Rattle.matching.proofs.arcs.weight_at.Statement.{statement}
 use Rattle.matching.proofs.arcs.weight_at.Tie as tie
 

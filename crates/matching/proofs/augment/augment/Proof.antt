@@ -7,9 +7,9 @@ use lib.ListN.{length, set, length-set}
 use borrow.Author.Needs.{needs}
 use Rattle.packed_arcs.specs.Entries.{entry}
 use Rattle.arc_index.specs.ArcIndex.{noArc}
-use Rattle.matching.specs.Columns.{tailsOf, headsOf, weightsOf}
+use Rattle.arc_index.specs.Columns.{tailsOf, headsOf, weightsOf}
 use Rattle.matching.specs.Augmenting.{Alternating}
-use Rattle.matching.proofs.Columns.{tails-len}
+use Rattle.arc_index.proofs.Columns.{tails-len}
 use Rattle.matching.proofs.Augmentation.{next, b-below, augmented, freed-arc, a'-left, shorter, alternates, still}
 use Rattle.matching.proofs.augment.augment.Statement.{statement}
 use Rattle.matching.proofs.augment.augment.Tie as tie

@@ -8,8 +8,8 @@ use lib.ListN.{length}
 use Rattle.packed_arcs.specs.Entries.{entry}
 use Rattle.arc_index.specs.ArcIndex.{noArc}
 use Rattle.matching.specs.Bidding.{assignedMates, assignedPotentials}
-use Rattle.matching.specs.Columns.{headsOf}
-use Rattle.matching.proofs.Columns.{tails-len}
+use Rattle.arc_index.specs.Columns.{headsOf}
+use Rattle.arc_index.proofs.Columns.{tails-len}
 use Rattle.matching.proofs.bids.assign.Statement.{statement}
 use Rattle.matching.proofs.bids.assign.Tie as tie
 

@@ -7,9 +7,9 @@ use borrow.Author.Needs.{needs}
 use Rattle.packed_arcs.specs.Entries.{entry}
 use Rattle.arc_index.specs.ArcIndex.{noArc}
 use Rattle.matching.specs.Bidding.{Cheapest, Offer}
-use Rattle.matching.specs.Columns.{tailsOf, headsOf, weightsOf}
+use Rattle.arc_index.specs.Columns.{tailsOf, headsOf, weightsOf}
 use Rattle.matching.proofs.Bidding.{affordable, offer, room, taken-offer, bare-of}
-use Rattle.matching.proofs.Columns.{tails-len}
+use Rattle.arc_index.proofs.Columns.{tails-len}
 use Rattle.matching.proofs.bids.bid.Statement.{statement}
 use Rattle.matching.proofs.bids.bid.Tie as tie
 

@@ -5,9 +5,9 @@ use mathlib.Core.Logic.{⊎-elim}
 use Prim.Native.Nat.{ℕ, _-_}
 use native.Mathlib.Omega.{arith}
 use borrow.Author.Needs.{needs}
-use Rattle.matching.specs.Columns.{tailsOf, headsOf, weightsOf}
+use Rattle.arc_index.specs.Columns.{tailsOf, headsOf, weightsOf}
 use Rattle.matching.proofs.Bidding.{Best, best-start, best-take, best-skip, best-end, at-arc, next-later}
-use Rattle.matching.proofs.Columns.{tails-len, heads-len}
+use Rattle.arc_index.proofs.Columns.{tails-len, heads-len}
 use Rattle.matching.proofs.bids.cheapest.Statement.{statement}
 use Rattle.matching.proofs.bids.cheapest.Tie as tie
 

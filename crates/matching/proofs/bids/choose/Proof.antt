@@ -6,7 +6,7 @@ use Prim.Native.Nat.{_<_}
 use native.Mathlib.Omega.{arith}
 use borrow.Author.Needs.{needs}
 use lib.ListN.{length}
-use Rattle.matching.proofs.Columns.{tails-len}
+use Rattle.arc_index.proofs.Columns.{tails-len}
 use Rattle.matching.proofs.bids.choose.Statement.{statement}
 use Rattle.matching.proofs.bids.choose.Tie as tie
 

@@ -6,8 +6,8 @@ use native.Mathlib.Omega.{arith}
 use borrow.Author.Needs.{needs}
 use lib.ListN.{length}
 use Rattle.packed_arcs.specs.Entries.{entry}
-use Rattle.matching.specs.Columns.{weightsOf}
-use Rattle.matching.proofs.Columns.{tails-len}
+use Rattle.arc_index.specs.Columns.{weightsOf}
+use Rattle.arc_index.proofs.Columns.{tails-len}
 use Rattle.matching.proofs.bids.cost_of.Statement.{statement}
 use Rattle.matching.proofs.bids.cost_of.Tie as tie
 

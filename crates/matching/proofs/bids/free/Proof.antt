@@ -8,7 +8,7 @@ use lib.ListN.{length, set}
 use Rattle.prelude.proofs.Choice.{leb-on, leb-off}
 use Rattle.packed_arcs.specs.Entries.{entry}
 use Rattle.arc_index.specs.ArcIndex.{noArc}
-use Rattle.matching.specs.Columns.{headsOf}
+use Rattle.arc_index.specs.Columns.{headsOf}
 use Rattle.matching.proofs.bids.free.Statement.{statement}
 use Rattle.matching.proofs.bids.free.Tie as tie
 

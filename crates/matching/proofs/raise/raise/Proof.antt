@@ -6,9 +6,9 @@ use native.Mathlib.Omega.{arith}
 use lib.ListN.{length}
 use borrow.Author.Needs.{needs}
 use Rattle.packed_arcs.specs.Entries.{entry}
-use Rattle.matching.specs.Columns.{tailsOf}
+use Rattle.arc_index.specs.Columns.{tailsOf}
 use Rattle.matching.specs.Augmenting.{riseOf}
-use Rattle.matching.proofs.Columns.{tails-len}
+use Rattle.arc_index.proofs.Columns.{tails-len}
 use Rattle.matching.proofs.Pairs.{noted}
 use Rattle.matching.proofs.Raising.{rise-most}
 use Rattle.matching.proofs.RaiseLoop.{Rising, rising-start, rising-turn}

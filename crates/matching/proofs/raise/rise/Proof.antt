@@ -6,7 +6,7 @@ use native.Mathlib.Omega.{arith}
 use borrow.Author.Tests.{lt-ltb, le-ltb, eq-eqb, ne-eqb}
 use borrow.Author.Needs.{needs}
 use Rattle.packed_arcs.specs.Entries.{entry}
-use Rattle.matching.specs.Columns.{tailsOf}
+use Rattle.arc_index.specs.Columns.{tailsOf}
 use Rattle.matching.proofs.raise.rise.Statement.{statement}
 use Rattle.matching.proofs.raise.rise.Tie as tie
 use Rattle.matching.proofs.raise.rise.Reads as reads

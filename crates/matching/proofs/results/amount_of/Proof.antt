@@ -5,7 +5,7 @@ use Prim.Native.Nat.{ℕ}
 use borrow.Author.Needs.{needs}
 use Rattle.packed_arcs.specs.Entries.{entry}
 use Rattle.prelude.proofs.Choice.{via-eqb-on, via-eqb-off}
-use Rattle.matching.specs.Columns.{headsOf}
+use Rattle.arc_index.specs.Columns.{headsOf}
 use Rattle.matching.proofs.results.amount_of.Statement.{statement}
 use Rattle.matching.proofs.results.amount_of.Tie as tie
 

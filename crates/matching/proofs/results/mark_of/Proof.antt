@@ -8,9 +8,9 @@ use lib.ListN.{length}
 use Rattle.prelude.proofs.Choice.{ltb-on, ltb-off, eqb-on, eqb-off, leb-on, leb-off}
 use Rattle.packed_arcs.specs.Entries.{entry}
 use Rattle.arc_index.specs.ArcIndex.{noArc}
-use Rattle.matching.specs.Columns.{tailsOf}
+use Rattle.arc_index.specs.Columns.{tailsOf}
 use Rattle.matching.specs.Outcome.{farMark}
-use Rattle.matching.proofs.Columns.{tails-len}
+use Rattle.arc_index.proofs.Columns.{tails-len}
 use Rattle.matching.proofs.Pairs.{noted}
 use Rattle.matching.proofs.results.mark_of.Statement.{statement}
 use Rattle.matching.proofs.results.mark_of.Tie as tie

@@ -6,9 +6,9 @@ use native.Mathlib.Omega.{arith}
 use lib.ListN.{length}
 use borrow.Author.Needs.{needs}
 use Rattle.prelude.proofs.Filling.{Filling, fill-start, fill-turn, fill-end}
-use Rattle.matching.specs.Columns.{headsOf}
+use Rattle.arc_index.specs.Columns.{headsOf}
 use Rattle.matching.specs.Outcome.{matchedAmount}
-use Rattle.matching.proofs.Columns.{heads-len}
+use Rattle.arc_index.proofs.Columns.{heads-len}
 use Rattle.matching.proofs.results.write_amounts.Statement.{statement}
 use Rattle.matching.proofs.results.write_amounts.Tie as tie
 

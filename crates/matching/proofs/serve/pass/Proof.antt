@@ -6,7 +6,7 @@ use native.Mathlib.Omega.{arith}
 use lib.ListN.{length}
 use borrow.Author.Needs.{needs}
 use borrow.Author.Tests.{not-true, not-false}
-use Rattle.matching.specs.Columns.{tailsOf, headsOf, weightsOf}
+use Rattle.arc_index.specs.Columns.{tailsOf, headsOf, weightsOf}
 use Rattle.matching.specs.Serving.{Served}
 use Rattle.matching.proofs.Serving.{state-at, Passing, pass-start, pass-on, pass-stuck, pass-end}
 use Rattle.matching.proofs.serve.pass.Statement.{statement}

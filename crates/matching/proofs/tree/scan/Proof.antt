@@ -6,8 +6,8 @@ use native.Mathlib.Omega.{arith}
 use lib.ListN.{length}
 use borrow.Author.Needs.{needs}
 use Rattle.matching.specs.Tree.{Lowered}
-use Rattle.matching.specs.Columns.{tailsOf, headsOf, weightsOf}
-use Rattle.matching.proofs.Columns.{tails-len, heads-len}
+use Rattle.arc_index.specs.Columns.{tailsOf, headsOf, weightsOf}
+use Rattle.arc_index.proofs.Columns.{tails-len, heads-len}
 use Rattle.matching.proofs.Scans.{Scanning, ready, here, in-links, shrinks, scan-start, scan-step, scan-found, scan-end}
 use Rattle.matching.proofs.tree.scan.Statement.{statement}
 use Rattle.matching.proofs.tree.scan.Tie as tie

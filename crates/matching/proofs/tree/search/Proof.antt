@@ -6,9 +6,9 @@ use native.Mathlib.Omega.{arith}
 use lib.ListN.{length}
 use borrow.Author.Needs.{needs}
 use Rattle.packed_arcs.specs.Entries.{entry}
-use Rattle.matching.specs.Columns.{tailsOf, headsOf, weightsOf}
+use Rattle.arc_index.specs.Columns.{tailsOf, headsOf, weightsOf}
 use Rattle.matching.specs.Matching.{State}
-use Rattle.matching.proofs.Columns.{tails-len}
+use Rattle.arc_index.proofs.Columns.{tails-len}
 use Rattle.matching.proofs.SearchSteps.{Growing, growing-start, small, few, met, nobody-left, left, exposed-there, matched-arc, growing-on}
 use Rattle.matching.proofs.tree.search.Statement.{statement}
 use Rattle.matching.proofs.tree.search.Tie as tie

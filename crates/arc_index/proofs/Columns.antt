@@ -6,7 +6,7 @@ use Prim.Native.Nat.{ℕ}
 use lib.ListN.{length, length-map, List·getD-map}
 use Rattle.network.specs.Network.{Arc, wordArc, wordArcs}
 use Rattle.packed_arcs.specs.Entries.{entry}
-use Rattle.matching.specs.Columns.{tailsOf, headsOf, weightsOf}
+use Rattle.arc_index.specs.Columns.{tailsOf, headsOf, weightsOf}
 
 pub tails-len : (rs : List ℕ) → length (tailsOf rs) ≡ length rs
 tails-len rs = length-map (wordArcs rs) (λ e. e .tail) ∙ length-map rs wordArc
