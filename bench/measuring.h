@@ -1,6 +1,8 @@
 /* LEMON's answer for a network, and median processor times of calls that take turns. */
 #pragma once
+#include <lemon/capacity_scaling.h>
 #include <lemon/connectivity.h>
+#include <lemon/cost_scaling.h>
 #include <lemon/dijkstra.h>
 #include <lemon/network_simplex.h>
 #include <lemon/preflow.h>
@@ -33,7 +35,17 @@ struct Graph {
     }
 };
 
-static long long lemon_answer(const Instance &x, const Graph &g) {
+/* The least cost of a pairing by one of LEMON's algorithms for flows of least cost. */
+template <class Algorithm> static long long least_cost(const Graph &g) {
+    Algorithm flow(g.net);
+    flow.costMap(g.weight).supplyMap(g.supply);
+    return flow.run() == Algorithm::OPTIMAL ? flow.template totalCost<long long>() : NONE;
+}
+
+/* How many of LEMON's algorithms can be asked a question: which is fastest for a pairing depends on the network. */
+static int algorithms(int question) { return question == PAIRING ? 3 : 1; }
+
+static long long lemon_answer(const Instance &x, const Graph &g, int algorithm = 0) {
     typedef lemon::SmartDigraph D;
     D::Node s = g.net.nodeFromId(x.s), t = g.net.nodeFromId(x.t);
     if (x.question == ROUTE) {
@@ -46,9 +58,8 @@ static long long lemon_answer(const Instance &x, const Graph &g) {
         return flow.flowValue();
     }
     if (x.question == LOOPS) return lemon::dag(g.net) ? 0 : NONE;
-    lemon::NetworkSimplex<D> simplex(g.net);
-    simplex.costMap(g.weight).supplyMap(g.supply);
-    return simplex.run() == lemon::NetworkSimplex<D>::OPTIMAL ? simplex.totalCost<long long>() : NONE;
+    return algorithm == 0 ? least_cost<lemon::NetworkSimplex<D>>(g)
+         : algorithm == 1 ? least_cost<lemon::CostScaling<D>>(g) : least_cost<lemon::CapacityScaling<D>>(g);
 }
 
 /* Processor time in milliseconds: waiting for others on the machine does not count. */

@@ -74,6 +74,14 @@ static Instance route_chain() {
     return x;
 }
 
+/* The same kind of chain, with all arcs in mixed order. */
+static Instance route_chain_mixed() {
+    Instance x = route_chain();
+    x.name = "route mixed chain";
+    mix(x.arcs);
+    return x;
+}
+
 /* Jumps of 1 to 16 vertices, the last first. The longest jumps come soonest, and every way with more arcs is shorter:
    a search by passes or with a queue betters each vertex about as often as there are vertices before it. */
 static Instance route_quadratic() {
@@ -81,6 +89,35 @@ static Instance route_quadratic() {
     for (int v = NODES - 1; v > 0; v--)
         for (int jump = 1; jump <= 16 && jump <= v; jump++)
             x.arcs.push_back({v - jump, v, jump == 1 ? 1 : 2000 * jump + below(100)});
+    add_basins(x);
+    return x;
+}
+
+/* Eight blocks in which two arcs without length lead to the next vertex but one, and a third arc leads there directly, its length halved from
+   step to step: a search that takes vertices as they come betters the last ones exponentially often. A chain joins the blocks. */
+static Instance route_exponential() {
+    Instance x = start("route exponential", ROUTE, NODES);
+    for (int block = 0; block < 8; block++)
+        for (int k = 0; k < 14; k++) {
+            int v = 30 * block + 2 * k;
+            x.arcs.push_back({v, v + 1, 0});
+            x.arcs.push_back({v + 1, v + 2, 0});
+            x.arcs.push_back({v, v + 2, 1 << (14 - k)});
+        }
+    for (int v = 0; v < NODES - 1; v++) x.arcs.push_back({v, v + 1, 1});
+    while ((int)x.arcs.size() < OTHERS) {
+        Record e = anywhere(0, NODES);
+        x.arcs.push_back({std::min(e.a, e.b), std::max(e.a, e.b), HEAVIEST});
+    }
+    add_basins(x);
+    return x;
+}
+
+/* Fifteen parallel arcs to the next vertex, each shorter than the one before it: every arc betters. */
+static Instance route_parallel() {
+    Instance x = start("route parallel", ROUTE, NODES);
+    for (int v = 0; v < NODES - 1; v++)
+        for (int k = 0; k < 15; k++) x.arcs.push_back({v, v + 1, 2000 * (15 - k) + below(2000)});
     add_basins(x);
     return x;
 }
@@ -130,6 +167,111 @@ static Instance discharge_grid(const char *name, int rows, int columns) {
             for (int c = 0; c < columns; c++) both(at(r, c), at(r + 1, c));
     }
     add_basins(x);
+    mix(x.arcs);
+    return x;
+}
+
+/* Arcs from lower to higher vertices only. */
+static Instance discharge_acyclic() {
+    Instance x = start("discharge acyclic", DISCHARGE, NODES);
+    while ((int)x.arcs.size() < OTHERS) {
+        Record e = anywhere(0, NODES);
+        x.arcs.push_back({std::min(e.a, e.b), std::max(e.a, e.b), e.w});
+    }
+    add_basins(x);
+    mix(x.arcs);
+    return x;
+}
+
+/* Every arc between 64 vertices. */
+static Instance discharge_complete() {
+    Instance x = start("discharge complete 64", DISCHARGE, 64);
+    for (int a = 0; a < x.n; a++)
+        for (int b = 0; b < x.n; b++)
+            if (a != b) x.arcs.push_back({a, b, below(HEAVIEST + 1)});
+    add_basins(x);
+    mix(x.arcs);
+    return x;
+}
+
+/* The source, two sides of 126 vertices with random arcs between them, and the sink; every capacity is 1. */
+static Instance discharge_unit() {
+    Instance x = start("discharge unit bipartite", DISCHARGE, 254);
+    int side = 126;
+    for (int v = 1; v <= side; v++) {
+        x.arcs.push_back({0, v, 1});
+        x.arcs.push_back({side + v, x.n - 1, 1});
+    }
+    while ((int)x.arcs.size() < 6 * side) {
+        int a = below(side), b = below(side);
+        x.arcs.push_back({1 + a, side + 1 + b, 1});
+    }
+    add_basins(x);
+    mix(x.arcs);
+    return x;
+}
+
+/* After Cherkassky and Goldberg's AK: two parts beside each other, of three chains of k arcs each. In the first every vertex of the first chain
+   has an arc of capacity 1 to the second; in the second arcs lead along the second chain, each capacity one less than that before it. */
+static Instance discharge_ak() {
+    Instance x = start("discharge AK", DISCHARGE, 254);
+    int k = 41, most = 20000;
+    for (int part = 0; part < 2; part++) {
+        int first = 1 + part * 126, second = first + k, third = second + k;
+        x.arcs.push_back({0, first, HEAVIEST});
+        x.arcs.push_back({third + k, x.n - 1, HEAVIEST});
+        for (int i = 0; i < k; i++) {
+            x.arcs.push_back({first + i, first + i + 1, part == 0 ? most - i : most});
+            if (part == 0) {
+                x.arcs.push_back({first + i, second + i + 1, 1});
+                x.arcs.push_back({second + i + 1, second + i + 2, most});
+            } else {
+                x.arcs.push_back({second + i, third - i, i + 1});
+                x.arcs.push_back({second + i, second + i + 1, most - i});
+            }
+            x.arcs.push_back({third + i, third + i + 1, most});
+        }
+    }
+    return x;
+}
+
+/* Goldfarb and Grigoriadis' RMF: square frames of side times side vertices, wide arcs both ways between neighbours of a frame, and narrow
+   arcs from each vertex of a frame to one of the next, no two to the same. */
+static Instance discharge_rmf(const char *name, int side, int frames) {
+    int size = side * side;
+    Instance x = start(name, DISCHARGE, size * frames);
+    auto both = [&](int a, int b) {
+        x.arcs.push_back({a, b, HEAVIEST});
+        x.arcs.push_back({b, a, HEAVIEST});
+    };
+    for (int front = 0; front < x.n; front += size) {
+        for (int r = 0; r < side; r++)
+            for (int c = 0; c < side; c++) {
+                int v = front + r * side + c;
+                if (c + 1 < side) both(v, v + 1);
+                if (r + 1 < side) both(v, v + side);
+            }
+        if (front + size == x.n) continue;
+        std::vector<int> heads;
+        for (int i = 0; i < size; i++) heads.push_back(front + size + i);
+        mix(heads);
+        for (int i = 0; i < size; i++) x.arcs.push_back({front + i, heads[i], between(1, 1000)});
+    }
+    return x;
+}
+
+/* RLG, a random levelled graph: columns of so many rows, d arcs from each vertex to any of the next column. */
+static Instance discharge_rlg(const char *name, int rows, int columns, int d) {
+    Instance x = start(name, DISCHARGE, rows * columns + 2);
+    for (int r = 0; r < rows; r++) {
+        x.arcs.push_back({0, 1 + r, HEAVIEST});
+        x.arcs.push_back({1 + (columns - 1) * rows + r, x.n - 1, HEAVIEST});
+    }
+    for (int c = 0; c + 1 < columns; c++)
+        for (int i = 0; i < rows * d; i++) {
+            int head = 1 + (c + 1) * rows + below(rows);
+            x.arcs.push_back({1 + c * rows + i / d, head, between(1, HEAVIEST)});
+        }
     mix(x.arcs);
     return x;
 }
@@ -185,6 +327,50 @@ static Instance pairing_none() {
         int i = below(h), j = below(i < 64 ? 63 : h);
         x.arcs.push_back({i, h + j, below(HEAVIEST + 1)});
     }
+    return x;
+}
+
+/* The last two pumps lead to the last site only. */
+static Instance pairing_none_late() {
+    Instance x = start("pairing none late", PAIRING, NODES - 1);
+    int h = x.n / 2;
+    while ((int)x.arcs.size() < ARCS) {
+        int i = below(h), j = i < h - 2 ? below(h) : h - 1;
+        x.arcs.push_back({i, h + j, below(HEAVIEST + 1)});
+    }
+    return x;
+}
+
+/* Pump i of h to each site at most `reach` away from site i, at a cost by their numbers. */
+template <class Cost> static Instance pairing_by(const char *name, int h, int reach, Cost cost) {
+    Instance x = start(name, PAIRING, 2 * h);
+    for (int i = 0; i < h; i++)
+        for (int j = std::max(0, i - reach); j <= std::min(h - 1, i + reach); j++) x.arcs.push_back({i, h + j, cost(i, j)});
+    mix(x.arcs);
+    return x;
+}
+
+/* The same, where every pump and every site has a random factor, and a cost is the product of two. */
+static Instance pairing_products(const char *name, int h, int reach) {
+    std::vector<int> factors;
+    state = 5;
+    for (int i = 0; i < 2 * h; i++) factors.push_back(below(181));
+    return pairing_by(name, h, reach, [&](int i, int j) { return factors[i] * factors[h + j]; });
+}
+
+/* d arcs from each pump, one of them of a hidden pairing. */
+static Instance pairing_sparse(const char *name, int d) {
+    Instance x = start(name, PAIRING, NODES - 1);
+    int h = x.n / 2;
+    std::vector<int> sites;
+    for (int i = 0; i < h; i++) sites.push_back(h + i);
+    mix(sites);
+    for (int i = 0; i < h; i++)
+        for (int k = 0; k < d; k++) {
+            int site = k == 0 ? sites[i] : h + below(h);
+            x.arcs.push_back({i, site, below(HEAVIEST + 1)});
+        }
+    mix(x.arcs);
     return x;
 }
 
@@ -253,5 +439,29 @@ static std::vector<Instance> instances() {
         pairing_random("pairing random, costs to 1", 1), pairing_band(), pairing_chain(), pairing_none(),
         loops_chain("loops reversed chain", false, false), loops_chain("loops mixed chain", true, false), loops_chain("loops closed chain", true, true),
         loops_random("loops random", false), loops_random("loops random and a basin", true), loops_dense(), loops_anywhere(),
+    };
+}
+
+/* Further families: what is hard for one method or another. */
+static std::vector<Instance> further_instances() {
+    const int all = NODES;
+    auto random = [](int, int) { return below(HEAVIEST + 1); };
+    auto product = [](int i, int j) { return i * j; };
+    auto distance = [](int i, int j) { return (i - j) * (i - j); };
+    auto sum = [](int i, int j) { return i + j; };
+    return {
+        route_chain_mixed(), route_exponential(), route_parallel(),
+        discharge_layered("discharge layered 10x25 mixed", 10, 25, false),
+        discharge_layered("discharge layered 50x5 mixed", 50, 5, false), discharge_layered("discharge layered 50x5 reversed", 50, 5, true),
+        discharge_acyclic(), discharge_complete(), discharge_unit(), discharge_ak(),
+        discharge_rmf("discharge RMF 6x7", 6, 7), discharge_rmf("discharge RMF 4x15", 4, 15), discharge_rmf("discharge RMF 11x2", 11, 2),
+        discharge_rlg("discharge RLG 15x16, 3", 15, 16, 3), discharge_rlg("discharge RLG 4x63, 3", 4, 63, 3),
+        discharge_rlg("discharge RLG 50x5, 16", 50, 5, 16), discharge_rlg("discharge RLG 2x126, 2", 2, 126, 2),
+        pairing_by("pairing 64 random", 64, all, random), pairing_by("pairing 64 i*j", 64, all, product),
+        pairing_by("pairing 64 (i-j)^2", 64, all, distance), pairing_by("pairing 64 -i*j", 64, all, [](int i, int j) { return 63 * 63 - i * j; }),
+        pairing_products("pairing band products", 127, 16), pairing_by("pairing band i*j", 127, 16, product),
+        pairing_by("pairing band -i*j", 127, 16, [](int i, int j) { return 126 * 126 - i * j; }),
+        pairing_by("pairing band (i-j)^2", 127, 16, distance), pairing_by("pairing band i+j", 127, 16, sum),
+        pairing_sparse("pairing sparse 4", 4), pairing_sparse("pairing sparse 2", 2), pairing_none_late(),
     };
 }

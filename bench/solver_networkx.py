@@ -10,6 +10,7 @@ except ImportError:
     networkx = None
 
 ROUTE, DISCHARGE, PAIRING, LOOPS = 1, 2, 3, 4
+QUESTIONS = {ROUTE: "routes", DISCHARGE: "discharges", PAIRING: "pairings", LOOPS: "loops"}
 NONE = -1
 
 
@@ -52,28 +53,48 @@ def shown(answer):
     return "none" if answer == NONE else str(answer)
 
 
-def main(folder):
+def read_times(folder):
     rows = {}
     for line in open(folder + "/times"):
         name, ours, lemon, refusal, *times = line.rstrip("\n").split("\t")
         rows[name] = int(ours), int(lemon), int(refusal), [float(t) for t in times]
-    print("| family | ours ms | LEMON ms | ratio | LEMON with building ms | networkx ms |")
-    print("|---|---|---|---|---|---|")
-    bad = []
+    return rows
+
+
+def sum_up(measured):
+    """Prints what the table comes to; `measured` has question, name, our time and LEMON's with building for each family."""
+    for question, word in QUESTIONS.items():
+        ratios = [ours / built for asked, _, ours, built in measured if asked == question]
+        print(f"{word}: {sum(ratio <= 1 for ratio in ratios)} of {len(ratios)} families at most 1 x LEMON with building")
+    _, name, ours, built = max(measured, key=lambda row: row[2] / row[3])
+    print(f"greatest ratio: {ours / built:.2f} x LEMON with building, {name}")
+    _, name, ours, _ = max(measured, key=lambda row: row[2])
+    print(f"slowest of ours: {ours:.3f} ms, {name}")
+
+
+def main(folder):
+    rows = read_times(folder)
+    print("| family | arcs | ours ms | LEMON with building ms | ratio | LEMON without building ms | ratio | networkx ms |")
+    print("|---|---|---|---|---|---|---|---|")
+    bad, measured = [], []
     for line in open(folder + "/instances"):
         name, *numbers = line.rstrip("\n").split("\t")
         question, n, s, t = map(int, numbers[:4])
+        arcs = [tuple(map(int, arc.split())) for arc in numbers[4:]]
         ours, lemon, refusal, (time_ours, time_lemon, time_built) = rows[name]
+        measured.append((question, name, time_ours, time_built))
         third, time_third = lemon, None
         if networkx:
-            graph = build(question, n, [tuple(map(int, arc.split())) for arc in numbers[4:]])
+            graph = build(question, n, arcs)
             third, time_third = median(lambda: solve(question, s, t, graph))
         last = "-" if time_third is None else f"{time_third:.1f}"
-        print(f"| {name} | {time_ours:.3f} | {time_lemon:.3f} | {time_ours / time_lemon:.2f} | {time_built:.3f} | {last} |", flush=True)
+        print(f"| {name} | {len(arcs)} | {time_ours:.3f} | {time_built:.3f} | {time_ours / time_built:.2f} "
+              f"| {time_lemon:.3f} | {time_ours / time_lemon:.2f} | {last} |", flush=True)
         if refusal or ours != lemon or lemon != third:
             given = f"no certificate (refusal {refusal})" if refusal else shown(ours)
             bad.append(f"{name}: ours {given}, LEMON {shown(lemon)}, networkx {shown(third) if networkx else 'not run'}")
-    print("\nratio: ours / LEMON without building; ours starts from the list of records, so the time with building is the like one.")
+    print("\nratio: ours / LEMON's fastest algorithm; ours starts from the list of records, so the time with building is the like one.")
+    sum_up(measured)
     if not networkx:
         print("networkx is not installed and was not run.")
     for line in bad:
