@@ -1,0 +1,27 @@
+-- `bench_families::trial::write` is safe and ends: it goes through the records.
+-- Assumes nothing.
+use Prim.Native.Nat.{_-_}
+use native.Mathlib.Omega.{arith}
+use borrow.Author.Needs.{needs}
+use Rattle.bench_families.proofs.trial.write.Statement.{statement}
+use Rattle.bench_families.proofs.trial.write.Tie as tie
+
+abbrev Inv-loop : tie.InvT-loop
+Inv-loop net a₀ m i₀ a i = Unit {0}
+
+abbrev μ-loop : tie.MeasureT-loop
+μ-loop net a₀ m i₀ a i = m - i
+
+pub write-spec : {M : Type 1} → statement M
+write-spec =
+    tie.close
+    (tie.spec
+    Inv-loop
+    μ-loop
+    (λ c. tt)
+    (λ c κs. search needs)
+    (λ c κs. search needs)
+    (λ c. omega arith)
+    (λ c. omega arith)
+    (λ c. tt)
+    (λ c. search needs))
