@@ -1,4 +1,5 @@
 pub mod FallingKeys
+pub mod SearchLaws
 pub mod ArcReads
 mod CodedArcs
 pub mod PotentialBounds
@@ -7,4 +8,3 @@ pub mod PhaseLaws
 pub mod LastSearch
 pub mod StartState
 pub mod CallOutcomes
-pub mod Conserving

@@ -1,7 +1,6 @@
 pub mod Residual
+pub mod Search
 pub mod Push
 pub mod Phase
 pub mod PackedNetwork
 pub mod Calls
-pub mod Chains
-pub mod Preflow

@@ -8,16 +8,24 @@ use lib.Dec.{ltb}
 use lib.ListN.{length}
 use Rattle.prelude.specs.Choice.{pick}
 use Rattle.packed_arcs.specs.Entries.{entry, flowAt}
+use Rattle.vertex_queue.specs.VertexQueue.{waitsNot, Kept}
 use Rattle.engine.specs.Residual.{unreached, ResidualNetwork, residual, WithinLimits, NonnegativeReducedCosts, ParentTree, AllRelaxed, sum}
 
 -- The key that a search starts with: 0 where supply is left.
 abbrev pub firstKey : ℕ → ℕ
 firstKey l = pick (ltb 0 l) 0 unreached
 
--- The keys before the first pass, by the supply left.
+-- The keys that a search starts with, by the supply left.
 pub record Started (left key : List ℕ) : Type 0 where
   pub len : length key ≡ length left
   pub keys : (v : ℕ) → v < length left → entry key v ≡ firstKey (entry left v)
+
+-- The keys that a search starts with, and who waits: each vertex with its key, so those with supply.
+pub record StartOutcome (left key keys low : List ℕ) : Type 0 where
+  pub started : Started left key
+  pub queue : Kept keys low
+  pub same : (v : ℕ) → v < length left → entry keys v ≡ entry key v
+  pub nobody : (v : ℕ) → length left ≤ v → v < 256 → waitsNot ≤ entry keys v
 
 -- What a search found.
 pub record SearchResult (N : ResidualNetwork) (left key par : List ℕ) : Type 0 where

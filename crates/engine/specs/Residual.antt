@@ -1,10 +1,9 @@
--- The residual network of a list of arcs, and what one search over it, by relaxing arcs, keeps.
+-- The residual network of a list of arcs, and keys and parents of its vertices.
 -- Assumes nothing.
 use mathlib.Core.Path.{_≡_}
-use mathlib.Core.Bool.{Bool, true, false}
 use mathlib.Core.List.{List, [], _∷_}
 use Prim.Native.Nat.{ℕ, _+_, _*_, _-_, _/_, _<_, _≤_, min}
-use lib.ListN.{length, set}
+use lib.ListN.{length}
 use Rattle.packed_arcs.specs.Entries.{entry}
 
 -- The key of a vertex that is not reached.
@@ -89,7 +88,7 @@ pub data ParentArc (N : ResidualNetwork) (key : List ℕ) (code : ℕ) (v : ℕ)
 abbrev pub ParentTree : ResidualNetwork → List ℕ → List ℕ → Type 0
 ParentTree N key par = (v : ℕ) → v < length key → entry key v < unreached → 0 < entry key v → ParentArc N key (entry par v) v
 
--- The sum of the entries, which falls with each pass but the last.
+-- The sum of the entries.
 unfoldable pub sum : List ℕ → ℕ
 sum [] = 0
 sum (a ∷ l) = a + sum l
@@ -101,29 +100,6 @@ pub record LoweredKeys (N : ResidualNetwork) (key par key' par' : List ℕ) : Ty
   pub below : (v : ℕ) → entry key' v ≤ entry key v
   pub roots : (v : ℕ) → v < length key → entry key' v ≡ 0 → entry key v ≡ 0
   pub tree : ParentTree N key par → ParentTree N key' par'
-
--- The outcome of lowering by one residual arc from u to v.
-pub data LowerOutcome (u v len code : ℕ) (key par key' par' : List ℕ) : Bool → Type 0 where
-  lowered :
-      entry key u < unreached → keyBeyond (entry key u) len < entry key v → key' ≡ set key v (keyBeyond (entry key u) len) → par' ≡ set par v code
-      → LowerOutcome u v len code key par key' par' true
-  kept : (entry key u < unreached → entry key v ≤ keyBeyond (entry key u) len) → key' ≡ key → par' ≡ par → LowerOutcome u v len code key par key' par' false
-
--- What came of relaxing: the sum of the keys fell, or nothing changed and P holds.
-pub data Progress (P : Type 0) (key par key' par' : List ℕ) : Bool → Type 0 where
-  fell : sum key' < sum key → Progress P key par key' par' true
-  stayed : key' ≡ key → par' ≡ par → P → Progress P key par key' par' false
-
--- What relaxing takes for granted.
-pub record SearchReady (N : ResidualNetwork) (key par : List ℕ) : Type 0 where
-  pub sized : WithinLimits N (length key)
-  pub nonnegative : NonnegativeReducedCosts N
-  pub par-len : length par ≡ length key
-
--- What relaxing gives back.
-pub record Relaxation (N : ResidualNetwork) (P : Type 0) (key par key' par' : List ℕ) (r : Bool) : Type 0 where
-  pub keeps : LoweredKeys N key par key' par'
-  pub went : Progress P key par key' par' r
 
 -- The arcs below n are relaxed.
 abbrev pub AllRelaxed : ResidualNetwork → List ℕ → ℕ → Type 0

@@ -4,6 +4,8 @@ ghost use mathlib.Core.Path.{_≡_};
 ghost use Prim.Native.Nat.{ℕ, _<_, _≤_};
 ghost use lib.ListN.{length};
 ghost use Rattle.packed_arcs.specs.Entries.{entry};
+ghost use Rattle.packed_arcs.specs.PackedArcs.{tailsOf, headsOf};
+ghost use Rattle.arc_index.specs.Chains.{Chains};
 ghost use Rattle.engine.specs.PackedNetwork.{PackedSolved, PackedPhaseState};
 ghost use Rattle.engine.specs.Phase.{Nearest};
 ghost use Rattle.engine.specs.Residual.{RaisedPotentials};
@@ -60,6 +62,8 @@ fn nearest(need: &[u32], key: &[u32]) -> usize
 // Moves supply to where it is needed, at least cost, until no vertex with need is reached.
 pub(crate) fn run(
     arcs: &[u64],
+    out: &[u16],
+    into: &[u16],
     x: &mut [u16],
     pi: &mut [u32],
     left: &mut [u32],
@@ -68,11 +72,11 @@ pub(crate) fn run(
     par: &mut [u16],
 )
     requires { ⌜ (length (now key) ≡ length (now left)) × (length (now par) ≡ length (now left)) ⌝ }
-    requires { ⌜ PackedPhaseState (now arcs) (now x) (now pi) (now left) (now need) ⌝ }
+    requires { ⌜ Chains (tailsOf (now arcs)) (now out) × Chains (headsOf (now arcs)) (now into) × PackedPhaseState (now arcs) (now x) (now pi) (now left) (now need) ⌝ }
     ensures { λ _. ⌜ PackedSolved (now (arcs .entry)) (now (x .entry)) (now (pi .entry)) (now (left .entry)) (now (need .entry)) (now (x .exit)) (now (pi .exit)) (now (left .exit)) (now (need .exit)) (now (key .exit)) (now (par .exit)) ⌝ }
 {
     loop {
-        search(arcs, x, pi, left, key, par);
+        search(arcs, out, into, x, pi, left, key, par);
         let t = nearest(need, key);
         if t < key.len() {
             raise(key[t], key, pi);

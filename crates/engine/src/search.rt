@@ -1,110 +1,176 @@
-// A search over the residual network, from every vertex with supply left: passes over the arcs until no key falls.
-// A vertex's key is 256 × its reduced distance + the arcs on its path; the code of a residual arc is e for the arc e forward, 4096 + e backward.
+// A search over the residual network, from every vertex with supply left: the vertex that waits with the least key is taken, and the residual arcs from it are looked at along the two indices.
+// A vertex's key is 256 × its reduced distance + the arcs on its path; the code of a residual arc is e for the arc e forward, 4096 + e back.
 ghost use mathlib.Core.Path.{_≡_};
-ghost use Prim.Native.Nat.{_<_, _≤_};
+ghost use mathlib.Core.Bool.{true, false};
+ghost use Prim.Native.Nat.{_+_, _<_, _≤_};
 ghost use lib.ListN.{length};
+ghost use Rattle.arc_index.specs.Chains.{Chains};
 ghost use Rattle.engine.specs.PackedNetwork.{residualOf};
-ghost use Rattle.engine.specs.Residual.{AllRelaxed, RelaxedArc, RelaxedBackward, RelaxedForward, NonnegativeReducedCosts, SearchReady, WithinLimits, Relaxation, LowerOutcome};
-ghost use Rattle.engine.specs.Phase.{firstKey, SearchResult, Started};
+ghost use Rattle.engine.specs.Search.{starts, LowerOutcome, RelaxOutcome, SearchReady, Looking, firstCode, Scanned, BackwardIndex};
+ghost use Rattle.packed_arcs.specs.PackedArcs.{tailsOf};
+ghost use Rattle.vertex_queue.specs.VertexQueue.{Holds, nobody};
+ghost use Rattle.engine.specs.Phase.{firstKey, StartOutcome, SearchResult};
 use super::UNREACHED;
 use packed_arcs::arcs::capacity_of;
 use packed_arcs::arcs::cost_of;
 use packed_arcs::arcs::head_of;
 use packed_arcs::arcs::tail_of;
+use vertex_queue::begin;
+use vertex_queue::least;
+use vertex_queue::put;
+use vertex_queue::take;
 
-// Lowers the key of v by a residual arc from u of length len, where that is lower: whether it did.
-fn lower(u: usize, v: usize, len: u32, code: u16, key: &mut [u32], par: &mut [u16]) -> bool
-    requires { ⌜ (u < length (now key)) × (v < length (now key)) × (length (now par) ≡ length (now key)) × (len ≤ 8355585) ⌝ }
-    ensures { λ r. ⌜ LowerOutcome u v len code (now (key .entry)) (now (par .entry)) (now (key .exit)) (now (par .exit)) r ⌝ }
+// The number of an arc as an index of an array.
+fn place(e: u16) -> usize
+    ensures { λ r. ⌜ r ≡ e ⌝ }
 {
-    let k = key[u];
-    if k < UNREACHED {
-        let reach = k + len * 256 + 1;
-        if reach < key[v] {
-            key[v] = reach;
-            par[v] = code;
-            return true;
-        }
-        return false;
-    }
-    false
+    e as usize
 }
 
-// The arc e forward, where it has room: whether a key fell.
+// The key of v is at most reach, by the residual arc of the code: where it falls, v waits with it.
+fn lower(
+    v: usize,
+    reach: u32,
+    code: u16,
+    key: &mut [u32],
+    par: &mut [u16],
+    keys: &mut [u32; 256],
+    low: &mut [u32; 16],
+)
+    requires { ⌜ (v < length (now key)) × (length (now par) ≡ length (now key)) × (v < 256) ⌝ }
+    ensures { λ _. ⌜ LowerOutcome v reach code (now (key .entry)) (now (par .entry)) (now (keys .entry)) (now (low .entry)) (now (key .exit)) (now (par .exit)) (now (keys .exit)) (now (low .exit)) ⌝ }
+{
+    if key[v] <= reach {
+        return;
+    }
+    key[v] = reach;
+    par[v] = code;
+    put(v as u8, reach, keys, low);
+}
+
+// Looks at the arc e forward, whose tail has the key k.
 fn relax_forward(
     e: usize,
+    k: u32,
     arcs: &[u64],
     x: &[u16],
     pi: &[u32],
     key: &mut [u32],
     par: &mut [u16],
-) -> bool
-    requires { ⌜ e < length (now arcs) ⌝ }
-    requires { ⌜ SearchReady (residualOf (now arcs) (now x) (now pi)) (now key) (now par) ⌝ }
-    ensures { λ r. ⌜ Relaxation (residualOf (now (arcs .entry)) (now (x .entry)) (now (pi .entry))) (RelaxedForward (residualOf (now (arcs .entry)) (now (x .entry)) (now (pi .entry))) (now (key .entry)) e) (now (key .entry)) (now (par .entry)) (now (key .exit)) (now (par .exit)) r ⌝ }
+    keys: &mut [u32; 256],
+    low: &mut [u32; 16],
+)
+    requires { ⌜ (e < length (now arcs)) × (k < 2147483648) × (length (now par) ≡ length (now key)) × SearchReady (residualOf (now arcs) (now x) (now pi)) (length (now key)) ⌝ }
+    ensures { λ _. ⌜ RelaxOutcome (residualOf (now (arcs .entry)) (now (x .entry)) (now (pi .entry))) false e k (now (key .entry)) (now (par .entry)) (now (keys .entry)) (now (low .entry)) (now (key .exit)) (now (par .exit)) (now (keys .exit)) (now (low .exit)) ⌝ }
 {
     let arc = arcs[e];
-    if x[e] < capacity_of(arc) {
-        let a = tail_of(arc);
-        let b = head_of(arc);
-        let up = cost_of(arc) + pi[a];
-        let len = up - pi[b];
-        return lower(a, b, len, e as u16, key, par);
+    if capacity_of(arc) <= x[e] {
+        return;
     }
-    false
+    let a = tail_of(arc);
+    let b = head_of(arc);
+    let up = cost_of(arc) + pi[a];
+    let len = up - pi[b];
+    lower(b, k + len * 256 + 1, e as u16, key, par, keys, low);
 }
 
-// The arc e backward, where it carries something: whether a key fell.
+// Looks at the arc e back, whose head has the key k.
 fn relax_backward(
     e: usize,
+    k: u32,
     arcs: &[u64],
     x: &[u16],
     pi: &[u32],
     key: &mut [u32],
     par: &mut [u16],
-) -> bool
-    requires { ⌜ e < length (now arcs) ⌝ }
-    requires { ⌜ SearchReady (residualOf (now arcs) (now x) (now pi)) (now key) (now par) ⌝ }
-    ensures { λ r. ⌜ Relaxation (residualOf (now (arcs .entry)) (now (x .entry)) (now (pi .entry))) (RelaxedBackward (residualOf (now (arcs .entry)) (now (x .entry)) (now (pi .entry))) (now (key .entry)) e) (now (key .entry)) (now (par .entry)) (now (key .exit)) (now (par .exit)) r ⌝ }
+    keys: &mut [u32; 256],
+    low: &mut [u32; 16],
+)
+    requires { ⌜ (e < length (now arcs)) × (k < 2147483648) × (length (now par) ≡ length (now key)) × SearchReady (residualOf (now arcs) (now x) (now pi)) (length (now key)) ⌝ }
+    ensures { λ _. ⌜ RelaxOutcome (residualOf (now (arcs .entry)) (now (x .entry)) (now (pi .entry))) true e k (now (key .entry)) (now (par .entry)) (now (keys .entry)) (now (low .entry)) (now (key .exit)) (now (par .exit)) (now (keys .exit)) (now (low .exit)) ⌝ }
 {
-    if 0 < x[e] {
-        let arc = arcs[e];
-        let a = tail_of(arc);
-        let b = head_of(arc);
-        let up = cost_of(arc) + pi[a];
-        let len = pi[b] - up;
-        return lower(b, a, len, (4096 + e) as u16, key, par);
+    if x[e] <= 0 {
+        return;
     }
-    false
+    let arc = arcs[e];
+    let a = tail_of(arc);
+    let b = head_of(arc);
+    let up = cost_of(arc) + pi[a];
+    let len = pi[b] - up;
+    lower(a, k + len * 256 + 1, (4096 + e) as u16, key, par, keys, low);
 }
 
-// Both directions of the arc e: whether a key fell.
-fn relax(e: usize, arcs: &[u64], x: &[u16], pi: &[u32], key: &mut [u32], par: &mut [u16]) -> bool
-    requires { ⌜ e < length (now arcs) ⌝ }
-    requires { ⌜ SearchReady (residualOf (now arcs) (now x) (now pi)) (now key) (now par) ⌝ }
-    ensures { λ r. ⌜ Relaxation (residualOf (now (arcs .entry)) (now (x .entry)) (now (pi .entry))) (RelaxedArc (residualOf (now (arcs .entry)) (now (x .entry)) (now (pi .entry))) (now (key .entry)) e) (now (key .entry)) (now (par .entry)) (now (key .exit)) (now (par .exit)) r ⌝ }
+// Looks at the arc e, forward or back, from its start at the key k.
+fn relax(
+    back: bool,
+    e: usize,
+    k: u32,
+    arcs: &[u64],
+    x: &[u16],
+    pi: &[u32],
+    key: &mut [u32],
+    par: &mut [u16],
+    keys: &mut [u32; 256],
+    low: &mut [u32; 16],
+)
+    requires { ⌜ (e < length (now arcs)) × (k < 2147483648) × (length (now par) ≡ length (now key)) × SearchReady (residualOf (now arcs) (now x) (now pi)) (length (now key)) ⌝ }
+    ensures { λ _. ⌜ RelaxOutcome (residualOf (now (arcs .entry)) (now (x .entry)) (now (pi .entry))) back e k (now (key .entry)) (now (par .entry)) (now (keys .entry)) (now (low .entry)) (now (key .exit)) (now (par .exit)) (now (keys .exit)) (now (low .exit)) ⌝ }
 {
-    let fell = relax_forward(e, arcs, x, pi, key, par);
-    if relax_backward(e, arcs, x, pi, key, par) {
-        return true;
+    if back {
+        relax_backward(e, k, arcs, x, pi, key, par, keys, low);
+        return;
     }
-    fell
+    relax_forward(e, k, arcs, x, pi, key, par, keys, low);
 }
 
-// One pass over all arcs: whether a key fell.
-fn pass(arcs: &[u64], x: &[u16], pi: &[u32], key: &mut [u32], par: &mut [u16]) -> bool
-    requires { ⌜ SearchReady (residualOf (now arcs) (now x) (now pi)) (now key) (now par) ⌝ }
-    ensures { λ r. ⌜ Relaxation (residualOf (now (arcs .entry)) (now (x .entry)) (now (pi .entry))) (AllRelaxed (residualOf (now (arcs .entry)) (now (x .entry)) (now (pi .entry))) (now (key .entry)) (length (now (arcs .entry)))) (now (key .entry)) (now (par .entry)) (now (key .exit)) (now (par .exit)) r ⌝ }
+// Looks at the residual arcs from u, which was taken with the key k: those forward along the index by tail, or those back along the index by head.
+fn scan(
+    back: bool,
+    u: usize,
+    k: u32,
+    arcs: &[u64],
+    links: &[u16],
+    x: &[u16],
+    pi: &[u32],
+    key: &mut [u32],
+    par: &mut [u16],
+    keys: &mut [u32; 256],
+    low: &mut [u32; 16],
+)
+    requires { ⌜ Chains (starts (residualOf (now arcs) (now x) (now pi)) back) (now links) × (length (now par) ≡ length (now key)) × SearchReady (residualOf (now arcs) (now x) (now pi)) (length (now key)) ⌝ }
+    requires { ⌜ Looking (residualOf (now arcs) (now x) (now pi)) (now key) (now keys) (now low) u k (firstCode back) ⌝ }
+    ensures { λ _. ⌜ Scanned (residualOf (now (arcs .entry)) (now (x .entry)) (now (pi .entry))) back u k (now (key .entry)) (now (par .entry)) (now (keys .entry)) (now (low .entry)) (now (key .exit)) (now (par .exit)) (now (keys .exit)) (now (low .exit)) ⌝ }
 {
-    let mut changed = false;
-    let mut e = 0;
-    while e < arcs.len() {
-        if relax(e, arcs, x, pi, key, par) {
-            changed = true;
-        }
-        e += 1;
+    let mut e = place(links[u]);
+    while e < 4096 {
+        relax(back, e, k, arcs, x, pi, key, par, keys, low);
+        e = place(links[256 + e]);
     }
-    changed
+}
+
+// Looks at every residual arc from u, which was taken with the key k. Where no arc carries anything there is no index by head.
+fn look(
+    u: usize,
+    k: u32,
+    arcs: &[u64],
+    out: &[u16],
+    into: &[u16],
+    x: &[u16],
+    pi: &[u32],
+    key: &mut [u32],
+    par: &mut [u16],
+    keys: &mut [u32; 256],
+    low: &mut [u32; 16],
+)
+    requires { ⌜ Chains (starts (residualOf (now arcs) (now x) (now pi)) false) (now out) × BackwardIndex (residualOf (now arcs) (now x) (now pi)) (now into) × (length (now par) ≡ length (now key)) × SearchReady (residualOf (now arcs) (now x) (now pi)) (length (now key)) ⌝ }
+    requires { ⌜ Looking (residualOf (now arcs) (now x) (now pi)) (now key) (now keys) (now low) u k (firstCode false) ⌝ }
+    ensures { λ _. ⌜ Scanned (residualOf (now (arcs .entry)) (now (x .entry)) (now (pi .entry))) true u k (now (key .entry)) (now (par .entry)) (now (keys .entry)) (now (low .entry)) (now (key .exit)) (now (par .exit)) (now (keys .exit)) (now (low .exit)) ⌝ }
+{
+    scan(false, u, k, arcs, out, x, pi, key, par, keys, low);
+    if into.len() == 0 {
+        return;
+    }
+    scan(true, u, k, arcs, into, x, pi, key, par, keys, low);
 }
 
 fn first_key(supply: u32) -> u32
@@ -116,37 +182,47 @@ fn first_key(supply: u32) -> u32
     UNREACHED
 }
 
-// The keys that a search starts with.
-fn start(left: &[u32], key: &mut [u32])
-    requires { ⌜ length (now key) ≡ length (now left) ⌝ }
-    ensures { λ _. ⌜ Started (now (left .entry)) (now (key .exit)) ⌝ }
+// The keys that a search starts with: the vertices with supply wait.
+fn start(left: &[u32], key: &mut [u32], keys: &mut [u32; 256], low: &mut [u32; 16])
+    requires { ⌜ (length (now key) ≡ length (now left)) × (length (now left) ≤ 255) × Holds (now keys) (now low) nobody ⌝ }
+    ensures { λ _. ⌜ StartOutcome (now (left .entry)) (now (key .exit)) (now (keys .exit)) (now (low .exit)) ⌝ }
 {
     let mut v = 0;
     while v < left.len() {
-        key[v] = first_key(left[v]);
+        let k = first_key(left[v]);
+        key[v] = k;
+        put(v as u8, k, keys, low);
         v += 1;
     }
 }
 
-// One search from all vertices with supply left: passes until no key falls.
+// One search from all vertices with supply left, until nobody waits.
 pub(crate) fn search(
     arcs: &[u64],
+    out: &[u16],
+    into: &[u16],
     x: &[u16],
     pi: &[u32],
     left: &[u32],
     key: &mut [u32],
     par: &mut [u16],
 )
-    requires { ⌜ (length (now key) ≡ length (now left)) × (length (now par) ≡ length (now left)) ⌝ }
-    requires { ⌜ WithinLimits (residualOf (now arcs) (now x) (now pi)) (length (now left)) ⌝ }
-    requires { ⌜ NonnegativeReducedCosts (residualOf (now arcs) (now x) (now pi)) ⌝ }
+    requires { ⌜ (length (now key) ≡ length (now left)) × (length (now par) ≡ length (now left)) × SearchReady (residualOf (now arcs) (now x) (now pi)) (length (now left)) ⌝ }
+    requires { ⌜ Chains (tailsOf (now arcs)) (now out) × BackwardIndex (residualOf (now arcs) (now x) (now pi)) (now into) ⌝ }
     ensures { λ _. ⌜ SearchResult (residualOf (now (arcs .entry)) (now (x .entry)) (now (pi .entry))) (now (left .entry)) (now (key .exit)) (now (par .exit)) ⌝ }
 {
-    start(left, key);
+    let mut keys = [0u32; 256];
+    let mut low = [0u32; 16];
+    begin(&mut keys, &mut low);
+    start(left, key, &mut keys, &mut low);
     loop {
-        let again = pass(arcs, x, pi, key, par);
-        if !again {
-            break;
+        let k = least(&low);
+        if UNREACHED <= k {
+            return;
         }
+        let u = take(&mut keys, &mut low) as usize;
+        look(
+            u, k, arcs, out, into, x, pi, key, par, &mut keys, &mut low,
+        );
     }
 }

@@ -1,53 +1,79 @@
--- `engine::search::search` meets its contract. The loop's invariant: what a lowering of keys keeps. The sum of the keys falls with each pass but the last.
+-- `engine::search::search` meets its contract.
 -- Assumes nothing.
-use mathlib.Core.Path.{sym, subst, _∙_}
-use mathlib.Core.List.{List}
-use Prim.Native.Nat.{ℕ}
-use native.Mathlib.Omega.{arith}
-use borrow.Author.Tests.{not-true, not-false}
-use Rattle.engine.specs.PackedNetwork.{residualOf}
-use Rattle.engine.specs.Residual.{WithinLimits, RelaxedArc, LoweredKeys, SearchReady, sum}
-use Rattle.packed_arcs.proofs.ArcColumns.{columns}
-use Rattle.engine.proofs.FallingKeys.{lower-refl, lower-trans, pass-fell, pass-stayed, ready-lower}
-use Rattle.engine.proofs.PhaseLaws.{found}
 use Rattle.engine.proofs.search.search.Statement.{statement}
 use Rattle.engine.proofs.search.search.Tie as tie
+use Rattle.engine.proofs.search.search.Reads as reads
+use Rattle.engine.proofs.search.search.Lts as lts
+use Rattle.engine.proofs.search.look.Reads as look-reads
+use Rattle.engine.proofs.search.start.Reads as start-reads
+use Rattle.vertex_queue.proofs.begin.Reads as begin-reads
+use Rattle.vertex_queue.proofs.least.Reads as least-reads
+use Rattle.vertex_queue.proofs.take.Reads as take-reads
+use mathlib.Core.Path.{_∙_, sym}
+use native.Mathlib.Omega.{arith}
+use borrow.Author.Needs.{needs}
+use Rattle.engine.specs.PackedNetwork.{residualOf}
+use Rattle.engine.specs.Residual.{LoweredKeys}
+use Rattle.engine.specs.Search.{work}
+use Rattle.engine.proofs.FallingKeys.{lower-refl, lower-trans}
+use Rattle.engine.proofs.PhaseLaws.{found}
+use Rattle.engine.proofs.SearchLaws.{Between, between-start, between-on, take-looking, take-falls, all-relaxed, ready-since}
 
 abbrev Inv-loop : tie.InvT-loop
-Inv-loop arcs x pi left key₀ par₀ key par = LoweredKeys (residualOf arcs x pi) key₀ par₀ key par
+Inv-loop arcs out into x pi left key₀ par₀ keys₀ low₀ key par keys low =
+    LoweredKeys (residualOf arcs x pi) key₀ par₀ key par × Between (residualOf arcs x pi) key keys low
 
 abbrev μ-loop : tie.MeasureT-loop
-μ-loop arcs x pi left key₀ par₀ key par = sum key
+μ-loop arcs out into x pi left key₀ par₀ keys₀ low₀ key par keys low =
+    work key keys
 
--- the first pass may start
-ready : (c : tie.After-start Inv-loop μ-loop) → let a = c .before .before .before .before .before .before .before .before .args in SearchReady (residualOf (a .arcs .now) (a .x .now) (a .pi .now)) (c .start .last .1 .0) (a .par .now)
-ready c =
-    let s = c .before .before .before .before .before .before .before .before in
-    let a = s .args in
-    let len = sym (c .start .ensures .len) in
-    record {
-      sized = subst (λ (z : ℕ). WithinLimits (residualOf (a .arcs .now) (a .x .now) (a .pi .now)) z) len (s .pre .1 .0);
-      nonnegative = s .pre .1 .1;
-      par-len = s .pre .0 .1 ∙ len;
-    }
+-- src/search.rt:216:5
+begin-requires : tie.Need-begin-requires Inv-loop μ-loop
+begin-requires c κs = tt
 
+-- src/search.rt:217:5
+start-requires : tie.Need-start-requires Inv-loop μ-loop
+start-requires c κs = (c .before .before .before .before .before .before .before .before .before .before .before .before .before .before .pre .0 .0, c .before .before .before .before .before .before .before .before .before .before .before .before .before .before .pre .0 .2 .small, c .before .before .before .begin .ensures)
+
+-- src/search.rt:218:5
 loop-holds : tie.Need-loop-holds Inv-loop μ-loop
-loop-holds c =
-    let a = c .before .before .before .before .before .before .before .before .before .before .args in
-    lower-refl (residualOf (a .arcs .now) (a .x .now) (a .pi .now)) (c .before .before .start .last .1 .0) (a .par .now)
+loop-holds c = (lower-refl _ _ _, between-start (c .before .before .before .before .before .before .before .before .before .before .before .before .before .before .before .before .before .pre .0 .2) (c .before .before .start .ensures))
 
+-- src/search.rt:219:13
+least-requires : tie.Need-least-requires Inv-loop μ-loop
+least-requires c κs = tt
+
+-- src/search.rt:221:13
+same-length : tie.Need-same-length Inv-loop μ-loop
+same-length c = c .before .before .before .loop .inv .0 .key-len ∙ c .before .before .before .before .before .before .start .kept .1 .0
+
+-- src/search.rt:221:13
+same-length-2 : tie.Need-same-length-2 Inv-loop μ-loop
+same-length-2 c = c .before .before .before .loop .inv .0 .par-len
+
+-- src/search.rt:221:13
 returns : tie.Need-returns Inv-loop μ-loop
-returns c =
-    let p = c .before .before .before .before .before in
-    let started = c .before .before .before .before .before .before .before .before .before .before .before in
-    let s = started .before .before .before .before .before .before .before .before in
-    let a = s .args in
-    let q = pass-stayed (p .pass .ensures) (not-true _ (c .if1 .taken)) in
-    found (residualOf (a .arcs .now) (a .x .now) (a .pi .now)) (a .left .now) _ _ _ _ (started .start .ensures) (s .pre .0 .1) (record {
-      keeps = lower-trans (p .before .before .before .loop .inv) (p .pass .ensures .keeps);
-      relaxed = λ e h.
-          subst (λ (k : List ℕ). RelaxedArc (residualOf (a .arcs .now) (a .x .now) (a .pi .now)) k e) (sym (q .0)) (q .1 e (omega (arith, columns (a .arcs .now))));
-    })
+returns c = let i = c .before .before .before .loop .inv in found _ _ _ _ _ _ (c .before .before .before .before .before .before .start .ensures .started) (c .before .before .before .before .before .before .before .before .before .before .before .before .before .before .before .before .before .before .before .before .before .pre .0 .1) (record { keeps = i .0; relaxed = all-relaxed (ready-since (c .before .before .before .before .before .before .before .before .before .before .before .before .before .before .before .before .before .before .before .before .before .pre .0 .2) (c .before .before .before .before .before .before .start .ensures .started) (i .0)) (i .1) (omega (arith, c .if1 .taken, c .before .least .ensures)) })
+
+-- src/search.rt:223:17
+take-requires : tie.Need-take-requires Inv-loop μ-loop
+take-requires c κs = tt
+
+-- src/search.rt:223:17
+cast-u : tie.Need-cast-u Inv-loop μ-loop
+cast-u c = search needs
+
+-- src/search.rt:224:9
+look-requires : tie.Need-look-requires Inv-loop μ-loop
+look-requires c κs = let i = c .before .before .before .before .before .before .before .before .before .before .loop .inv in let R = ready-since (c .before .before .before .before .before .before .before .before .before .before .before .before .before .before .before .before .before .before .before .before .before .before .before .before .before .before .before .before .pre .0 .2) (c .before .before .before .before .before .before .before .before .before .before .before .before .before .start .ensures .started) (i .0) in ((c .before .before .before .before .before .before .before .before .before .before .before .before .before .before .before .before .before .before .before .before .before .before .before .before .before .before .before .before .pre .1 .0, c .before .before .before .before .before .before .before .before .before .before .before .before .before .before .before .before .before .before .before .before .before .before .before .before .before .before .before .before .pre .1 .1, i .0 .par-len ∙ c .before .before .before .before .before .before .before .before .before .before .before .before .before .before .before .before .before .before .before .before .before .before .before .before .before .before .before .before .pre .0 .1 ∙ sym (c .before .before .before .before .before .before .before .before .before .before .before .before .before .start .ensures .started .len) ∙ sym (i .0 .key-len), R), rw (c .before .before .before .before .take .ensures .0, c .before .before .before .before .before .before .before .before .least .ensures) (take-looking R (i .1) (omega (arith, c .before .before .before .before .before .before .before .if1 .left, c .before .before .before .before .before .before .before .before .least .ensures)) (c .before .before .before .before .take .ensures .1)))
+
+-- src/search.rt:218:5
+loop-less : tie.Need-loop-less Inv-loop μ-loop
+loop-less c = let i = c .before .before .before .before .before .before .before .before .before .before .before .before .before .before .before .loop .inv in let R = ready-since (c .before .before .before .before .before .before .before .before .before .before .before .before .before .before .before .before .before .before .before .before .before .before .before .before .before .before .before .before .before .before .before .before .before .pre .0 .2) (c .before .before .before .before .before .before .before .before .before .before .before .before .before .before .before .before .before .before .start .ensures .started) (i .0) in omega (arith, c .before .before .before .before .look .ensures .falls, take-falls R (i .1) (omega (arith, c .before .before .before .before .before .before .before .before .before .before .before .before .if1 .left, c .before .before .before .before .before .before .before .before .before .before .before .before .before .least .ensures)) (c .before .before .before .before .before .before .before .before .before .take .ensures .1))
+
+-- src/search.rt:218:5
+loop-again : tie.Need-loop-again Inv-loop μ-loop
+loop-again c = let i = c .before .before .before .before .before .before .before .before .before .before .before .before .before .before .before .loop .inv in let k = lower-trans (i .0) (c .before .before .before .before .look .ensures .keeps) in (k, between-on (ready-since (c .before .before .before .before .before .before .before .before .before .before .before .before .before .before .before .before .before .before .before .before .before .before .before .before .before .before .before .before .before .before .before .before .before .pre .0 .2) (c .before .before .before .before .before .before .before .before .before .before .before .before .before .before .before .before .before .before .start .ensures .started) k) (c .before .before .before .before .look .ensures .looking))
 
 pub search-spec : {M : Type 1} → statement M
 search-spec =
@@ -55,11 +81,15 @@ search-spec =
     (tie.spec
     Inv-loop
     μ-loop
-    (λ c κs. c .before .before .before .before .before .before .before .pre .0 .0)
+    begin-requires
+    start-requires
     loop-holds
-    (λ c κs. ready-lower (ready (c .before .before .before .before .before)) (c .before .before .loop .inv))
-    (λ c. pass-fell (c .before .before .before .before .before .pass .ensures) (not-false _ (c .if1 .left)))
-    (λ c. let p = c .before .before .before .before .before in lower-trans (p .before .before .before .loop .inv) (p .pass .ensures .keeps))
-    (λ c. let p = c .before .before .before .before .before in lower-trans (p .before .before .before .loop .inv) (p .pass .ensures .keeps) .key-len ∙ c .before .before .before .before .before .before .before .before .before .before .before .start .kept .1 .0)
-    (λ c. let p = c .before .before .before .before .before in lower-trans (p .before .before .before .loop .inv) (p .pass .ensures .keeps) .par-len)
-    returns)
+    least-requires
+    same-length
+    same-length-2
+    returns
+    take-requires
+    cast-u
+    look-requires
+    loop-less
+    loop-again)
