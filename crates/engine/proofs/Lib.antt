@@ -7,4 +7,3 @@ pub mod PhaseLaws
 pub mod LastSearch
 pub mod StartState
 pub mod CallOutcomes
-pub mod Conserving

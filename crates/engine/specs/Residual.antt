@@ -2,10 +2,10 @@
 -- Assumes nothing.
 use mathlib.Core.Path.{_≡_}
 use mathlib.Core.Bool.{Bool, true, false}
-use mathlib.Core.List.{List, [], _∷_}
+use mathlib.Core.List.{List}
 use Prim.Native.Nat.{ℕ, _+_, _*_, _-_, _/_, _<_, _≤_, min}
 use lib.ListN.{length, set}
-use Rattle.packed_arcs.specs.Entries.{entry}
+use Rattle.packed_arcs.specs.Entries.{entry, sum}
 
 -- The key of a vertex that is not reached.
 abbrev pub unreached : ℕ
@@ -89,11 +89,6 @@ pub data ParentArc (N : ResidualNetwork) (key : List ℕ) (code : ℕ) (v : ℕ)
 abbrev pub ParentTree : ResidualNetwork → List ℕ → List ℕ → Type 0
 ParentTree N key par = (v : ℕ) → v < length key → entry key v < unreached → 0 < entry key v → ParentArc N key (entry par v) v
 
--- The sum of the entries, which falls with each pass but the last.
-unfoldable pub sum : List ℕ → ℕ
-sum [] = 0
-sum (a ∷ l) = a + sum l
-
 -- What a lowering of keys keeps.
 pub record LoweredKeys (N : ResidualNetwork) (key par key' par' : List ℕ) : Type 0 where
   pub key-len : length key' ≡ length key
@@ -109,7 +104,7 @@ pub data LowerOutcome (u v len code : ℕ) (key par key' par' : List ℕ) : Bool
       → LowerOutcome u v len code key par key' par' true
   kept : (entry key u < unreached → entry key v ≤ keyBeyond (entry key u) len) → key' ≡ key → par' ≡ par → LowerOutcome u v len code key par key' par' false
 
--- What came of relaxing: the sum of the keys fell, or nothing changed and P holds.
+-- What came of relaxing: the sum of the keys fell, as it does with each pass but the last, or nothing changed and P holds.
 pub data Progress (P : Type 0) (key par key' par' : List ℕ) : Bool → Type 0 where
   fell : sum key' < sum key → Progress P key par key' par' true
   stayed : key' ≡ key → par' ≡ par → P → Progress P key par key' par' false

@@ -8,13 +8,10 @@ use packed_arcs::limits::is_solvable;
 use phases::run;
 use sending::search_and_push;
 
-mod labels;
 mod phases;
-mod preflow;
 mod push;
 mod search;
 mod sending;
-mod shifting;
 
 // The key of a vertex that is not reached.
 pub const UNREACHED: u32 = 2147483648;

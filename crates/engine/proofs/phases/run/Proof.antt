@@ -2,7 +2,7 @@
 -- Assumes nothing.
 use mathlib.Core.Path.{sym, _∙_}
 use Rattle.packed_arcs.specs.PackedArcs.{tailsOf, headsOf, costsOf, capacitiesOf}
-use Rattle.engine.specs.Residual.{sum}
+use Rattle.packed_arcs.specs.Entries.{sum}
 use Rattle.engine.proofs.PhaseLaws.{Running, running-first, running, linked, need-inside, offset, phase, target-ok, target-none}
 use Rattle.engine.proofs.phases.run.Statement.{statement}
 use Rattle.engine.proofs.phases.run.Tie as tie

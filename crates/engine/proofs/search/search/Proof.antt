@@ -5,8 +5,9 @@ use mathlib.Core.List.{List}
 use Prim.Native.Nat.{ℕ}
 use native.Mathlib.Omega.{arith}
 use borrow.Author.Tests.{not-true, not-false}
+use Rattle.packed_arcs.specs.Entries.{sum}
 use Rattle.engine.specs.PackedNetwork.{residualOf}
-use Rattle.engine.specs.Residual.{WithinLimits, RelaxedArc, LoweredKeys, SearchReady, sum}
+use Rattle.engine.specs.Residual.{WithinLimits, RelaxedArc, LoweredKeys, SearchReady}
 use Rattle.packed_arcs.proofs.ArcColumns.{columns}
 use Rattle.engine.proofs.FallingKeys.{lower-refl, lower-trans, pass-fell, pass-stayed, ready-lower}
 use Rattle.engine.proofs.PhaseLaws.{found}
