@@ -1,1 +1,2 @@
 pub mod Preflow
+pub mod Outcome
