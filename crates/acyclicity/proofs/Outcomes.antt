@@ -17,7 +17,8 @@ use Rattle.packed_arcs.proofs.ListLoops.{each-entry}
 use Rattle.arc_index.specs.ArcIndex.{noArc}
 use Rattle.arc_index.specs.Chains.{Chains}
 use Rattle.arc_index.specs.declared.End.the-variants.{Head}
-use Rattle.arc_index.proofs.Ends.{Built, links-built, chains-built}
+use Rattle.arc_index.proofs.Building.{Built, links-built}
+use Rattle.arc_index.proofs.Ends.{record-chains}
 use Rattle.arc_index.specs.Columns.{tailsOf, headsOf}
 use Rattle.acyclicity.specs.Search.{joinsBelow, searchable, SearchOutcome}
 use Rattle.acyclicity.specs.Steps.{Arcs, Chained, ClosedPath, OrderOrCycle}
@@ -39,10 +40,10 @@ closed-as {n} {n'} {tails} {heads} {into} {path} {spot} {len} q C = subst (λ (k
 
 -- ---- the index of the arcs by head, as it was built
 
-pub chained-built : (rs links₀ links : List ℕ) {n : ℕ} → Arcs n (tailsOf rs) (headsOf rs) → length links₀ ≡ 256 + length rs → Built Head rs links₀ links → Chained n (tailsOf rs) (headsOf rs) links
+pub chained-built : (rs links₀ links : List ℕ) {n : ℕ} → Arcs n (tailsOf rs) (headsOf rs) → length links₀ ≡ 256 + length rs → Built rs (headsOf rs) links₀ links → Chained n (tailsOf rs) (headsOf rs) links
 chained-built rs links₀ links A q b =
     let few : length rs ≤ noArc = omega (arith, A .few, tails-len rs) in
-    record { arcs = A; chains = subst (Chains (headsOf rs)) (sym (links-built Head rs links₀ links few q b)) (chains-built Head rs few) }
+    record { arcs = A; chains = subst (Chains (headsOf rs)) (sym (links-built rs (headsOf rs) links₀ links few q b)) (record-chains Head rs few) }
 
 -- ---- what passes the test
 

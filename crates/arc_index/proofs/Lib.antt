@@ -2,6 +2,7 @@ pub mod Filled
 pub mod Growing
 pub mod Chains
 pub mod ChainSteps
+pub mod Building
 pub mod Ends
 pub mod Walks
 pub mod Promises

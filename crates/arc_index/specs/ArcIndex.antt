@@ -9,6 +9,7 @@ use Rattle.prelude.specs.Choice.{pick}
 use Rattle.prelude.specs.Lists.{listTo}
 use Rattle.network.specs.Network.{wordArc, wordArcs}
 use Rattle.packed_arcs.specs.Entries.{entry}
+use Rattle.packed_arcs.specs.PackedArcs.{tailOf, headOf, tailsOf, headsOf}
 use Rattle.arc_index.specs.declared.End.{End}
 use Rattle.arc_index.specs.declared.End.the-variants.{Tail, Head}
 
@@ -80,6 +81,20 @@ abbrev pub endsOf : End → List ℕ → List ℕ
 endsOf Tail rs = map (λ e. e .tail) (wordArcs rs)
 endsOf Head rs = map (λ e. e .head) (wordArcs rs)
 
--- What is indexed: few enough records, and links for the vertices and for each record.
+-- ---- of packed arcs
+
+-- The end of a packed arc: its tail, or its head.
+abbrev pub packedEnd : End → ℕ → ℕ
+packedEnd Tail arc = tailOf arc
+packedEnd Head arc = headOf arc
+
+-- The ends of packed arcs: their tails, or their heads.
+abbrev pub packedEnds : End → List ℕ → List ℕ
+packedEnds Tail arcs = tailsOf arcs
+packedEnds Head arcs = headsOf arcs
+
+-- ---- of both
+
+-- What is indexed: few enough arcs, and links for the vertices and for each arc.
 abbrev pub indexable : List ℕ → List ℕ → Bool
-indexable rs links = leb (length rs) noArc && eqb (length links) (256 + length rs)
+indexable arcs links = leb (length arcs) noArc && eqb (length links) (256 + length arcs)

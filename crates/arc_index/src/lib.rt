@@ -8,6 +8,8 @@ ghost use Rattle.prelude.specs.Lists.{listTo};
 ghost use Rattle.arc_index.specs.ArcIndex.{noArc, indexOf, addedBelow, indexFrom, linksOf, endOf, endsOf, indexable};
 use network::arc_in;
 
+pub mod packed;
+
 // What stands where there is no arc.
 pub const NO_ARC: u16 = 4096;
 

@@ -1,21 +1,15 @@
 -- Keys that fall: what a lowering of keys keeps, and potentials raised by keys.
 -- Assumes nothing.
 use mathlib.Core.Path.{_≡_, refl, sym, ap, subst, _∙_}
-use mathlib.Core.List.{List, [], _∷_}
+use mathlib.Core.List.{List}
 use mathlib.Core.Logic.{⊎-elim}
-use Prim.Native.Nat.{ℕ, zero, suc, _+_, _-_, _/_, _<_, _≤_, min}
+use Prim.Native.Nat.{ℕ, _+_, _-_, _/_, _<_, _≤_, min}
 use native.Mathlib.Omega.{arith}
 use lib.ListN.{length, set, length-set}
 use lib.Seq.{getD-set-same, getD-set-other}
 use Rattle.packed_arcs.specs.Entries.{entry}
 use Rattle.packed_arcs.proofs.ListLoops.{set-cases}
-use Rattle.engine.specs.Residual.{unreached, ResidualNetwork, tail, head, keyBeyond, ParentArc, ParentTree, sum, LoweredKeys}
-
-pub sum-set : (l : List ℕ) (v k : ℕ) → v < length l → k < entry l v → sum (set l v k) < sum l
-unfolding sum
-sum-set [] v k h g = omega arith
-sum-set (a ∷ l) zero k h g = omega arith
-sum-set (a ∷ l) (suc v) k h g = omega (arith, sum-set l v k (omega arith) g)
+use Rattle.engine.specs.Residual.{unreached, ResidualNetwork, tail, head, keyBeyond, ParentArc, ParentTree, LoweredKeys}
 
 pub lower-refl : (N : ResidualNetwork) (key par : List ℕ) → LoweredKeys N key par key par
 lower-refl N key par = record { key-len = refl; par-len = refl; below = λ v. omega arith; roots = λ v h e. e; tree = λ t. t }

@@ -14,11 +14,11 @@ use mir.Syntax.{w64}
 use mir.Val.{Fits}
 use Rattle.packed_arcs.specs.Entries.{entry, flowAt}
 use Rattle.packed_arcs.proofs.ListLoops.{set-cases}
+use Rattle.packed_arcs.proofs.Sums.{sum-set}
 use Rattle.engine.specs.Residual.{unreached, ResidualNetwork, residual, WithinLimits, ParentArc, LoweredKeys, AllRelaxed, RaisedPotentials}
 use Rattle.prelude.specs.Choice.{indicator}
 use Rattle.engine.specs.Push.{ParentLink, PushReady, Augmentable, Moved, residualCapacity}
 use Rattle.engine.specs.Phase.{firstKey, Started, SearchResult, NearestSoFar, Nearest, PhaseState, Advanced}
-use Rattle.engine.proofs.FallingKeys.{sum-set}
 use Rattle.engine.proofs.PushedAmounts.{left-sub}
 use Rattle.engine.proofs.PotentialBounds.{in-range, moved-nonnegative}
 

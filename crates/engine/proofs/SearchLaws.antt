@@ -11,18 +11,19 @@ use lib.Dec.{ltb}
 use lib.ListN.{length, set, length-set, getD-replicate}
 use borrow.Author.Tests.{lt-ltb, le-ltb}
 use Rattle.prelude.specs.Choice.{indicator}
-use Rattle.packed_arcs.specs.Entries.{entry}
+use Rattle.packed_arcs.specs.Entries.{entry, sum}
 use Rattle.packed_arcs.proofs.ListLoops.{set-cases}
+use Rattle.packed_arcs.proofs.Sums.{sum-set}
 use Rattle.arc_index.specs.ArcIndex.{noArc, firstArc, nextArc}
 use Rattle.arc_index.specs.Chains.{First, Chains}
 use Rattle.arc_index.proofs.ChainSteps.{is-arc, none-between, none-left} 
 use Rattle.arc_index.proofs.ChainSteps as steps
 use Rattle.vertex_queue.specs.VertexQueue.{waitsNot, Kept, Holds, nobody, putIn, takenOut, leastVertex, leastEntry}
 use Rattle.vertex_queue.proofs.Laws.{begin-kept, put-kept, take-kept, taken-key, none-waits, vertex-below}
-use Rattle.engine.specs.Residual.{unreached, ResidualNetwork, keyBeyond, WithinLimits, ParentArc, LoweredKeys, RelaxedArc, AllRelaxed, sum}
+use Rattle.engine.specs.Residual.{unreached, ResidualNetwork, keyBeyond, WithinLimits, ParentArc, LoweredKeys, RelaxedArc, AllRelaxed}
 use Rattle.engine.specs.Search.{startOf, finishOf, IsResidual, lengthOf, codeOf, starts, Relaxed, LowerOutcome, RelaxOutcome, SearchReady, waiting, work, SearchState, Looking, firstCode, endCode, Scanned, BackwardIndex}
 use Rattle.engine.specs.Phase.{Started, firstKey, StartOutcome}
-use Rattle.engine.proofs.FallingKeys.{sum-set, lower-refl, lower-trans, lower-one}
+use Rattle.engine.proofs.FallingKeys.{lower-refl, lower-trans, lower-one}
 
 -- ---- residual arcs, forward or back
 

@@ -7,9 +7,9 @@ use Prim.Native.Nat.{ℕ, _+_, _<_, _≤_}
 use lib.Dec.{ltb}
 use lib.ListN.{length}
 use Rattle.prelude.specs.Choice.{pick}
-use Rattle.packed_arcs.specs.Entries.{entry, flowAt}
+use Rattle.packed_arcs.specs.Entries.{entry, flowAt, sum}
 use Rattle.vertex_queue.specs.VertexQueue.{waitsNot, Kept}
-use Rattle.engine.specs.Residual.{unreached, ResidualNetwork, residual, WithinLimits, NonnegativeReducedCosts, ParentTree, AllRelaxed, sum}
+use Rattle.engine.specs.Residual.{unreached, ResidualNetwork, residual, WithinLimits, NonnegativeReducedCosts, ParentTree, AllRelaxed}
 
 -- The key that a search starts with: 0 where supply is left.
 abbrev pub firstKey : ℕ → ℕ

@@ -1,7 +1,7 @@
 -- The residual network of a list of arcs, and keys and parents of its vertices.
 -- Assumes nothing.
 use mathlib.Core.Path.{_≡_}
-use mathlib.Core.List.{List, [], _∷_}
+use mathlib.Core.List.{List}
 use Prim.Native.Nat.{ℕ, _+_, _*_, _-_, _/_, _<_, _≤_, min}
 use lib.ListN.{length}
 use Rattle.packed_arcs.specs.Entries.{entry}
@@ -87,11 +87,6 @@ pub data ParentArc (N : ResidualNetwork) (key : List ℕ) (code : ℕ) (v : ℕ)
 -- Every vertex that is reached is a root (key 0) or has a parent arc.
 abbrev pub ParentTree : ResidualNetwork → List ℕ → List ℕ → Type 0
 ParentTree N key par = (v : ℕ) → v < length key → entry key v < unreached → 0 < entry key v → ParentArc N key (entry par v) v
-
--- The sum of the entries.
-unfoldable pub sum : List ℕ → ℕ
-sum [] = 0
-sum (a ∷ l) = a + sum l
 
 -- What a lowering of keys keeps.
 pub record LoweredKeys (N : ResidualNetwork) (key par key' par' : List ℕ) : Type 0 where

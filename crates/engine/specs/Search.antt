@@ -7,10 +7,10 @@ use Prim.Native.Nat.{ℕ, _+_, _*_, _-_, _/_, _<_, _≤_, min}
 use lib.Dec.{ltb}
 use lib.ListN.{length, set}
 use Rattle.prelude.specs.Choice.{indicator}
-use Rattle.packed_arcs.specs.Entries.{entry}
+use Rattle.packed_arcs.specs.Entries.{entry, sum}
 use Rattle.arc_index.specs.Chains.{Chains}
 use Rattle.vertex_queue.specs.VertexQueue.{waitsNot, Kept}
-use Rattle.engine.specs.Residual.{unreached, ResidualNetwork, tail, head, raisedCost, headPotential, WithinLimits, NonnegativeReducedCosts, keyBeyond, LoweredKeys, sum}
+use Rattle.engine.specs.Residual.{unreached, ResidualNetwork, tail, head, raisedCost, headPotential, WithinLimits, NonnegativeReducedCosts, keyBeyond, LoweredKeys}
 
 -- ---- residual arcs: the arc e forward, or back
 

@@ -18,7 +18,8 @@ use Rattle.packed_arcs.proofs.ListLoops.{each-entry}
 use Rattle.arc_index.specs.ArcIndex.{noArc, linksOf, endsOf, indexable}
 use Rattle.arc_index.specs.Chains.{Chains}
 use Rattle.arc_index.specs.declared.End.the-variants.{Head}
-use Rattle.arc_index.proofs.Ends.{Built, links-built, chains-built}
+use Rattle.arc_index.proofs.Building.{Built, links-built}
+use Rattle.arc_index.proofs.Ends.{record-chains}
 use Rattle.arc_index.specs.Columns.{tailsOf, headsOf, weightsOf}
 use Rattle.matching.specs.Matching.{Bipartite, Noted, State}
 use Rattle.matching.specs.Outcome.{leadsAcross, matchable, Amounts, Marks, Perfect, Deficient, FindOutcome}
@@ -99,11 +100,11 @@ matchable-facts rs h n xs ok =
 
 -- ---- nothing is matched yet
 
-pub begun : (rs links₀ : List ℕ) {h n : ℕ} {links mate pi : List ℕ} → Bipartite h n (tailsOf rs) (headsOf rs) (weightsOf rs) → length links₀ ≡ 256 + length rs → Built Head rs links₀ links
+pub begun : (rs links₀ : List ℕ) {h n : ℕ} {links mate pi : List ℕ} → Bipartite h n (tailsOf rs) (headsOf rs) (weightsOf rs) → length links₀ ≡ 256 + length rs → Built rs (headsOf rs) links₀ links
     → mate ≡ replicate n noArc → pi ≡ zeroList n → State h n (tailsOf rs) (headsOf rs) (weightsOf rs) links mate pi
 begun rs links₀ {h} {n} {links} {mate} {pi} G l q em ep = record {
   graph = G;
-  index = subst (Chains (headsOf rs)) (sym (links-built Head rs links₀ links few l q)) (chains-built Head rs few);
+  index = subst (Chains (headsOf rs)) (sym (links-built rs (headsOf rs) links₀ links few l q)) (record-chains Head rs few);
   pairs = record { len = rw em (length-replicate n noArc); each = λ v b. inl (bare v b) };
   priced = record {
     len = rw ep (length-replicate n 0);

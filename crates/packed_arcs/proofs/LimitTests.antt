@@ -38,7 +38,7 @@ pub record Fitting (arcs : List ℕ) (amounts n : ℕ) : Type 0 where
   pub one-each : amounts ≡ length arcs
   pub each : (e : ℕ) → e < length arcs → T (arcFits n (entry arcs e))
 
-fitting : (arcs : List ℕ) (amounts n : ℕ) → T (arcsFit arcs amounts n) → Fitting arcs amounts n
+pub fitting : (arcs : List ℕ) (amounts n : ℕ) → T (arcsFit arcs amounts n) → Fitting arcs amounts n
 fitting arcs amounts n t =
     let three = and-left (leb n 255 && leb (length arcs) 4096 && eqb amounts (length arcs)) (all (arcFits n) arcs) t in
     let two = and-left (leb n 255 && leb (length arcs) 4096) (eqb amounts (length arcs)) three in

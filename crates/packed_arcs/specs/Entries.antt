@@ -1,4 +1,4 @@
--- Lists of numbers: their entries, zeros and how many there are, and the sum of amounts at a vertex.
+-- Lists of numbers: their entries and the sum of them, zeros and how many there are, and the sum of amounts at a vertex.
 -- Assumes nothing.
 use mathlib.Core.List.{List, [], _∷_}
 use Prim.Native.Nat.{ℕ, zero, suc, _+_, _*_}
@@ -19,6 +19,11 @@ unfoldable pub zeros : List ℕ → ℕ
 zeros [] = 0
 zeros (zero ∷ l) = 1 + zeros l
 zeros (suc a ∷ l) = zeros l
+
+-- The sum of the entries.
+unfoldable pub sum : List ℕ → ℕ
+sum [] = 0
+sum (a ∷ l) = a + sum l
 
 -- The sum of x over the arcs whose vertex in the column is w.
 unfoldable pub flowAt : List ℕ → List ℕ → ℕ → ℕ

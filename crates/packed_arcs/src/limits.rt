@@ -33,7 +33,7 @@ fn each_fits(n: usize, arcs: &[u64]) -> bool
 }
 
 // Are there few enough vertices and arcs, an amount for each arc, and does each arc fit?
-fn arcs_fit(arcs: &[u64], amounts: usize, n: usize) -> bool
+pub fn arcs_fit(arcs: &[u64], amounts: usize, n: usize) -> bool
     ensures { λ r. ⌜ r ≡ arcsFit (now (arcs .entry)) amounts n ⌝ }
 {
     if 255 < n {

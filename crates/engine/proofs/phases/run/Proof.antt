@@ -10,7 +10,7 @@ use Rattle.engine.proofs.push.push.Reads as push-reads
 use Rattle.engine.proofs.search.search.Reads as search-reads
 use mathlib.Core.Path.{sym, _∙_}
 use Rattle.packed_arcs.specs.PackedArcs.{tailsOf, headsOf, costsOf, capacitiesOf}
-use Rattle.engine.specs.Residual.{sum}
+use Rattle.packed_arcs.specs.Entries.{sum}
 use Rattle.engine.specs.Search.BackwardIndex.{indexed}
 use Rattle.engine.proofs.PhaseLaws.{Running, running-first, running, linked, need-inside, offset, phase, target-ok, target-none}
 

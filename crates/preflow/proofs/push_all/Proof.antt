@@ -1,0 +1,45 @@
+-- `preflow::push_all` meets its contract.
+-- Assumes nothing.
+use native.Mathlib.Omega.{arith}
+use Rattle.preflow.specs.Preflow.{Links}
+use Rattle.preflow.proofs.Conserving.{moves-then, ready-then, sizes, out-links, into-links}
+use borrow.Author.Needs.{needs}
+use Rattle.preflow.proofs.push_all.Statement.{statement}
+use Rattle.preflow.proofs.push_all.Tie as tie
+
+by-tail : (s : tie.Start) → Links (s .args .arcs .now) (s .args .out .now)
+by-tail s = out-links (s .args .arcs .now) (s .args .out .now) (s .pre .1 .0)
+
+by-head : (s : tie.Start) → Links (s .args .arcs .now) (s .args .into .now)
+by-head s = into-links (s .args .arcs .now) (s .args .into .now) (s .pre .1 .1)
+
+label-from-requires : tie.Need-label-from-requires
+label-from-requires c κs =
+    let s = c .before .before .before .before .before .before .before .before in
+    let z = sizes _ _ _ (s .pre .1 .2) in
+    (omega (arith, s .pre .0 .1, z .small), z .x-len, by-tail s, by-head s)
+
+push-to-sink-requires : tie.Need-push-to-sink-requires
+push-to-sink-requires c κs =
+    let s = c .before .before .before .before .before .before .before .before .before .before .before .before in (s .pre .0 .0, (by-tail s, by-head s, s .pre .1 .2))
+
+push-to-source-requires : tie.Need-push-to-source-requires
+push-to-source-requires c κs =
+    let s = c .before .before .before .before .before .before .before .before .before .before .before .before .before .before .before .before .before .before .before .before .before in
+    let m = c .before .before .before .before .before .before .before .before .push-to-sink .ensures in
+    (omega (arith, s .pre .0 .0, m .left-len), (by-tail s, by-head s, ready-then (s .pre .1 .2) m))
+
+returns : tie.Need-returns
+returns c =
+    moves-then (c .before .before .before .before .before .before .before .before .before .before .before .before .before .push-to-sink .ensures) (c .before .before .before .before .push-to-source .ensures)
+
+pub push-all-spec : {M : Type 1} → statement M
+push-all-spec =
+    tie.close
+    (tie.spec
+    label-from-requires
+    push-to-sink-requires
+    push-to-source-requires
+    (λ c. search needs)
+    (λ c. search needs)
+    returns)

@@ -1,0 +1,31 @@
+-- `preflow::sink::supply` meets its contract.
+-- Assumes nothing.
+use native.Mathlib.Omega.{arith}
+use Rattle.preflow.proofs.Conserving.{ArcFacts, arc-facts, moves-none}
+use borrow.Author.Needs.{needs}
+use Rattle.preflow.proofs.sink.supply.Statement.{statement}
+use Rattle.preflow.proofs.sink.supply.Tie as tie
+
+facts : (s : tie.Start) → ArcFacts (s .args .arcs .now) (s .args .x .now) (s .args .left .now) (s .args .e)
+facts s = arc-facts (s .args .arcs .now) (s .args .x .now) (s .args .left .now) (s .args .e) (s .pre .0) (s .pre .1)
+
+slice-read-activate : tie.Need-slice-read-activate
+slice-read-activate c =
+    omega (arith, facts (c .before .before .before .before .before .before .before .before) .head, c .before .before .before .head-of .ensures)
+
+pub supply-spec : {M : Type 1} → statement M
+supply-spec =
+    tie.close
+    (tie.spec
+    (λ c. search needs)
+    (λ c. search needs)
+    (λ c κs. search needs)
+    (λ c. search needs)
+    (λ c. let s = c .before .before .before .before .before .before .before .args in moves-none (s .arcs .now) (s .x .now) (s .left .now))
+    (λ c. search needs)
+    slice-read-activate
+    (λ c κs. search needs)
+    (λ c κs. c .before .before .before .before .before .before .before .before .before .before .before .before .pre)
+    (λ c. search needs)
+    (λ c. search needs)
+    (λ c. c .before .before .before .before .shift-forward .ensures))

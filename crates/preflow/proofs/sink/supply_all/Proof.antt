@@ -1,0 +1,45 @@
+-- `preflow::sink::supply_all` meets its contract. The loop's invariant: what moved so far is conserved.
+-- Assumes nothing.
+use Prim.Native.Nat.{_-_}
+use native.Mathlib.Omega.{arith}
+use Rattle.preflow.specs.Preflow.{Moves}
+use Rattle.preflow.proofs.Conserving.{moves-none, moves-then, ready-then}
+use Rattle.preflow.proofs.sink.supply_all.Statement.{statement}
+use Rattle.preflow.proofs.sink.supply_all.Tie as tie
+
+abbrev Inv-loop : tie.InvT-loop
+Inv-loop first arcs out label bucket₀ x₀ left₀ e₀ bucket x left e = Moves arcs x₀ left₀ x left
+
+abbrev μ-loop : tie.MeasureT-loop
+μ-loop first arcs out label bucket₀ x₀ left₀ e₀ bucket x left e = 4096 - e
+
+supply-requires : tie.Need-supply-requires Inv-loop μ-loop
+supply-requires c κs =
+    (c .before .before .before .loop-test .taken, ready-then (c .before .before .before .before .before .before .before .before .before .pre .1) (c .before .before .before .before .loop .inv))
+
+next-arc-requires : tie.Need-next-arc-requires Inv-loop μ-loop
+next-arc-requires c κs =
+    omega (arith, c .before .before .before .before .before .before .before .before .before .before .before .before .before .before .pre .0 .len, c .before .before .before .before .before .before .before .before .loop-test .taken)
+
+loop-less : tie.Need-loop-less Inv-loop μ-loop
+loop-less c =
+    omega (arith, c .before .before .before .before .before .before .before .before .before .before .before .before .before .before .before .pre .0 .few, c .before .before .before .before .before .before .before .before .before .before .before .before .before .before .before .pre .0 .later (c .before .before .before .before .before .before .before .before .before .before .loop .e) (c .before .before .before .before .before .before .before .before .before .loop-test .taken), c .next-arc .ensures, c .before .before .before .before .before .before .before .before .before .loop-test .taken)
+
+loop-again : tie.Need-loop-again Inv-loop μ-loop
+loop-again c =
+    moves-then (c .before .before .before .before .before .before .before .before .before .before .loop .inv) (c .before .before .before .before .before .supply .ensures)
+
+pub supply-all-spec : {M : Type 1} → statement M
+supply-all-spec =
+    tie.close
+    (tie.spec
+    Inv-loop
+    μ-loop
+    (λ c. let s = c .before .before .before .before .args in moves-none (s .arcs .now) (s .x .now) (s .left .now))
+    supply-requires
+    next-arc-requires
+    loop-less
+    loop-again
+    (λ c. c .before .loop .inv .x-len)
+    (λ c. c .before .loop .inv .left-len)
+    (λ c. c .before .loop .inv))

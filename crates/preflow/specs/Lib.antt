@@ -1,0 +1,2 @@
+pub mod Preflow
+pub mod Outcome

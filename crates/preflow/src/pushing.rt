@@ -1,0 +1,181 @@
+// Pushing what stands at a vertex to vertices one label lower: forward along its arcs that have room, and back along those into it that carry something.
+ghost use Prim.Native.Nat.{_<_};
+ghost use lib.ListN.{length};
+ghost use Rattle.preflow.specs.Preflow.{Links, Ready, Moves};
+use super::labels::first_arc;
+use super::labels::index_of;
+use super::labels::next_arc;
+use super::labels::place;
+use super::shifting::shift_backward;
+use super::shifting::shift_forward;
+use packed_arcs::arcs::capacity_of;
+use packed_arcs::arcs::head_of;
+use packed_arcs::arcs::tail_of;
+
+// Puts v first into the bucket of the label l, where nothing stood at v: else it is in one already.
+// A bucket is a list: its first vertex stands at l, the next one after v at 256 + v, and 255 is none.
+pub(crate) fn activate(v: usize, l: u8, stood: u32, bucket: &mut [u8; 512])
+    requires { ⌜ v < 256 ⌝ }
+{
+    if stood != 0 {
+        return;
+    }
+    let i = index_of(l);
+    bucket[256 + v] = bucket[i];
+    bucket[i] = v as u8;
+}
+
+// Pushes along the arc e, where it has room and its head has the label l: is nothing left at its tail?
+fn give_forward(
+    e: usize,
+    l: u8,
+    arcs: &[u64],
+    label: &[u8; 256],
+    bucket: &mut [u8; 512],
+    x: &mut [u16],
+    left: &mut [u32],
+) -> bool
+    requires { ⌜ (e < length (now arcs)) × Ready (now arcs) (now x) (now left) ⌝ }
+    ensures { λ _. ⌜ Moves (now (arcs .entry)) (now (x .entry)) (now (left .entry)) (now (x .exit)) (now (left .exit)) ⌝ }
+{
+    let arc = arcs[e];
+    let b = head_of(arc);
+    if label[b] != l {
+        return false;
+    }
+    if capacity_of(arc) <= x[e] {
+        return false;
+    }
+    activate(b, l, left[b], bucket);
+    shift_forward(e, arcs, x, left) == 0
+}
+
+// Pushes back along the arc e, where it carries something and its tail has the label l: is nothing left at its head?
+fn give_backward(
+    e: usize,
+    l: u8,
+    arcs: &[u64],
+    label: &[u8; 256],
+    bucket: &mut [u8; 512],
+    x: &mut [u16],
+    left: &mut [u32],
+) -> bool
+    requires { ⌜ (e < length (now arcs)) × Ready (now arcs) (now x) (now left) ⌝ }
+    ensures { λ _. ⌜ Moves (now (arcs .entry)) (now (x .entry)) (now (left .entry)) (now (x .exit)) (now (left .exit)) ⌝ }
+{
+    let a = tail_of(arcs[e]);
+    if label[a] != l {
+        return false;
+    }
+    if x[e] == 0 {
+        return false;
+    }
+    activate(a, l, left[a], bucket);
+    shift_backward(e, arcs, x, left) == 0
+}
+
+// Pushes along the arcs with the tail of e, from e on, to vertices with the label l: the arc where nothing was left, or 4096.
+fn push_out(
+    first: usize,
+    l: u8,
+    arcs: &[u64],
+    out: &[u16],
+    label: &[u8; 256],
+    bucket: &mut [u8; 512],
+    x: &mut [u16],
+    left: &mut [u32],
+) -> usize
+    requires { ⌜ Links (now arcs) (now out) × Ready (now arcs) (now x) (now left) ⌝ }
+    ensures { λ _. ⌜ Moves (now (arcs .entry)) (now (x .entry)) (now (left .entry)) (now (x .exit)) (now (left .exit)) ⌝ }
+{
+    let mut e = first;
+    while e < arcs.len() {
+        if give_forward(e, l, arcs, label, bucket, x, left) {
+            return e;
+        }
+        e = next_arc(e, out);
+    }
+    4096
+}
+
+// Pushes back along the arcs with the head of e, from e on, to vertices with the label l: the arc where nothing was left, or 4096.
+fn push_into(
+    first: usize,
+    l: u8,
+    arcs: &[u64],
+    into: &[u16],
+    label: &[u8; 256],
+    bucket: &mut [u8; 512],
+    x: &mut [u16],
+    left: &mut [u32],
+) -> usize
+    requires { ⌜ Links (now arcs) (now into) × Ready (now arcs) (now x) (now left) ⌝ }
+    ensures { λ _. ⌜ Moves (now (arcs .entry)) (now (x .entry)) (now (left .entry)) (now (x .exit)) (now (left .exit)) ⌝ }
+{
+    let mut e = first;
+    while e < arcs.len() {
+        if give_backward(e, l, arcs, label, bucket, x, left) {
+            return e;
+        }
+        e = next_arc(e, into);
+    }
+    4096
+}
+
+// The arc into v where a push with the code c goes on: codes from 8192 on are arcs back, others start at the first.
+fn resumed(v: usize, c: u16, into: &[u16]) -> usize
+    requires { ⌜ v < length (now into) ⌝ }
+{
+    if c < 8192 {
+        return first_arc(v, into);
+    }
+    place(c - 8192)
+}
+
+// The code of the arc e forward.
+fn forward_code(e: usize) -> u16 {
+    if e < 4096 {
+        return e as u16;
+    }
+    4096
+}
+
+// The code of the arc e backward.
+fn backward_code(e: usize) -> u16 {
+    if e < 4096 {
+        return (8192 + e) as u16;
+    }
+    12288
+}
+
+// The label below l; 0 has none below.
+fn below(l: u8) -> u8 {
+    if 0 < l {
+        return l - 1;
+    }
+    255
+}
+
+// Pushes what stands at v to vertices one label lower, from the code c of an arc on: the code where nothing was left.
+pub(crate) fn push_from(
+    v: usize,
+    c: u16,
+    arcs: &[u64],
+    out: &[u16],
+    into: &[u16],
+    label: &[u8; 256],
+    bucket: &mut [u8; 512],
+    x: &mut [u16],
+    left: &mut [u32],
+) -> u16
+    requires { ⌜ v < 256 ⌝ }
+    requires { ⌜ Links (now arcs) (now out) × Links (now arcs) (now into) × Ready (now arcs) (now x) (now left) ⌝ }
+    ensures { λ _. ⌜ Moves (now (arcs .entry)) (now (x .entry)) (now (left .entry)) (now (x .exit)) (now (left .exit)) ⌝ }
+{
+    let l = below(label[v]);
+    let e = push_out(place(c), l, arcs, out, label, bucket, x, left);
+    if e < 4096 {
+        return forward_code(e);
+    }
+    backward_code(push_into(resumed(v, c, into), l, arcs, into, label, bucket, x, left))
+}
