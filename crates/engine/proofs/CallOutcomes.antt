@@ -1,55 +1,99 @@
 -- The outcomes of the engine's two calls, from the test's result u, which the code negates, and from what the work after it gave.
 -- Assumes nothing.
 use mathlib.Core.Path.{_≡_, refl, sym, ap, _∙_, subst}
-use mathlib.Core.Bool.{Bool, true, false, not}
+use mathlib.Core.Bool.{Bool, true, false, not, _&&_, false≢true}
 use mathlib.Core.List.{List}
-use Prim.Native.Nat.{ℕ}
+use mathlib.Core.Logic.{_⊎_, inl, inr}
+use Prim.Native.Nat.{ℕ, _+_, _<_, _≤_}
+use native.Mathlib.Omega.{arith}
+use lib.Dec.{eqb, ltb, leb}
 use lib.ListN.{length, take, length-replicate}
 use Rattle.packed_arcs.specs.Entries.{zeroList}
-use Rattle.packed_arcs.specs.Limits.{solvable, sendable}
-use Rattle.engine.specs.PackedNetwork.{PackedPhaseState, PackedSolved}
-use Rattle.engine.specs.Calls.{SolveOutcome, SearchAndPush, SendOutcome}
+use Rattle.packed_arcs.specs.PackedArcs.{tailsOf, headsOf}
+use Rattle.packed_arcs.specs.Limits.{arcsFit, sendable}
+use Rattle.arc_index.specs.Chains.{Chains}
+use Rattle.arc_index.specs.declared.End.the-variants.{Tail}
+use Rattle.arc_index.proofs.Building.{Built, links-built}
+use Rattle.arc_index.proofs.Ends.{packed-chains}
+use Rattle.preflow.specs.Preflow.{PackedConserved}
+use Rattle.preflow.specs.Outcome.{preflowable, standingAt, PreflowOutcome}
+use Rattle.preflow.proofs.Outcomes.{Preflowable, preflowable-facts}
+use Rattle.engine.specs.PackedNetwork.{PackedPhaseState}
+use Rattle.engine.specs.Calls.{solvable, SolveReady, Finished, SolveOutcome, SearchAndPush, SendOutcome}
 use Rattle.engine.specs.declared.Sent.{Sent}
 use Rattle.engine.specs.declared.Sent.the-variants.{Refused}
 use Rattle.packed_arcs.proofs.LentParts.{zero-list-part}
 use Rattle.prelude.proofs.Tested.{passed, refused as failed}
-use Rattle.packed_arcs.proofs.LimitTests.{Solvable, solvable-facts, Sendable, sendable-facts}
+use Rattle.prelude.proofs.Booleans.{and-right, true→T, T→true, fails}
+use Rattle.packed_arcs.proofs.LimitTests.{Fitting, Sendable, sendable-facts}
+use Rattle.engine.proofs.Settled.{standing-len}
 use Rattle.engine.proofs.StartState.{start-state}
 
 -- lists that were cleared, as long as there are arcs and vertices
 cleared : {x₁ : List ℕ} {k m : ℕ} → x₁ ≡ zeroList k → k ≡ m → x₁ ≡ zeroList m
 cleared e h = e ∙ ap zeroList h
 
-module _ (arcs x pi left need key : List ℕ) (u : Bool) (e : u ≡ solvable arcs (length x) (length pi) (length left) (length need) (length key)) where
-  pub solve-refused : not u ≡ true → SolveOutcome arcs x pi left need key x pi left need key false
-  solve-refused h = SolveOutcome.refused (failed (solvable arcs (length x) (length pi) (length left) (length need) (length key)) u h e) refl refl refl refl refl
+module _ (arcs : List ℕ) (s t supply : ℕ) (x key : List ℕ) where
+  solve-facts : solvable arcs s t supply (length x) (length key) ≡ true → Preflowable arcs s t supply (length x) (length key) (256 + length arcs) (256 + length arcs)
+  solve-facts = preflowable-facts arcs s t supply (length x) (length key) (256 + length arcs) (256 + length arcs)
 
-  module _ (h : not u ≡ false) where
-    ok : solvable arcs (length x) (length pi) (length left) (length need) (length key) ≡ true
-    ok = passed (solvable arcs (length x) (length pi) (length left) (length need) (length key)) u h e
+  -- too many vertices or arcs
+  pub too-large : 255 < length key ⊎ 4096 < length arcs → SolveOutcome arcs s t supply x key x key false
+  too-large h = SolveOutcome.refused (fails (solvable arcs s t supply (length x) (length key)) (λ ok. not-both h (solve-facts (T→true (solvable arcs s t supply (length x) (length key)) ok) .fit))) refl refl
+    where
+      not-both : 255 < length key ⊎ 4096 < length arcs → Fitting arcs (length x) (length key) → ⊥
+      not-both (inl q) F = omega (arith, F .small)
+      not-both (inr q) F = omega (arith, F .few)
 
-    pub solve-facts : Solvable arcs (length x) (length pi) (length left) (length need) (length key)
-    solve-facts = solvable-facts arcs (length x) (length pi) (length left) (length need) (length key) ok
+  -- after a preflow over lists of the right lengths
+  module _ {left out into x' left' out' into' : List ℕ} {u : Bool} (ll : length left ≡ length key) (ol : length out ≡ 256 + length arcs) (il : length into ≡ 256 + length arcs)
+      (P : PreflowOutcome arcs s t supply x left out into x' left' out' into' u) where
+    as-solvable : {b : Bool} → preflowable arcs s t supply (length x) (length left) (length out) (length into) ≡ b → solvable arcs s t supply (length x) (length key) ≡ b
+    as-solvable e = rw (ll, ol, il) at e
 
-    -- after the amounts and the potentials were cleared
-    module _ {x₁ pi₁ : List ℕ} (no-amounts : x₁ ≡ zeroList (length x)) (no-potentials : pi₁ ≡ zeroList (length pi)) where
-      no-x : x₁ ≡ zeroList (length arcs)
-      no-x = cleared no-amounts (solve-facts .fit .one-each)
+    pub solve-refused : not u ≡ true → SolveOutcome arcs s t supply x key x' key false
+    solve-refused h = go P h
+      where
+        go : {v : Bool} → PreflowOutcome arcs s t supply x left out into x' left' out' into' v → not v ≡ true → SolveOutcome arcs s t supply x key x' key false
+        go (PreflowOutcome.refused e ex el eo ei) q = SolveOutcome.refused (as-solvable e) ex refl
+        go (PreflowOutcome.moved e a b c) q = absurd (false≢true q)
 
-      no-pi : pi₁ ≡ zeroList (length left)
-      no-pi = cleared no-potentials (solve-facts .pi-len)
+    module _ (h : not u ≡ false) where
+      moved : (solvable arcs s t supply (length x) (length key) ≡ true) × Chains (tailsOf arcs) out' × Chains (headsOf arcs) into' × PackedConserved arcs (standingAt (length key) s supply) x' left'
+      moved = go P h
+        where
+          go : {v : Bool} → PreflowOutcome arcs s t supply x left out into x' left' out' into' v → not v ≡ false
+              → (solvable arcs s t supply (length x) (length key) ≡ true) × Chains (tailsOf arcs) out' × Chains (headsOf arcs) into' × PackedConserved arcs (standingAt (length key) s supply) x' left'
+          go (PreflowOutcome.refused e ex el eo ei) q = absurd (false≢true (sym q))
+          go (PreflowOutcome.moved e a b c) q = (as-solvable e, a, b, subst (λ (n : ℕ). PackedConserved arcs (standingAt n s supply) x' left') ll c)
 
-      pub solve-starts : PackedPhaseState arcs x₁ pi₁ left need
-      solve-starts =
-          subst (λ (l : List ℕ). PackedPhaseState arcs l pi₁ left need) (sym no-x)
-          (subst (λ (l : List ℕ). PackedPhaseState arcs (zeroList (length arcs)) l left need) (sym no-pi)
-          (start-state (solve-facts .fit) left need refl (solve-facts .need-len)))
+      facts : Preflowable arcs s t supply (length x) (length key) (256 + length arcs) (256 + length arcs)
+      facts = solve-facts (moved .0)
 
-      pub solve-ends : {x' pi' left' need' key' par' : List ℕ} → PackedSolved arcs x₁ pi₁ left need x' pi' left' need' key' par'
-          → SolveOutcome arcs x pi left need key x' pi' left' need' key' true
-      solve-ends {x'} {pi'} {left'} {need'} {key'} {par'} s = SolveOutcome.solved ok par'
-          (subst (λ (l : List ℕ). PackedSolved arcs (zeroList (length arcs)) l left need x' pi' left' need' key' par') no-pi
-          (subst (λ (l : List ℕ). PackedSolved arcs l pi₁ left need x' pi' left' need' key' par') no-x s))
+      pub left-size : length left' ≡ length key
+      left-size = moved .3 .left-len ∙ standing-len (length key) s supply (facts .source)
+
+      pub solve-ready : SolveReady arcs s t (length left') × PackedConserved arcs (standingAt (length left') s supply) x' left'
+      solve-ready = (
+        record {
+          source = omega (arith, left-size, facts .source);
+          sink = omega (arith, left-size, facts .sink);
+          fit = subst (λ (n : ℕ). arcsFit arcs (length arcs) n ≡ true) (sym left-size) (fitted (moved .0));
+        },
+        subst (λ (n : ℕ). PackedConserved arcs (standingAt n s supply) x' left') (sym left-size) (moved .3),
+      )
+        where
+          fitted : solvable arcs s t supply (length x) (length key) ≡ true → arcsFit arcs (length arcs) (length key) ≡ true
+          fitted e = subst (λ (k : ℕ). arcsFit arcs k (length key) ≡ true) (facts .fit .one-each) (T→true (arcsFit arcs (length x) (length key)) (and-right (ltb s (length key) && ltb t (length key) && leb supply 2147483648 && eqb (256 + length arcs) (256 + length arcs) && eqb (256 + length arcs) (256 + length arcs)) (arcsFit arcs (length x) (length key)) (true→T (solvable arcs s t supply (length x) (length key)) e)))
+
+      pub by-tail : Chains (tailsOf arcs) out'
+      by-tail = moved .1
+
+      pub by-head : Chains (headsOf arcs) into'
+      by-head = moved .2
+
+      pub solve-ends : {x″ key″ : List ℕ} → Finished arcs s t supply (length left') x″ key″ → SolveOutcome arcs s t supply x key x″ key″ true
+      solve-ends {x″} {key″} F = SolveOutcome.solved (moved .0) (subst (λ (n : ℕ). Finished arcs s t supply n x″ key″) left-size F)
 
 module _ (arcs : List ℕ) (t want : ℕ) (x left key : List ℕ) (u : Bool) (e : u ≡ sendable arcs t (length x) (length left) (length key)) where
   pub send-refused : not u ≡ true → SendOutcome arcs t want x left key x left key Refused
@@ -83,3 +127,7 @@ module _ (arcs : List ℕ) (t want : ℕ) (x left key : List ℕ) (u : Bool) (e 
       send-ends {x'} {left'} {key'} {r} s = SendOutcome.answered may begin
           (subst (λ (l : List ℕ). SearchAndPush arcs (zeroList (length arcs)) l left x' left' key' t want r) flat
           (subst (λ (l : List ℕ). SearchAndPush arcs l (take (length left) (zeroList 255)) left x' left' key' t want r) none s))
+
+-- the index by tail that was built
+pub indexed-tails : (arcs links links' : List ℕ) → length arcs ≤ 4096 → length links ≡ 256 + length arcs → Built arcs (tailsOf arcs) links links' → Chains (tailsOf arcs) links'
+indexed-tails arcs links links' few l b = subst (Chains (tailsOf arcs)) (sym (links-built arcs (tailsOf arcs) links links' few l b)) (packed-chains Tail arcs few)

@@ -7,4 +7,5 @@ pub mod PushedAmounts
 pub mod PhaseLaws
 pub mod LastSearch
 pub mod StartState
+pub mod Settled
 pub mod CallOutcomes

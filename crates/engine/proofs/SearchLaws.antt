@@ -16,7 +16,7 @@ use Rattle.packed_arcs.proofs.ListLoops.{set-cases}
 use Rattle.packed_arcs.proofs.Sums.{sum-set}
 use Rattle.arc_index.specs.ArcIndex.{noArc, firstArc, nextArc}
 use Rattle.arc_index.specs.Chains.{First, Chains}
-use Rattle.arc_index.proofs.ChainSteps.{is-arc, none-between, none-left} 
+use Rattle.arc_index.proofs.ChainSteps.{is-arc, none-between, none-left}
 use Rattle.arc_index.proofs.ChainSteps as steps
 use Rattle.vertex_queue.specs.VertexQueue.{waitsNot, Kept, Holds, nobody, putIn, takenOut, leastVertex, leastEntry}
 use Rattle.vertex_queue.proofs.Laws.{begin-kept, put-kept, take-kept, taken-key, none-waits, vertex-below}

@@ -221,8 +221,6 @@ pub(crate) fn search(
             return;
         }
         let u = take(&mut keys, &mut low) as usize;
-        look(
-            u, k, arcs, out, into, x, pi, key, par, &mut keys, &mut low,
-        );
+        look(u, k, arcs, out, into, x, pi, key, par, &mut keys, &mut low);
     }
 }

@@ -1,6 +1,6 @@
 -- The tests of what the engine is handed, and what it is to pass them.
 -- Assumes nothing.
-use mathlib.Core.Path.{_≡_, ap}
+use mathlib.Core.Path.{_≡_, ap, _∙_}
 use mathlib.Core.Bool.{true, false, _&&_}
 use mathlib.Core.List.{List}
 use Prim.Native.Nat.{ℕ, _<_, _≤_}
@@ -13,7 +13,7 @@ use Rattle.prelude.specs.Lists.{all}
 use Rattle.prelude.proofs.Booleans.{and-left, and-right, true→T}
 use Rattle.packed_arcs.specs.Entries.{entry}
 use Rattle.packed_arcs.specs.PackedArcs.{tailOf, headOf, costOf, tailsOf, headsOf, costsOf}
-use Rattle.packed_arcs.specs.Limits.{arcFits, arcsFit, solvable, sendable}
+use Rattle.packed_arcs.specs.Limits.{arcFits, arcsFit, isFree, sendable}
 use Rattle.packed_arcs.proofs.ListLoops.{each-entry}
 use Rattle.packed_arcs.proofs.ArcColumns.{tail-at, head-at, cost-at}
 
@@ -47,24 +47,6 @@ fitting arcs amounts n t =
       few = leb→le (length arcs) 4096 (and-right (leb n 255) (leb (length arcs) 4096) two);
       one-each = eqb→eq amounts (length arcs) (and-right (leb n 255 && leb (length arcs) 4096) (eqb amounts (length arcs)) three);
       each = each-entry (arcFits n) arcs (and-right (leb n 255 && leb (length arcs) 4096 && eqb amounts (length arcs)) (all (arcFits n) arcs) t);
-    }
-
-pub record Solvable (arcs : List ℕ) (amounts potentials n needs keys : ℕ) : Type 0 where
-  pub fit : Fitting arcs amounts n
-  pub pi-len : potentials ≡ n
-  pub need-len : needs ≡ n
-  pub key-len : keys ≡ n
-
-pub solvable-facts : (arcs : List ℕ) (amounts potentials n needs keys : ℕ) → solvable arcs amounts potentials n needs keys ≡ true → Solvable arcs amounts potentials n needs keys
-solvable-facts arcs amounts potentials n needs keys ok =
-    let t = true→T (solvable arcs amounts potentials n needs keys) ok in
-    let three = and-left (eqb potentials n && eqb needs n && eqb keys n) (arcsFit arcs amounts n) t in
-    let two = and-left (eqb potentials n && eqb needs n) (eqb keys n) three in
-    record {
-      fit = fitting arcs amounts n (and-right (eqb potentials n && eqb needs n && eqb keys n) (arcsFit arcs amounts n) t);
-      pi-len = eqb→eq potentials n (and-left (eqb potentials n) (eqb needs n) two);
-      need-len = eqb→eq needs n (and-right (eqb potentials n) (eqb needs n) two);
-      key-len = eqb→eq keys n (and-right (eqb potentials n && eqb needs n) (eqb keys n) three);
     }
 
 pub record Sendable (arcs : List ℕ) (t amounts n keys : ℕ) : Type 0 where
@@ -105,3 +87,7 @@ module _ {arcs : List ℕ} {amounts n : ℕ} (F : Fitting arcs amounts n) where
           let k = entry arcs e in
           omega (arith, cost-at arcs e, leb→le (costOf k) 32767 (and-right (ltb (tailOf k) n && ltb (headOf k) n) (leb (costOf k) 32767) (F .each e h)))
       go (no h) = omega (arith, List·getD-eq-default (costsOf arcs) 0 {n = e} (omega (arith, length-map arcs costOf)))
+
+-- arcs that cost nothing
+pub no-cost : (arcs : List ℕ) → all isFree arcs ≡ true → (e : ℕ) → e < length arcs → entry (costsOf arcs) e ≡ 0
+no-cost arcs ok e h = cost-at arcs e ∙ eqb→eq (costOf (entry arcs e)) 0 (each-entry isFree arcs (true→T (all isFree arcs) ok) e h)

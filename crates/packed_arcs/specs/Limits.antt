@@ -1,4 +1,4 @@
--- The limits of what the engine takes, as tests: the arcs, and what its two calls answer.
+-- The limits of what the engine takes, as tests.
 -- Assumes nothing.
 use mathlib.Core.Bool.{Bool, _&&_}
 use mathlib.Core.List.{List}
@@ -16,9 +16,9 @@ arcFits n arc = ltb (tailOf arc) n && ltb (headOf arc) n && leb (costOf arc) 327
 abbrev pub arcsFit : List ℕ → ℕ → ℕ → Bool
 arcsFit arcs amounts n = leb n 255 && leb (length arcs) 4096 && eqb amounts (length arcs) && all (arcFits n) arcs
 
--- What `solve` answers: arcs that fit, and for each of n vertices a potential, a need and a key.
-abbrev pub solvable : List ℕ → ℕ → ℕ → ℕ → ℕ → ℕ → Bool
-solvable arcs amounts potentials n needs keys = eqb potentials n && eqb needs n && eqb keys n && arcsFit arcs amounts n
+-- The packed arc costs nothing.
+abbrev pub isFree : ℕ → Bool
+isFree arc = eqb (costOf arc) 0
 
 -- What `send` answers: arcs that fit, a key for each of n vertices, and a vertex t to send to.
 abbrev pub sendable : List ℕ → ℕ → ℕ → ℕ → ℕ → Bool

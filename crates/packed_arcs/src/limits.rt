@@ -1,7 +1,7 @@
 // What the engine takes for granted, tested: at most 255 vertices and 4096 arcs, lists of the right lengths, and arcs that join vertices at a cost of at most 32767.
 ghost use mathlib.Core.Path.{_≡_};
 ghost use Rattle.prelude.specs.Lists.{all};
-ghost use Rattle.packed_arcs.specs.Limits.{arcFits, arcsFit, solvable, sendable};
+ghost use Rattle.packed_arcs.specs.Limits.{arcFits, arcsFit, isFree, sendable};
 use super::arcs::cost_of;
 use super::arcs::head_of;
 use super::arcs::tail_of;
@@ -48,27 +48,24 @@ pub fn arcs_fit(arcs: &[u64], amounts: usize, n: usize) -> bool
     each_fits(n, arcs)
 }
 
-// Is this what `solve` answers?
-pub fn is_solvable(
-    arcs: &[u64],
-    amounts: usize,
-    potentials: usize,
-    n: usize,
-    needs: usize,
-    keys: usize,
-) -> bool
-    ensures { λ r. ⌜ r ≡ solvable (now (arcs .entry)) amounts potentials n needs keys ⌝ }
+fn costs_nothing(arc: u64) -> bool
+    ensures { λ r. ⌜ r ≡ isFree arc ⌝ }
 {
-    if potentials != n {
-        return false;
+    cost_of(arc) == 0
+}
+
+// Does no arc cost anything?
+pub fn all_free(arcs: &[u64]) -> bool
+    ensures { λ r. ⌜ r ≡ all isFree (now (arcs .entry)) ⌝ }
+{
+    let mut e = 0;
+    while e < arcs.len() {
+        if !costs_nothing(arcs[e]) {
+            return false;
+        }
+        e += 1;
     }
-    if needs != n {
-        return false;
-    }
-    if keys != n {
-        return false;
-    }
-    arcs_fit(arcs, amounts, n)
+    true
 }
 
 // Is this what `send` answers?

@@ -15,7 +15,6 @@ use lib.ListN.{length}
 use Rattle.engine.specs.Search.RelaxOutcome.{absent}
 use Rattle.engine.proofs.ArcReads.{ArcRead, places, limits, not-positive, looked-back}
 
-
 -- the arc's three numbers, once the last of them is read
 read : (c : tie.After-cost-of) →
     let a = c .before .before .before .before .before .before .before .before .before .before .before .args in

@@ -17,7 +17,6 @@ use Rattle.packed_arcs.proofs.ArcColumns.{capacity-at}
 use Rattle.engine.specs.Search.RelaxOutcome.{absent}
 use Rattle.engine.proofs.ArcReads.{ArcRead, places, limits, not-negative, looked-forward}
 
-
 -- the arc's three numbers, once the last of them is read
 read : (c : tie.After-cost-of) →
     let a = c .before .before .before .before .before .before .before .before .before .before .before .before .args in
