@@ -1,31 +1,33 @@
--- What the engine is handed: packed arcs, supplies and demands that it answers; and what it hands back, as a run of the question.
+-- What the engine is handed: packed arcs within its limits; and what it hands back for a flow.
 -- Assumes nothing.
 use mathlib.Core.Path.{_≡_, refl, sym, _∙_, ap, subst}
 use mathlib.Core.Bool.{Bool, true, false, _&&_, false≢true}
-use mathlib.Core.List.{List, [], _∷_, _++_, map}
-use Prim.Native.Nat.{ℕ, _<_, _≤_}
+use mathlib.Core.List.{List, [], _∷_, map}
+use Prim.Native.Nat.{ℕ, _+_, _*_, _<_, _≤_}
 use native.Mathlib.Omega.{arith}
+use native.Mathlib.Decide.{ℕ-discrete}
 use lib.Dec.{eqb, ltb, leb}
 use borrow.Author.Tests.{lt-ltb, le-leb, eq-eqb}
-use lib.ListN.{length, replicate, take, drop, length-map}
-use lib.Seq.{length-take-le}
+use lib.ListN.{length, length-map}
 use Rattle.prelude.specs.Choice.{indicator}
 use Rattle.prelude.specs.Lists.{Every, all}
 use Rattle.network.specs.Limits.{mostVertices, mostArcs, mostWeight, mostPotential}
 use Rattle.network.specs.Network.{Arc, wordArc, wordArcs}
-use Rattle.network.specs.Question.{Question, shortestPath, maximumFlow, assignment, acyclicity, Setting, WeightWithin, unasked, asks, unitCost, Admissible}
-use Rattle.network.proofs.Sums.{Inside}
+use Rattle.network.specs.Question.{Question, shortestPath, maximumFlow, assignment, acyclicity, Setting, TwoVertices, EndsFor, WeightWithin, unasked, asks, unitCost, Admissible}
+use Rattle.network.proofs.Sums.{Inside, delta-same, delta-other}
 use Rattle.packed_arcs.specs.Entries.{entry, zeroList}
 use Rattle.packed_arcs.specs.PackedArcs.{tailOf, headOf, costOf}
-use Rattle.packed_arcs.specs.Limits.{arcFits, arcsFit, solvable}
+use Rattle.packed_arcs.specs.Limits.{arcFits, arcsFit}
+use Rattle.preflow.specs.Outcome.{standingAt}
+use Rattle.engine.specs.Phase.{Solved}
 use Rattle.engine.specs.PackedNetwork.{PackedSolved}
-use Rattle.engine.specs.Calls.{SolveOutcome}
-use Rattle.packed_arcs.proofs.LentParts.{lent-again}
+use Rattle.engine.specs.Calls.{solvable, Finished, SolveOutcome}
+use Rattle.engine.proofs.Settled.{standing-len, standing-here, standing-other}
 use Rattle.prelude.proofs.Tested.{both-on}
-use Rattle.solver.specs.declared.vertices.NumberKind.the-variants.{Mark, Potential}
-use Rattle.solver.specs.Instance.{Fits, constant, VertexList, reached, numberOf}
-use Rattle.solver.specs.Certify.{packedFor, standing, EngineRunFor, EngineRun}
-use Rattle.solver.proofs.Solutions.{fits, cost-low, same-tails, same-heads, same-costs, same-capacities, keys}
+use Rattle.solver.specs.declared.vertices.NumberKind.the-variants.{Mark}
+use Rattle.solver.specs.Instance.{Fits, tails, heads, constant, VertexList, single, plenty, reached, numberOf}
+use Rattle.solver.specs.Certify.{packedFor, costs, capacities}
+use Rattle.solver.proofs.Solutions.{fits, cost-low, same-tails, same-heads, same-costs, same-capacities, FlowRun, keys}
 
 -- ---- packed arcs are within the engine's limits
 
@@ -64,66 +66,60 @@ packed-fit q n m rs arcs F p e =
     (eq-eqb m (length arcs) (e ∙ sym (packed-length q rs arcs p))))
     (ap (λ (l : List ℕ). all (arcFits n) l) p ∙ all-fit q n rs (F .inside) (F .light))
 
--- ---- the run of a question
+-- ---- the run of a flow
 
--- what the engine gave back, with the columns of the network
-pub solved-run : (st : Setting) (rs : List ℕ) {arcs pi left need x' pi' left' need' key' par' : List ℕ} → arcs ≡ map (packedFor (asks st)) rs
-    → VertexList (st .n) (standing st false) left → VertexList (st .n) (standing st true) need
-    → PackedSolved arcs (zeroList (length arcs)) pi left need x' pi' left' need' key' par' → EngineRun st (wordArcs rs) x' pi' need' key'
-solved-run st rs {arcs} {pi} {left} {need} {x'} {pi'} {left'} {need'} {key'} {par'} p supply demand solved = record {
-  pi = pi;
-  left = left;
-  need = need;
-  left' = left';
-  par' = par';
-  supply = supply;
-  demand = demand;
-  solved = rw (sym (same-tails (asks st) rs), sym (same-heads (asks st) rs), sym (same-costs (asks st) rs), sym (same-capacities (asks st) rs))
-      (subst (λ (k : ℕ). PackedSolved (map (packedFor (asks st)) rs) (zeroList k) pi left need x' pi' left' need' key' par') (length-map rs (packedFor (asks st)) ∙ sym (length-map rs wordArc))
-      (subst (λ (l : List ℕ). PackedSolved l (zeroList (length l)) pi left need x' pi' left' need' key' par') p solved));
-}
+-- a supply at one vertex
+standing-list : (n k supply : ℕ) → k < n → VertexList n (single k supply) (standingAt n k supply)
+standing-list n k supply h = record { len = standing-len n k supply h; entries = λ v l. here v (ℕ-discrete v k) }
+  where
+    here : (v : ℕ) → Dec (v ≡ k) → entry (standingAt n k supply) v ≡ single k supply v
+    here v (yes q) = ap (entry (standingAt n k supply)) q ∙ standing-here n k supply h ∙ omega (arith, ap (λ (d : ℕ). supply * d) (delta-same k v (sym q)))
+    here v (no q) = standing-other n k supply h v q ∙ omega (arith, ap (λ (d : ℕ). supply * d) (delta-other k v (λ e. q (sym e))))
 
--- what `run` knows when it calls the engine: d's are the arrays of which it lends parts
-module _ (st : Setting) (rs : List ℕ) (a : Admissible st (wordArcs rs)) (n k : ℕ) {arcs left need : List ℕ} (da dl : List ℕ)
-    (one-each : n ≡ st .n) (packed : arcs ≡ map (packedFor (asks st)) rs)
-    (long : n ≤ length dl) (stood : VertexList (length (take n dl)) (standing st false) left)
-    (wanted : VertexList k (standing st true) need) (need-len : k ≡ st .n) where
-  pub arcs-long : length arcs ≡ length rs
-  arcs-long = packed-length (asks st) rs arcs packed
+module _ (st : Setting) (rs : List ℕ) (a : Admissible st (wordArcs rs)) (e : asks st ≡ maximumFlow) {arcs : List ℕ} (packed : arcs ≡ map (packedFor (asks st)) rs) where
+  ends : TwoVertices st
+  ends = subst (λ (q : Question). EndsFor q st) e (a .opened .ends)
 
-  pub left-long : length left ≡ n
-  left-long = stood .len ∙ length-take-le n dl long
+  flow-solvable : (m n : ℕ) → m ≡ length rs → n ≡ st .n → solvable arcs (st .s) (st .t) plenty m n ≡ true
+  flow-solvable m n xl kl =
+      let l = 256 + length arcs in
+      let s = ltb (st .s) n in
+      let t = ltb (st .t) n in
+      let p = leb plenty 2147483648 in
+      let q = eqb l l in
+      both-on (s && t && p && q && q) (arcsFit arcs m n) true
+      (both-on (s && t && p && q) q true
+      (both-on (s && t && p) q true
+      (both-on (s && t) p true
+      (both-on s t true (lt-ltb (st .s) n (omega (arith, ends .source-below))) (lt-ltb (st .t) n (omega (arith, ends .sink-below))))
+      (le-leb plenty 2147483648 (omega arith)))
+      (eq-eqb l l refl))
+      (eq-eqb l l refl))
+      (packed-fit (asks st) n m rs arcs (subst (λ (j : ℕ). Fits j (wordArcs rs)) (sym kl) (fits a)) packed xl)
 
-  -- the arcs and the supplies as they are lent
-  abbrev arcs-lent : List ℕ
-  arcs-lent = take (length rs) (arcs ++ drop (length rs) da)
+  finished-run : {x' key' : List ℕ} → Finished arcs (st .s) (st .t) plenty (st .n) x' key' → FlowRun st (wordArcs rs) x' key'
+  finished-run {x'} {key'} F =
+      let left = standingAt (st .n) (st .s) plenty in
+      let need = standingAt (st .n) (st .t) plenty in
+      record {
+        pi = zeroList (st .n);
+        left = left;
+        need = need;
+        pi' = F .pi';
+        left' = F .left';
+        need' = F .need';
+        par' = F .par';
+        supply = standing-list (st .n) (st .s) plenty (ends .source-below);
+        demand = standing-list (st .n) (st .t) plenty (ends .sink-below);
+        solved = subst (λ (q : Question). Solved (tails (wordArcs rs)) (heads (wordArcs rs)) (costs q (wordArcs rs)) (capacities q (wordArcs rs)) (constant (wordArcs rs) 0) (zeroList (st .n)) left need x' (F .pi') (F .left') (F .need') key' (F .par')) e
+            (rw (sym (same-tails (asks st) rs), sym (same-heads (asks st) rs), sym (same-costs (asks st) rs), sym (same-capacities (asks st) rs))
+            (subst (λ (k : ℕ). PackedSolved (map (packedFor (asks st)) rs) (zeroList k) (zeroList (st .n)) left need x' (F .pi') (F .left') (F .need') key' (F .par')) (length-map rs (packedFor (asks st)) ∙ sym (length-map rs wordArc))
+            (subst (λ (l : List ℕ). PackedSolved l (zeroList (length l)) (zeroList (st .n)) left need x' (F .pi') (F .left') (F .need') key' (F .par')) packed (F .solved))));
+      }
 
-  abbrev left-lent : List ℕ
-  left-lent = take n (left ++ drop n dl)
-
-  arcs-back : arcs-lent ≡ map (packedFor (asks st)) rs
-  arcs-back = lent-again (length rs) da arcs arcs-long ∙ packed
-
-  supply : VertexList (st .n) (standing st false) left-lent
-  supply = subst (VertexList (st .n) (standing st false)) (sym (lent-again n dl left left-long))
-      (subst (λ (j : ℕ). VertexList j (standing st false) left) (length-take-le n dl long ∙ one-each) stood)
-
-  demand : VertexList (st .n) (standing st true) need
-  demand = subst (λ (j : ℕ). VertexList j (standing st true) need) need-len wanted
-
-  pub run-ok : {x pi key x' pi' left' need' key' : List ℕ} {r : Bool} → length x ≡ length rs → length pi ≡ st .n → length key ≡ st .n
-      → SolveOutcome arcs-lent x pi left-lent need key x' pi' left' need' key' r → EngineRun st (wordArcs rs) x' pi' need' key'
-  run-ok {x} {pi} {key} xl pl kl (SolveOutcome.refused off ex ep el en ek) = absurd (false≢true (sym off ∙ ok))
-    where
-      ok : solvable arcs-lent (length x) (length pi) (length left-lent) (length need) (length key) ≡ true
-      ok = both-on (eqb (length pi) (length left-lent) && eqb (length need) (length left-lent) && eqb (length key) (length left-lent)) (arcsFit arcs-lent (length x) (length left-lent)) true
-          (both-on (eqb (length pi) (length left-lent) && eqb (length need) (length left-lent)) (eqb (length key) (length left-lent)) true
-          (both-on (eqb (length pi) (length left-lent)) (eqb (length need) (length left-lent)) true
-          (eq-eqb (length pi) (length left-lent) (pl ∙ sym (supply .len))) (eq-eqb (length need) (length left-lent) (demand .len ∙ sym (supply .len))))
-          (eq-eqb (length key) (length left-lent) (kl ∙ sym (supply .len))))
-          (subst (λ (j : ℕ). arcsFit arcs-lent (length x) j ≡ true) (sym (supply .len))
-          (packed-fit (asks st) (st .n) (length x) rs arcs-lent (fits a) arcs-back xl))
-  run-ok {x} {pi} {key} xl pl kl (SolveOutcome.solved may par' s) = solved-run st rs arcs-back supply demand s
+  pub flow-run : {x key x' key' : List ℕ} {r : Bool} → length x ≡ length rs → length key ≡ st .n → SolveOutcome arcs (st .s) (st .t) plenty x key x' key' r → FlowRun st (wordArcs rs) x' key'
+  flow-run {x} {key} xl kl (SolveOutcome.refused off ex ek) = absurd (false≢true (sym off ∙ flow-solvable (length x) (length key) xl kl))
+  flow-run {x} {key} {x'} {key'} xl kl (SolveOutcome.solved on F) = finished-run (subst (λ (n : ℕ). Finished arcs (st .s) (st .t) plenty n x' key') kl F)
 
 -- ---- what was given back
 
@@ -134,7 +130,6 @@ mark-low k = go (reached k)
     go true = omega arith
     go false = omega arith
 
-module _ {q : Question} {st : Setting} {es : List Arc} {x' pi' need' key' : List ℕ} (r : EngineRunFor q st es x' pi' need' key') where
-  -- numbers can be written from the keys as marks
-  pub marks-writable : {k : ℕ} → k ≡ st .n → (k ≡ length key') × ((v : ℕ) → v < length key' → numberOf Mark (entry key' v) ≤ mostPotential)
-  marks-writable h = (h ∙ sym (keys r), λ v l. mark-low (entry key' v))
+-- numbers can be written from the keys as marks
+pub marks-writable : {st : Setting} {es : List Arc} {x' key' : List ℕ} → FlowRun st es x' key' → {k : ℕ} → k ≡ st .n → (k ≡ length key') × ((v : ℕ) → v < length key' → numberOf Mark (entry key' v) ≤ mostPotential)
+marks-writable {st} {es} {x'} {key'} r h = (h ∙ sym (keys r), λ v l. mark-low (entry key' v))

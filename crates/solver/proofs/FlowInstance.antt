@@ -19,7 +19,6 @@ use Rattle.network.proofs.Sound.{balance-parts}
 use Rattle.packed_arcs.specs.Entries.{entry}
 use Rattle.engine.specs.Phase.{Solved}
 use Rattle.solver.specs.Instance.{Fits, tails, heads, weights, constant, VertexList, single, plenty, Falls, markOf}
-use Rattle.solver.specs.Certify.{endFor}
 use Rattle.engine.proofs.LastSearch.{in-list, leads-on, leads-back, from-left}
 use Rattle.solver.proofs.ColumnsAndLoads.{since-none, index, loads-arcs, columnArc, every-load, leaving-most, fallen, Carried, carried-by, as-much, at-source, elsewhere, Seen, Unseen, seen, unseen, sight, marks-fit}
 
@@ -46,7 +45,7 @@ weigh x w i j h = rw (i, j) h
 
 module _ (st : Setting) (es : List Arc) (S : ℕ) (ends : TwoVertices st) (fits : Fits (st .n) es) (enough : total es < S)
     {pi left need x' pi' left' need' key' par' : List ℕ}
-    (supply : VertexList (st .n) (single (endFor st false) S) left) (demand : VertexList (st .n) (single (endFor st true) S) need)
+    (supply : VertexList (st .n) (single (st .s) S) left) (demand : VertexList (st .n) (single (st .t) S) need)
     (less : Falls left left') (fewer : Falls need need')
     (r : Solved (tails es) (heads es) (constant es 0) (weights es) (constant es 0) pi left need x' pi' left' need' key' par') where
   abbrev f : List Load
@@ -69,8 +68,8 @@ module _ (st : Setting) (es : List Arc) (S : ℕ) (ends : TwoVertices st) (fits 
       r .balance v,
       supply .entries v h,
       demand .entries v h,
-      fallen (st .n) S (endFor st false) left left' supply less v h,
-      fallen (st .n) S (endFor st true) need need' demand fewer v h,
+      fallen (st .n) S (st .s) left left' supply less v h,
+      fallen (st .n) S (st .t) need need' demand fewer v h,
     ));
   }
 

@@ -27,8 +27,8 @@ use Rattle.packed_arcs.proofs.LentParts.{zero-at}
 use Rattle.prelude.proofs.Tested.{both-on}
 use Rattle.engine.proofs.LastSearch.{near-enough}
 use Rattle.solver.specs.declared.vertices.NumberKind.the-variants.{Mark, Distance}
-use Rattle.solver.specs.Instance.{tails, heads, constant, VertexList, numberOf}
-use Rattle.solver.specs.Certify.{packedFor, costs, capacities, standing, NodeNumbers, Solution}
+use Rattle.solver.specs.Instance.{tails, heads, constant, VertexList, single, numberOf}
+use Rattle.solver.specs.Certify.{packedFor, costs, capacities, NodeNumbers, Solution}
 use Rattle.solver.proofs.ColumnsAndLoads.{sight}
 use Rattle.solver.proofs.EngineInputs.{packed-length, packed-fit}
 use Rattle.solver.proofs.Solutions.{fits, same-tails, same-heads, same-costs, same-capacities, path-solution, no-path-solution}
@@ -40,7 +40,7 @@ pub record PathInputs (st : Setting) (rs arcs x left key : List ℕ) : Type 0 wh
   pub path : asks st ≡ shortestPath
   pub packs : arcs ≡ map (packedFor (asks st)) rs
   pub amounts : length x ≡ length rs
-  pub stands : VertexList (st .n) (standing st false) left
+  pub stands : VertexList (st .n) (single (st .s) 1) left
   pub key-len : length key ≡ st .n
 
 module _ {st : Setting} {rs arcs x left key : List ℕ} (g : PathInputs st rs arcs x left key) where

@@ -26,7 +26,6 @@ use Rattle.engine.specs.Residual.{unreached, residual, keyBeyond, ParentArc}
 use Rattle.engine.specs.Push.{Moved}
 use Rattle.engine.specs.Phase.{SearchResult, PhaseState}
 use Rattle.solver.specs.Instance.{Fits, tails, heads, weights, constant, VertexList, single, distanceOf, potentialOf, markOf, toward}
-use Rattle.solver.specs.Certify.{endFor}
 use Rattle.packed_arcs.proofs.LentParts.{zero-at}
 use Rattle.engine.proofs.PhaseLaws.{opened}
 use Rattle.engine.proofs.LastSearch.{few-arcs, near-enough, leads-on, from-left}
@@ -70,7 +69,7 @@ go-on es s d e m w = record {
 }
 
 module _ (st : Setting) (es : List Arc) (fits : Fits (st .n) es) (hs : st .s < st .n) {pi left need key par : List ℕ}
-    (none : VertexList (st .n) (λ v. 0) pi) (supply : VertexList (st .n) (single (endFor st false) 1) left)
+    (none : VertexList (st .n) (λ v. 0) pi) (supply : VertexList (st .n) (single (st .s) 1) left)
     (state : PhaseState (tails es) (heads es) (weights es) (constant es 1) (constant es 0) pi left need)
     (F : SearchResult (residual (tails es) (heads es) (weights es) (constant es 1) (constant es 0) pi) left key par) where
   vertex : (v : ℕ) → v < st .n → v < length key
@@ -138,7 +137,7 @@ module _ (st : Setting) (es : List Arc) (fits : Fits (st .n) es) (hs : st .s < s
       sink-below = ht;
       apart = apart;
       inside = rw (loads-arcs es x') (fits .inside);
-      each = λ v h. since-none es x' v _ _ (omega (arith, M .balance v, when-delta (st .t) v 1, supply .entries v h, fallen (st .n) 1 (endFor st false) left left' supply (M .less) v h));
+      each = λ v h. since-none es x' v _ _ (omega (arith, M .balance v, when-delta (st .t) v 1, supply .entries v h, fallen (st .n) 1 (st .s) left left' supply (M .less) v h));
     }
 
     arc-tight : (e : ℕ) → e < length es → 0 < entry x' e → distanceOf key (entry (heads es) e) ≡ distanceOf key (entry (tails es) e) + entry (weights es) e

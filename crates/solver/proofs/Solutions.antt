@@ -29,7 +29,7 @@ use Rattle.engine.specs.Residual.{unreached, residual}
 use Rattle.engine.specs.Push.{Moved}
 use Rattle.engine.specs.Phase.{SearchResult, PhaseState, Solved}
 use Rattle.solver.specs.Instance.{Fits, tails, heads, weights, constant, VertexList, single, plenty, markOf, toward, numberOf}
-use Rattle.solver.specs.Certify.{recordOk, admissible, capacityFor, packedFor, endFor, costs, capacities, standingFor, standing, EngineRunFor, EngineRun, NodeNumbers, toldBy, Told, LengthsFor, Solution}
+use Rattle.solver.specs.Certify.{recordOk, admissible, capacityFor, packedFor, costs, capacities, NodeNumbers, toldBy, Told, LengthsFor, Solution}
 use Rattle.solver.specs.declared.vertices.NumberKind.{NumberKind}
 use Rattle.solver.specs.declared.vertices.NumberKind.the-variants.{Mark, Distance, Potential}
 use Rattle.solver.proofs.ColumnsAndLoads.{loads-arcs, is-reached, not-reached, Seen, Unseen, sight}
@@ -146,41 +146,48 @@ module _ (st : Setting) (es : List Arc) where
     reply-is = refl;
   }
 
+-- What the engine gave back for a flow, from amounts of 0: plenty stood at the source and was wanted at the sink.
+pub record FlowRun (st : Setting) (net : List Arc) (x' key' : List ℕ) : Type 0 where
+  pub pi : List ℕ
+  pub left : List ℕ
+  pub need : List ℕ
+  pub pi' : List ℕ
+  pub left' : List ℕ
+  pub need' : List ℕ
+  pub par' : List ℕ
+  pub supply : VertexList (st .n) (single (st .s) plenty) left
+  pub demand : VertexList (st .n) (single (st .t) plenty) need
+  pub solved : Solved (tails net) (heads net) (costs maximumFlow net) (capacities maximumFlow net) (constant net 0) pi left need x' pi' left' need' key' par'
+
 -- one key for each vertex
-pub keys : {q : Question} {st : Setting} {es : List Arc} {x' pi' need' key' : List ℕ} → EngineRunFor q st es x' pi' need' key' → length key' ≡ st .n
+pub keys : {st : Setting} {es : List Arc} {x' key' : List ℕ} → FlowRun st es x' key' → length key' ≡ st .n
 keys r = r .solved .found .key-len ∙ r .solved .left-len ∙ r .supply .len
 
 module _ {st : Setting} {es : List Arc} (a : Admissible st es) where
   -- ---- maximum flow
 
-  pub flow-solution : {x' pi' need' key' : List ℕ} {ys : List ℤ} → asks st ≡ maximumFlow → EngineRun st es x' pi' need' key' → NodeNumbers Mark key' ys → Solution st es ys x' 1
-  flow-solution {x'} {pi'} {need'} {key'} {ys} e run w = solution st es maximumFlow e ys x' (value _) (flow-too st (markOf key') (at ys) same (loadsOf es x') _ (ends .source-below) (ends .sink-below) (loads-inside a x') certificate) tt
+  pub flow-solution : {x' key' : List ℕ} {ys : List ℤ} → asks st ≡ maximumFlow → FlowRun st es x' key' → NodeNumbers Mark key' ys → Solution st es ys x' 1
+  flow-solution {x'} {key'} {ys} e r w = solution st es maximumFlow e ys x' (value _) (flow-too st (markOf key') (at ys) same (loadsOf es x') _ (ends .source-below) (ends .sink-below) (loads-inside a x') certificate) tt
     where
       ends : TwoVertices st
       ends = subst (λ (q : Question). EndsFor q st) e (a .opened .ends)
 
-      r : EngineRunFor maximumFlow st es x' pi' need' key'
-      r = subst (λ (q : Question). EngineRunFor q st es x' pi' need' key') e run
-
       same : (v : ℕ) → v < st .n → markOf key' v ≡ at ys v
       same v h = sym (w .each v (omega (arith, keys r)))
 
-      certificate : FlowCertificate st (markOf key') (loadsOf es x') (plenty - entry need' (st .t))
+      certificate : FlowCertificate st (markOf key') (loadsOf es x') (plenty - entry (r .need') (st .t))
       certificate =
           flow-certificate st es plenty ends (fits a) (omega (arith, total-most (st .n) es (fits a))) (r .supply) (r .demand) (r .solved .left-less) (r .solved .need-less)
-          (subst (λ (c : List ℕ). Solved (tails es) (heads es) c (weights es) (constant es 0) (r .pi) (r .left) (r .need) x' pi' (r .left') need' key' (r .par')) (constant-map 0 es) (r .solved))
+          (subst (λ (c : List ℕ). Solved (tails es) (heads es) c (weights es) (constant es 0) (r .pi) (r .left) (r .need) x' (r .pi') (r .left') (r .need') key' (r .par')) (constant-map 0 es) (r .solved))
 
   -- ---- shortest path
 
   module _ {pi left need key par : List ℕ} (e : asks st ≡ shortestPath)
-      (none-yet : VertexList (st .n) (λ v. 0) pi) (stands : VertexList (st .n) (standing st false) left)
+      (none-yet : VertexList (st .n) (λ v. 0) pi) (supply : VertexList (st .n) (single (st .s) 1) left)
       (state : PhaseState (tails es) (heads es) (costs (asks st) es) (capacities (asks st) es) (constant es 0) pi left need)
       (found : SearchResult (residual (tails es) (heads es) (costs (asks st) es) (capacities (asks st) es) (constant es 0) pi) left key par) where
     two : TwoVertices st
     two = subst (λ (q : Question). EndsFor q st) e (a .opened .ends)
-
-    supply : VertexList (st .n) (single (endFor st false) 1) left
-    supply = subst (λ (q : Question). VertexList (st .n) (standingFor q st false) left) e stands
 
     F : SearchResult (residual (tails es) (heads es) (weights es) (constant es 1) (constant es 0) pi) left key par
     F = subst (λ (c : List ℕ). SearchResult (residual (tails es) (heads es) (weights es) c (constant es 0) pi) left key par) (constant-map 1 es)

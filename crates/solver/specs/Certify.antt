@@ -7,7 +7,6 @@ use Prim.Native.Nat.{ℕ, _<_, _≤_}
 use lib.Dec.{eqb, leb}
 use lib.IntN.{ℤ, pos}
 use lib.ListN.{length}
-use Rattle.prelude.specs.Choice.{pick}
 use Rattle.prelude.specs.Checks.{firstBroken}
 use Rattle.prelude.specs.Lists.{Every, all, at}
 use Rattle.network.specs.Limits.{mostArcs, mostPotential}
@@ -17,11 +16,10 @@ use Rattle.network.specs.Certificate.{Claim, ofValue, ofNone, claimFor, Certifi
 use Rattle.network.specs.Tests.{claimNumber, openingChecks, arcChecks}
 use Rattle.packed_arcs.specs.Entries.{entry}
 use Rattle.packed_arcs.specs.PackedArcs.{packedArc}
-use Rattle.engine.specs.Phase.{Solved}
 use Rattle.solver.specs.declared.Finding.{Finding}
 use Rattle.solver.specs.declared.Finding.the-variants.{Value, None, Refused}
 use Rattle.solver.specs.declared.vertices.NumberKind.{NumberKind}
-use Rattle.solver.specs.Instance.{toward, single, plenty, VertexList, tails, heads, constant, numberOf}
+use Rattle.solver.specs.Instance.{toward, numberOf}
 
 -- ---- what is handed over
 
@@ -48,22 +46,6 @@ capacityFor unasked e = 0
 abbrev pub packedFor : Question → ℕ → ℕ
 packedFor q r = packedArc (wordArc r .tail) (wordArc r .head) (unitCost q (wordArc r)) (capacityFor q (wordArc r))
 
--- The vertex at which something stands: the supply at the source, what is wanted at the sink.
-abbrev pub endFor : Setting → Bool → ℕ
-endFor st wanted = pick wanted (st .t) (st .s)
-
--- What stands at the vertex v: the supply, or what is wanted.
-abbrev pub standingFor : Question → Setting → Bool → ℕ → ℕ
-standingFor shortestPath st wanted v = single (endFor st wanted) 1 v
-standingFor maximumFlow st wanted v = single (endFor st wanted) plenty v
-standingFor assignment st wanted v = 0
-standingFor acyclicity st wanted v = 0
-standingFor unasked st wanted v = 0
-
--- What stands at the vertex v for the question of the setting.
-abbrev pub standing : Setting → Bool → ℕ → ℕ
-standing st wanted v = standingFor (asks st) st wanted v
-
 -- The column of costs.
 abbrev pub costs : Question → List Arc → List ℕ
 costs q net = map (unitCost q) net
@@ -71,21 +53,6 @@ costs q net = map (unitCost q) net
 -- The column of capacities.
 abbrev pub capacities : Question → List Arc → List ℕ
 capacities q net = map (capacityFor q) net
-
--- The engine was asked the question q: what it gave back, from supplies, demands and amounts of 0.
-pub record EngineRunFor (q : Question) (st : Setting) (net : List Arc) (x' pi' need' key' : List ℕ) : Type 0 where
-  pub pi : List ℕ
-  pub left : List ℕ
-  pub need : List ℕ
-  pub left' : List ℕ
-  pub par' : List ℕ
-  pub supply : VertexList (st .n) (standingFor q st false) left
-  pub demand : VertexList (st .n) (standingFor q st true) need
-  pub solved : Solved (tails net) (heads net) (costs q net) (capacities q net) (constant net 0) pi left need x' pi' left' need' key' par'
-
--- The engine was asked the question of the setting.
-abbrev pub EngineRun : (st : Setting) (net : List Arc) (x' pi' need' key' : List ℕ) → Type 0
-EngineRun st net x' pi' need' key' = EngineRunFor (asks st) st net x' pi' need' key'
 
 -- The numbers written for the entries of a list.
 pub record NodeNumbers (kind : NumberKind) (from : List ℕ) (ys : List ℤ) : Type 0 where

@@ -1,10 +1,10 @@
-// Certificates for the two questions that the engine is asked: a path that the engine sends along for a path, its phases for a flow.
+// Certificates for the two questions that the engine is asked: a path that it sends one unit along, and a flow of as much as goes.
 ghost use mathlib.Core.Path.{_≡_};
 ghost use lib.ListN.{length};
 ghost use Rattle.network.specs.Network.{wordArcs};
 ghost use Rattle.network.specs.Question.{shortestPath, maximumFlow, asks, Admissible};
 ghost use Rattle.checks.specs.Held.{asked};
-ghost use Rattle.solver.specs.Certify.{findingNumber, EngineRun, Solution};
+ghost use Rattle.solver.specs.Certify.{findingNumber, Solution};
 use super::Finding;
 use super::records::pack;
 use super::vertices::NumberKind;
@@ -15,45 +15,27 @@ use engine::Sent;
 use network::MOST_ARCS;
 use network::MOST_VERTICES;
 
-// Asks the engine the question of the setting: supplies, demands, packed records.
-fn run(
-    st: HeldSetting,
-    records: &[u32],
-    x: &mut [u16],
-    pi: &mut [u32],
-    need: &mut [u32],
-    key: &mut [u32],
-)
-    requires { ⌜ Admissible (asked st) (wordArcs (now records)) ⌝ }
-    requires { ⌜ (length (now x) ≡ length (now records)) × (length (now pi) ≡ st .n) × (length (now need) ≡ st .n) × (length (now key) ≡ st .n) ⌝ }
-    ensures { λ _. ⌜ EngineRun (asked st) (wordArcs (now (records .entry))) (now (x .exit)) (now (pi .exit)) (now (need .exit)) (now (key .exit)) ⌝ }
-{
-    let n = key.len();
-    let m = records.len();
-    let mut arcs = [0u64; MOST_ARCS as usize];
-    let mut left = [0u32; MOST_VERTICES as usize];
-    pack(st, records, &mut arcs[..m]);
-    stand(st, false, &mut left[..n]);
-    stand(st, true, need);
-    engine::solve(&arcs[..m], x, pi, &mut left[..n], need, key);
-}
+// More units than all arcs together can carry.
+const PLENTY: u32 = 134213633;
 
 // Numbers and amounts that certify a greatest flow.
 fn answer_flow(
     st: HeldSetting,
     records: &[u32],
-    pi: &mut [u32],
-    need: &mut [u32],
+    arcs: &mut [u64],
     key: &mut [u32],
     numbers: &mut [i32],
     amounts: &mut [u16],
 ) -> Finding
     requires { ⌜ Admissible (asked st) (wordArcs (now records)) × (asks (asked st) ≡ maximumFlow) ⌝ }
     requires { ⌜ (length (now amounts) ≡ length (now records)) × (length (now numbers) ≡ st .n) ⌝ }
-    requires { ⌜ (length (now pi) ≡ st .n) × (length (now need) ≡ st .n) × (length (now key) ≡ st .n) ⌝ }
+    requires { ⌜ (length (now arcs) ≡ length (now records)) × (length (now key) ≡ st .n) ⌝ }
     ensures { λ r. ⌜ Solution (asked st) (wordArcs (now (records .entry))) (now (numbers .exit)) (now (amounts .exit)) (findingNumber r) ⌝ }
 {
-    run(st, records, amounts, pi, need, key);
+    let s = st.s as usize;
+    let t = st.t as usize;
+    pack(st, records, arcs);
+    engine::solve(arcs, s, t, PLENTY, amounts, key);
     write(NumberKind::Mark, key, numbers);
     Finding::Value
 }
@@ -69,18 +51,10 @@ pub(crate) fn certify_flow(
     ensures { λ r. ⌜ Solution (asked st) (wordArcs (now (records .entry))) (now (numbers .exit)) (now (amounts .exit)) (findingNumber r) ⌝ }
 {
     let n = numbers.len();
-    let mut pi = [0u32; MOST_VERTICES as usize];
-    let mut need = [0u32; MOST_VERTICES as usize];
+    let m = records.len();
+    let mut arcs = [0u64; MOST_ARCS as usize];
     let mut key = [0u32; MOST_VERTICES as usize];
-    answer_flow(
-        st,
-        records,
-        &mut pi[..n],
-        &mut need[..n],
-        &mut key[..n],
-        numbers,
-        amounts,
-    )
+    answer_flow(st, records, &mut arcs[..m], &mut key[..n], numbers, amounts)
 }
 
 // What is found, and numbers and amounts that certify it, for a path.
@@ -101,7 +75,7 @@ fn answer_path(
     let m = records.len();
     let mut arcs = [0u64; MOST_ARCS as usize];
     pack(st, records, &mut arcs[..m]);
-    stand(st, false, left);
+    stand(st.s, left);
     let sent = engine::send(&arcs[..m], t, 1, amounts, left, key);
     match sent {
         Sent::Reached(_) => {

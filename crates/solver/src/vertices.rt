@@ -1,23 +1,13 @@
 // Lists by vertex: what stands at each when the engine is asked, and the numbers written from what it found.
-ghost use mathlib.Core.Bool.{true, false};
 ghost use mathlib.Core.Path.{_≡_};
 ghost use Prim.Native.Nat.{ℕ, _<_, _≤_};
 ghost use lib.ListN.{length};
-ghost use Rattle.prelude.specs.Choice.{pick};
 ghost use Rattle.network.specs.Limits.{mostVertices, mostPotential};
-ghost use Rattle.checks.specs.Held.{asked};
-ghost use Rattle.solver.specs.Certify.{endFor, standing, NodeNumbers};
+ghost use Rattle.solver.specs.Certify.{NodeNumbers};
 ghost use Rattle.packed_arcs.specs.Entries.{entry};
 ghost use Rattle.solver.specs.Instance.{VertexList, single as singleAt, reached, numberOf};
-use checks::HeldSetting;
-use checks::pumps;
-use checks::rows::Question;
-use checks::rows::question_of;
 use engine::UNREACHED;
 use network::MOST_POTENTIAL;
-
-// More units than all arcs together can carry.
-const PLENTY: u32 = 134213633;
 
 // amount at the vertex k, 0 elsewhere.
 fn single(k: u8, amount: u32, v: u8) -> u32
@@ -29,37 +19,14 @@ fn single(k: u8, amount: u32, v: u8) -> u32
     0
 }
 
-fn end_of(st: HeldSetting, wanted: bool) -> u8
-    ensures { λ r. ⌜ r ≡ endFor (asked st) wanted ⌝ }
-{
-    if wanted {
-        return st.t;
-    }
-    st.s
-}
-
-// What stands at the vertex v: the supply, or what is wanted.
-fn standing_at(st: HeldSetting, wanted: bool, v: u8) -> u32
-    ensures { λ r. ⌜ r ≡ standing (asked st) wanted v ⌝ }
-{
-    let question = question_of(st.question as u32);
-    let end = end_of(st, wanted);
-    match question {
-        Question::Path => single(end, 1, v),
-        Question::Flow => single(end, PLENTY, v),
-        Question::Assignment => 0,
-        Question::Acyclicity => 0,
-        Question::Unasked => 0,
-    }
-}
-
-pub(crate) fn stand(st: HeldSetting, wanted: bool, list: &mut [u32])
+// One unit stands at the vertex k.
+pub(crate) fn stand(k: u8, list: &mut [u32])
     requires { ⌜ length (now list) ≤ mostVertices ⌝ }
-    ensures { λ _. ⌜ VertexList (length (now (list .entry))) (standing (asked st) wanted) (now (list .exit)) ⌝ }
+    ensures { λ _. ⌜ VertexList (length (now (list .entry))) (singleAt k 1) (now (list .exit)) ⌝ }
 {
     let mut v = 0;
     while v < list.len() {
-        list[v] = standing_at(st, wanted, v as u8);
+        list[v] = single(k, 1, v as u8);
         v += 1;
     }
 }

@@ -1,7 +1,6 @@
 -- `solver::answers::answer_path` meets its contract: the part of the array that is lent is as long as the records, what is sent is what the question asks, and what comes of it is a solution.
 -- Assumes nothing.
 use mathlib.Core.Path.{_≡_, sym, _∙_, subst}
-use mathlib.Core.Bool.{false}
 use mathlib.Core.List.{List, _++_}
 use Prim.Native.Nat.{ℕ, _≤_}
 use borrow.Author.Needs.{needs}
@@ -13,8 +12,7 @@ use Rattle.checks.specs.Held.{asked}
 use Rattle.packed_arcs.specs.Entries.{entry, zeroList}
 use Rattle.engine.specs.declared.Sent.{Sent}
 use Rattle.packed_arcs.proofs.LentParts.{zero-list-length, lent-again, back-within, back-length}
-use Rattle.solver.specs.Instance.{VertexList}
-use Rattle.solver.specs.Certify.{standing}
+use Rattle.solver.specs.Instance.{VertexList, single}
 use Rattle.solver.proofs.EngineInputs.{few-records, packed-length, mark-low}
 use Rattle.solver.proofs.PathAnswer.{PathInputs, SentCase, sent-case, keys-length, distances-low, path-answer, no-path-answer}
 use Rattle.solver.proofs.answers.answer_path.Statement.{statement}
@@ -54,7 +52,7 @@ abbrev A : tie.After-send → List ℕ
 A c = take (length (R (at-start c))) (P (at-pack c) ++ drop (length (R (at-start c))) (zeroList mostArcs))
 
 abbrev L : tie.After-send → List ℕ
-L c = at-stand c .stand .last .1 .1 .0
+L c = at-stand c .stand .last .1 .0
 
 inputs : (c : tie.After-send) → PathInputs (St (at-start c)) (R (at-start c)) (A c) (now (at-start c .args .amounts)) (L c) (now (at-start c .args .key))
 inputs c = let s = at-start c in record {
@@ -62,7 +60,7 @@ inputs c = let s = at-start c in record {
   path = s .pre .0 .1;
   packs = lent-again (length (R s)) (zeroList mostArcs) (P (at-pack c)) (packed (at-pack c)) ∙ at-pack c .pack .ensures;
   amounts = s .pre .1 .0 .0;
-  stands = subst (λ (n : ℕ). VertexList n (standing (St s) false) (L c)) (s .pre .1 .1 .0) (at-stand c .stand .ensures);
+  stands = subst (λ (n : ℕ). VertexList n (single (St s .s) 1) (L c)) (s .pre .1 .1 .0) (at-stand c .stand .ensures);
   key-len = s .pre .1 .1 .1;
 }
 
@@ -133,17 +131,17 @@ answer-path-spec =
     (λ c. search needs)
     write-requires-2
     (λ c. search needs)
-    (λ c. c .before .before .before .before .before .before .before .before .before .before .before .before .send .kept .1 .1 .1 .1 .0 ∙ c .before .before .before .before .before .before .before .before .before .before .before .before .before .before .before .before .before .before .before .stand .kept .1 .1 .0)
+    (λ c. c .before .before .before .before .before .before .before .before .before .before .before .before .send .kept .1 .1 .1 .1 .0 ∙ c .before .before .before .before .before .before .before .before .before .before .before .before .before .before .before .before .before .before .before .stand .kept .1 .0)
     (λ c. c .before .before .before .before .before .before .before .before .before .before .before .before .send .kept .1 .1 .1 .1 .1 .0)
     (λ c. c .before .write .kept .1 .1 .0)
     (λ c. c .before .before .before .before .before .before .before .before .before .before .before .before .send .kept .1 .1 .1 .0)
     returns
-    (λ c. c .before .before .before .before .before .before .before .before .before .before .before .before .send .kept .1 .1 .1 .1 .0 ∙ c .before .before .before .before .before .before .before .before .before .before .before .before .before .before .before .before .before .before .before .stand .kept .1 .1 .0)
+    (λ c. c .before .before .before .before .before .before .before .before .before .before .before .before .send .kept .1 .1 .1 .1 .0 ∙ c .before .before .before .before .before .before .before .before .before .before .before .before .before .before .before .before .before .before .before .stand .kept .1 .0)
     (λ c. c .before .before .before .before .before .before .before .before .before .before .before .before .send .kept .1 .1 .1 .1 .1 .0)
     (λ c. c .before .write2 .kept .1 .1 .0)
     (λ c. c .before .before .before .before .before .before .before .before .before .before .before .before .send .kept .1 .1 .1 .0)
     returns-2
-    (λ c. c .before .before .before .before .before .before .before .before .send .kept .1 .1 .1 .1 .0 ∙ c .before .before .before .before .before .before .before .before .before .before .before .before .before .before .before .stand .kept .1 .1 .0)
+    (λ c. c .before .before .before .before .before .before .before .before .send .kept .1 .1 .1 .1 .0 ∙ c .before .before .before .before .before .before .before .before .before .before .before .before .before .before .before .stand .kept .1 .0)
     (λ c. c .before .before .before .before .before .before .before .before .send .kept .1 .1 .1 .1 .1 .0)
     (λ c. c .before .before .before .before .before .before .before .before .send .kept .1 .1 .1 .0)
     returns-3)
