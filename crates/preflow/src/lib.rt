@@ -8,19 +8,18 @@ ghost use Rattle.preflow.specs.Preflow.{Ready, Moves};
 ghost use Rattle.preflow.specs.Outcome.{PreflowOutcome};
 use arc_index::End;
 use arc_index::packed::index_packed;
-use labels::label_from;
 use limits::is_preflowable;
 use packed_arcs::clearing::clear_amounts;
 use packed_arcs::clearing::clear_potentials;
-use sink::push_to_sink;
-use source::push_to_source;
+use toward::push_to_sink;
+use toward::push_to_source;
 
+mod draining;
 mod labels;
 mod limits;
 mod pushing;
 mod shifting;
-mod sink;
-mod source;
+mod toward;
 
 // Moves what stands at s as far as it goes to t, and what is left over at other vertices back to s.
 fn push_all(
@@ -38,8 +37,7 @@ fn push_all(
 {
     let mut label = [255u8; 256];
     let mut order = [0u8; 256];
-    label_from(t, arcs, out, into, x, &mut label, &mut order);
-    push_to_sink(s, arcs, out, into, &mut label, x, left);
+    push_to_sink(s, t, arcs, out, into, &mut label, &mut order, x, left);
     push_to_source(s, t, arcs, out, into, &mut label, &mut order, x, left);
 }
 

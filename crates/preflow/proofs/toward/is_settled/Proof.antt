@@ -1,10 +1,10 @@
--- `preflow::source::is_settled` meets its contract.
+-- `preflow::toward::is_settled` meets its contract.
 -- Assumes nothing.
 use Prim.Native.Nat.{_-_}
 use lib.ListN.{length}
 use borrow.Author.Needs.{needs}
-use Rattle.preflow.proofs.source.is_settled.Statement.{statement}
-use Rattle.preflow.proofs.source.is_settled.Tie as tie
+use Rattle.preflow.proofs.toward.is_settled.Statement.{statement}
+use Rattle.preflow.proofs.toward.is_settled.Tie as tie
 
 abbrev Inv-loop : tie.InvT-loop
 Inv-loop s t left v₀ v = Unit {0}

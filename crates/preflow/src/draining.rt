@@ -1,20 +1,16 @@
-// To the sink: supply leaves the source along its arcs, and what stands at a vertex moves on, highest label first.
+// What stands at the vertices moves on towards the root of the labels, highest label first.
 ghost use mathlib.Core.Path.{_≡_};
 ghost use Prim.Native.Nat.{_<_, _≤_};
 ghost use lib.ListN.{length};
 ghost use Rattle.preflow.specs.Preflow.{Links, Ready, Moves};
 use super::labels::count_labels;
 use super::labels::count_one;
-use super::labels::first_arc;
 use super::labels::index_of;
 use super::labels::lift;
-use super::labels::next_arc;
 use super::labels::raised;
 use super::labels::was_last;
 use super::pushing::activate;
 use super::pushing::push_from;
-use super::shifting::shift_forward;
-use packed_arcs::arcs::head_of;
 
 // The highest label from l down whose bucket is not empty, or 0.
 fn highest(l: u8, bucket: &[u8; 512]) -> u8 {
@@ -122,7 +118,7 @@ fn serve(
     )
 }
 
-// Serves the vertices with something to push, highest label first, and stops in any case after 30000 of them.
+// Serves the vertices with something to push, highest label first, and stops in any case after 1000 of them: whether nobody waits.
 fn drain(
     arcs: &[u64],
     out: &[u16],
@@ -133,60 +129,20 @@ fn drain(
     current: &mut [u16; 256],
     x: &mut [u16],
     left: &mut [u32],
-)
+) -> bool
     requires { ⌜ Links (now arcs) (now out) × Links (now arcs) (now into) × Ready (now arcs) (now x) (now left) ⌝ }
     ensures { λ _. ⌜ Moves (now (arcs .entry)) (now (x .entry)) (now (left .entry)) (now (x .exit)) (now (left .exit)) ⌝ }
 {
     let mut top = highest(254, bucket);
-    let mut fuel: u32 = 30000;
+    let mut fuel: u32 = 1000;
     while 0 < fuel {
         if top == 0 {
-            return;
+            return true;
         }
         top = serve(top, arcs, out, into, label, bucket, count, current, x, left);
         fuel -= 1;
     }
-}
-
-// Pushes from the source along the arc e, where its head reaches the sink.
-fn supply(
-    e: usize,
-    arcs: &[u64],
-    label: &[u8; 256],
-    bucket: &mut [u8; 512],
-    x: &mut [u16],
-    left: &mut [u32],
-)
-    requires { ⌜ (e < length (now arcs)) × Ready (now arcs) (now x) (now left) ⌝ }
-    ensures { λ _. ⌜ Moves (now (arcs .entry)) (now (x .entry)) (now (left .entry)) (now (x .exit)) (now (left .exit)) ⌝ }
-{
-    let b = head_of(arcs[e]);
-    let l = label[b];
-    if l == 255 {
-        return;
-    }
-    activate(b, l, left[b], bucket);
-    shift_forward(e, arcs, x, left);
-}
-
-// Pushes from the source along each of its arcs, from the first on.
-fn supply_all(
-    first: usize,
-    arcs: &[u64],
-    out: &[u16],
-    label: &[u8; 256],
-    bucket: &mut [u8; 512],
-    x: &mut [u16],
-    left: &mut [u32],
-)
-    requires { ⌜ Links (now arcs) (now out) × Ready (now arcs) (now x) (now left) ⌝ }
-    ensures { λ _. ⌜ Moves (now (arcs .entry)) (now (x .entry)) (now (left .entry)) (now (x .exit)) (now (left .exit)) ⌝ }
-{
-    let mut e = first;
-    while e < arcs.len() {
-        supply(e, arcs, label, bucket, x, left);
-        e = next_arc(e, out);
-    }
+    false
 }
 
 // Every vertex starts at its first arc.
@@ -200,27 +156,48 @@ fn first_arcs(out: &[u16], current: &mut [u16; 256])
     }
 }
 
-// Pushes from s towards the vertex that the labels lead to. The label of s is taken away, so that nothing is pushed back to it.
-pub(crate) fn push_to_sink(
-    s: usize,
+// Puts v into the bucket of its label l, where something stands there and it has a label.
+fn await_turn(v: usize, l: u8, stands: u32, bucket: &mut [u8; 512])
+    requires { ⌜ v < 256 ⌝ }
+{
+    if l == 255 {
+        return;
+    }
+    if stands == 0 {
+        return;
+    }
+    activate(v, l, 0, bucket);
+}
+
+// Every vertex with a label where something stands is put into its bucket.
+fn fill_buckets(label: &[u8; 256], left: &[u32], bucket: &mut [u8; 512])
+    requires { ⌜ length (now left) ≤ 256 ⌝ }
+{
+    let mut v = 0;
+    while v < left.len() {
+        await_turn(v, label[v], left[v], bucket);
+        v += 1;
+    }
+}
+
+// Pushes what stands at the vertices towards the root of the labels: whether nothing that has a label is left.
+pub(crate) fn drain_all(
     arcs: &[u64],
     out: &[u16],
     into: &[u16],
     label: &mut [u8; 256],
     x: &mut [u16],
     left: &mut [u32],
-)
-    requires { ⌜ s < length (now left) ⌝ }
+) -> bool
     requires { ⌜ Links (now arcs) (now out) × Links (now arcs) (now into) × Ready (now arcs) (now x) (now left) ⌝ }
     ensures { λ _. ⌜ Moves (now (arcs .entry)) (now (x .entry)) (now (left .entry)) (now (x .exit)) (now (left .exit)) ⌝ }
 {
     let mut bucket = [255u8; 512];
     let mut count = [0u8; 256];
     let mut current = [0u16; 256];
-    label[s] = 255;
+    fill_buckets(label, left, &mut bucket);
     count_labels(left.len(), label, &mut count);
     first_arcs(out, &mut current);
-    supply_all(first_arc(s, out), arcs, out, label, &mut bucket, x, left);
     drain(
         arcs,
         out,
@@ -231,5 +208,5 @@ pub(crate) fn push_to_sink(
         &mut current,
         x,
         left,
-    );
+    )
 }

@@ -1,10 +1,10 @@
--- `preflow::sink::discharge` meets its contract.
+-- `preflow::draining::discharge` meets its contract.
 -- Assumes nothing.
 use native.Mathlib.Omega.{arith}
 use Rattle.preflow.proofs.Conserving.{sizes, ready-then}
 use borrow.Author.Needs.{needs}
-use Rattle.preflow.proofs.sink.discharge.Statement.{statement}
-use Rattle.preflow.proofs.sink.discharge.Tie as tie
+use Rattle.preflow.proofs.draining.discharge.Statement.{statement}
+use Rattle.preflow.proofs.draining.discharge.Tie as tie
 
 relabel-requires : tie.Need-relabel-requires
 relabel-requires c κs =

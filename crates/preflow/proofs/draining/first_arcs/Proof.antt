@@ -1,9 +1,9 @@
--- `preflow::sink::first_arcs` meets its contract.
+-- `preflow::draining::first_arcs` meets its contract.
 -- Assumes nothing.
 use Prim.Native.Nat.{_-_}
 use borrow.Author.Needs.{needs}
-use Rattle.preflow.proofs.sink.first_arcs.Statement.{statement}
-use Rattle.preflow.proofs.sink.first_arcs.Tie as tie
+use Rattle.preflow.proofs.draining.first_arcs.Statement.{statement}
+use Rattle.preflow.proofs.draining.first_arcs.Tie as tie
 
 abbrev Inv-loop : tie.InvT-loop
 Inv-loop out current₀ v₀ current v = Unit {0}

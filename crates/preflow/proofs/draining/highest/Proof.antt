@@ -1,8 +1,8 @@
--- `preflow::sink::highest` meets its contract.
+-- `preflow::draining::highest` meets its contract.
 -- Assumes nothing.
 use borrow.Author.Needs.{needs}
-use Rattle.preflow.proofs.sink.highest.Statement.{statement}
-use Rattle.preflow.proofs.sink.highest.Tie as tie
+use Rattle.preflow.proofs.draining.highest.Statement.{statement}
+use Rattle.preflow.proofs.draining.highest.Tie as tie
 
 abbrev Inv-loop : tie.InvT-loop
 Inv-loop l bucket top₀ top = Unit {0}
