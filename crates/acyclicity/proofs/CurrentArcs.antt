@@ -14,14 +14,14 @@ use Rattle.packed_arcs.proofs.ListLoops.{set-cases, filled-as}
 use Rattle.arc_index.specs.ArcIndex.{noArc, nextArc}
 use Rattle.arc_index.specs.Chains.{First}
 use Rattle.arc_index.specs.Columns.{tailsOf, headsOf}
+use Rattle.arc_index.proofs.ChainSteps.{is-arc}
 use Rattle.acyclicity.specs.Steps.{Points, Chained, Watch, MovedOn}
 use Rattle.arc_index.proofs.Columns.{tails-len}
 
 -- ---- arcs of a chain
 
 first-points : {heads : List ℕ} {v lo e : ℕ} → First heads v lo e → Points heads v e
-first-points (First.found a b c d) = record { within = λ h. b; here = λ h. c }
-first-points (First.none a d) = record { within = λ h. absurd (omega arith); here = λ h. absurd (omega arith) }
+first-points F = record { within = λ h. is-arc F h .0; here = λ h. is-arc F h .1 }
 
 -- no arc into v stands before the first
 first-lowest : {heads : List ℕ} {v lo e : ℕ} → First heads v lo e → (d : ℕ) → lo ≤ d → d < length heads → entry heads d ≡ v → e ≤ d

@@ -1,18 +1,19 @@
 -- The arcs to a right vertex, looked at one after the other along its chain.
 -- Assumes nothing.
-use mathlib.Core.Path.{_≡_, refl, sym, _∙_, ap, subst}
+use mathlib.Core.Path.{_≡_, refl, _∙_, ap}
 use mathlib.Core.Bool.{Bool, true, false, false≢true}
 use mathlib.Core.List.{List}
-use mathlib.Core.Logic.{_⊎_, inl, inr, _≢_, ⊎-elim}
-use Prim.Native.Nat.{ℕ, _+_, _*_, _-_, _/_, _<_, _≤_, min}
+use mathlib.Core.Logic.{_≢_, ⊎-elim}
+use Prim.Native.Nat.{ℕ, _+_, _-_, _<_, _≤_}
 use native.Mathlib.Omega.{arith}
 use native.Mathlib.Decide.{decLt}
 use lib.ListN.{length, set, length-set}
 use Rattle.packed_arcs.specs.Entries.{entry}
 use Rattle.packed_arcs.proofs.ListLoops.{set-cases}
 use Rattle.arc_index.specs.ArcIndex.{noArc, firstArc, nextArc}
-use Rattle.arc_index.specs.Chains.{First, Chains}
-use Rattle.vertex_queue.specs.VertexQueue.{waitsNot, Kept}
+use Rattle.arc_index.specs.Chains.{First}
+use Rattle.arc_index.proofs.ChainSteps.{is-arc, none-between, none-left, next-arc}
+use Rattle.vertex_queue.specs.VertexQueue.{Kept}
 use Rattle.vertex_queue.proofs.Laws.{put-kept}
 use Rattle.matching.specs.Matching.{State}
 use Rattle.matching.specs.Tree.{InTree, Tree, Lowered, Relaxable, ScanEnd, Scanned}
@@ -27,23 +28,6 @@ pub record Scanning (h n : ℕ) (T H W mate pi dist₀ par₀ keys₀ low₀ : L
   pub grows :
       (t nd j : ℕ) (order : List ℕ) → InTree T mate dist₀ order t b k j → Kept keys₀ low₀ → Tree h n T H W mate pi t dist₀ par₀ order keys₀ k nd b 0
       → Kept keys low × InTree T mate dist order t b k j × Tree h n T H W mate pi t dist par order keys k nd b lo
-
--- an arc of a chain is one, and its head is that of the chain
-pub is-arc : {H : List ℕ} {b lo e : ℕ} → First H b lo e → e < 4096 → (e < length H) × (entry H e ≡ b)
-is-arc (First.found g l q f) h = (l, q)
-is-arc (First.none q f) h = absurd (omega arith)
-
-none-between : {H : List ℕ} {b lo e : ℕ} → First H b lo e → e < 4096 → (i : ℕ) → lo ≤ i → i < e → entry H i ≢ b
-none-between (First.found g l q f) h = f
-none-between (First.none q f) h = absurd (omega arith)
-
-none-left : {H : List ℕ} {b lo e : ℕ} → length H ≤ 4096 → First H b lo e → 4096 ≤ e → (i : ℕ) → lo ≤ i → i < length H → entry H i ≢ b
-none-left few (First.found g l q f) h = absurd (omega arith)
-none-left few (First.none q f) h = f
-
-pub further : {H : List ℕ} {b lo e : ℕ} → First H b lo e → e < noArc → lo ≤ e
-further (First.found g l q f) h = g
-further (First.none q f) h = absurd (omega arith)
 
 module _ {h n : ℕ} {T H W links mate pi : List ℕ} (S : State h n T H W links mate pi) where
   pub scan-start : (dist par keys low : List ℕ) (b k : ℕ) → b < n → Scanning h n T H W mate pi dist par keys low b k dist par keys low (firstArc links b)
@@ -83,19 +67,6 @@ module _ {h n : ℕ} {T H W links mate pi : List ℕ} (S : State h n T H W links
       not-negative = omega (arith, S .priced .feasible e here, ap (entry pi) (is-arc (G .next) l .1));
     }
 
-    pub in-links : 256 + e < length links
-    in-links = omega (arith, S .index .len, is-arc (G .next) l)
-
-    next-arc : First H b (e + 1) (nextArc links e)
-    next-arc = subst (λ (z : ℕ). First H z (e + 1) (nextArc links e)) (is-arc (G .next) l .1) (S .index .nexts e (is-arc (G .next) l .0))
-
-    pub shrinks : 4096 - nextArc links e < 4096 - e
-    shrinks = go (decLt (nextArc links e) 4096)
-      where
-        go : Dec (nextArc links e < 4096) → 4096 - nextArc links e < 4096 - e
-        go (yes q) = omega (arith, further next-arc q)
-        go (no q) = omega arith
-
     -- after the arc e
     after : {dist' par' keys' low' : List ℕ} {r : Bool} → Lowered a e far k mate dist par keys low dist' par' keys' low' r
         → (length dist' ≡ length dist) × (length par' ≡ length par) × ((t nd j : ℕ) (order : List ℕ) → InTree T mate dist₀ order t b k j → Kept keys₀ low₀
@@ -124,7 +95,7 @@ module _ {h n : ℕ} {T H W links mate pi : List ℕ} (S : State h n T H W links
 
     pub scan-step : {dist' par' keys' low' : List ℕ} {r : Bool} → Lowered a e far k mate dist par keys low dist' par' keys' low' r
         → Scanning h n T H W mate pi dist₀ par₀ keys₀ low₀ b k dist' par' keys' low' (nextArc links e)
-    scan-step L = record { dist-len = after L .0 ∙ G .dist-len; par-len = after L .1 ∙ G .par-len; lo = e + 1; next = next-arc; grows = after L .2 }
+    scan-step L = record { dist-len = after L .0 ∙ G .dist-len; par-len = after L .1 ∙ G .par-len; lo = e + 1; next = next-arc (S .index) (G .next) l; grows = after L .2 }
 
     nearer-at : {dist' par' keys' low' : List ℕ} {r : Bool} → r ≡ true → Lowered a e far k mate dist par keys low dist' par' keys' low' r → a < length dist
         → (entry mate a ≡ noArc) × (entry dist' a ≡ k)

@@ -20,7 +20,7 @@ slice-read-if1 c = search needs
 
 -- src/search.rt:44:9
 returns : tie.Need-returns
-returns c = kept (c .if1 .taken) refl refl refl refl
+returns c = kept (omega (arith, c .if1 .taken)) refl refl refl refl
 
 -- src/search.rt:46:5
 mul-key : tie.Need-mul-key

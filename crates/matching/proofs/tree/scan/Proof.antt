@@ -7,8 +7,9 @@ use lib.ListN.{length}
 use borrow.Author.Needs.{needs}
 use Rattle.matching.specs.Tree.{Lowered}
 use Rattle.arc_index.specs.Columns.{tailsOf, headsOf, weightsOf}
+use Rattle.arc_index.proofs.ChainSteps.{in-links, shrinks}
 use Rattle.arc_index.proofs.Columns.{tails-len, heads-len}
-use Rattle.matching.proofs.Scans.{Scanning, ready, here, in-links, shrinks, scan-start, scan-step, scan-found, scan-end}
+use Rattle.matching.proofs.Scans.{Scanning, ready, here, scan-start, scan-step, scan-found, scan-end}
 use Rattle.matching.proofs.tree.scan.Statement.{statement}
 use Rattle.matching.proofs.tree.scan.Tie as tie
 use Rattle.matching.proofs.tree.scan.Reads as reads
@@ -77,7 +78,7 @@ mul-place-2 c = search needs
 
 -- src/tree.rt:94:19
 shared-slice-read-place-2 : tie.Need-shared-slice-read-place-2 Inv-loop μ-loop
-shared-slice-read-place-2 c = let l = c .before .before .before .before .before .before .before .before .before .before .before .before .loop in let p = c .before .before .before .before .before .before .before .before .before .before .before .before .before .before .before .before .before .before .before .before .before .before .pre in in-links (p .0) (l .inv .1) (c .before .before .before .before .before .before .before .before .before .before .before .loop-test .taken)
+shared-slice-read-place-2 c = let l = c .before .before .before .before .before .before .before .before .before .before .before .before .loop in let p = c .before .before .before .before .before .before .before .before .before .before .before .before .before .before .before .before .before .before .before .before .before .before .pre in in-links (p .0 .index) (l .inv .1 .next) (c .before .before .before .before .before .before .before .before .before .before .before .loop-test .taken)
 
 -- src/tree.rt:94:9
 place-requires-2 : tie.Need-place-requires-2 Inv-loop μ-loop
@@ -85,7 +86,7 @@ place-requires-2 c κs = search needs
 
 -- src/tree.rt:90:5
 loop-less : tie.Need-loop-less Inv-loop μ-loop
-loop-less c = let l = c .before .before .before .before .before .before .before .before .before .before .before .before .before .loop in let p = c .before .before .before .before .before .before .before .before .before .before .before .before .before .before .before .before .before .before .before .before .before .before .before .pre in omega (arith, shrinks (p .0) (l .inv .1) (c .before .before .before .before .before .before .before .before .before .before .before .before .loop-test .taken), c .place2 .ensures)
+loop-less c = let l = c .before .before .before .before .before .before .before .before .before .before .before .before .before .loop in let p = c .before .before .before .before .before .before .before .before .before .before .before .before .before .before .before .before .before .before .before .before .before .before .before .pre in omega (arith, shrinks (p .0 .index) (l .inv .1 .next) (c .before .before .before .before .before .before .before .before .before .before .before .before .loop-test .taken), c .place2 .ensures)
 
 -- src/tree.rt:90:5
 loop-again : tie.Need-loop-again Inv-loop μ-loop
