@@ -13,7 +13,7 @@ use Rattle.packed_arcs.specs.Entries.{entry}
 use Rattle.packed_arcs.proofs.ListLoops.{set-cases, filled-as}
 use Rattle.arc_index.specs.ArcIndex.{noArc, nextArc}
 use Rattle.arc_index.specs.Chains.{First}
-use Rattle.arc_index.specs.Columns.{tailsOf, headsOf}
+use Rattle.arc_index.specs.Columns.{recordTails, recordHeads}
 use Rattle.arc_index.proofs.ChainSteps.{is-arc}
 use Rattle.acyclicity.specs.Steps.{Points, Chained, Watch, MovedOn}
 use Rattle.arc_index.proofs.Columns.{tails-len}
@@ -68,9 +68,9 @@ moved-none w = record { watch = w; others = λ u n. refl }
 
 -- e is the current arc of v
 pub record Looking (rs links ranks into₀ into : List ℕ) (v e : ℕ) : Type 0 where
-  pub chained : Chained (length ranks) (tailsOf rs) (headsOf rs) links
+  pub chained : Chained (length ranks) (recordTails rs) (recordHeads rs) links
   pub vertex : v < length ranks
-  pub moved : MovedOn (tailsOf rs) (headsOf rs) ranks into₀ v into
+  pub moved : MovedOn (recordTails rs) (recordHeads rs) ranks into₀ v into
   pub current : e ≡ entry into v
   pub some : e < noArc
 
@@ -79,15 +79,15 @@ pub record AtArc (rs links ranks : List ℕ) (e : ℕ) : Type 0 where
   pub arc : e < length rs
   pub few : e < 4096
   pub link : 256 + e < length links
-  pub tail : entry (tailsOf rs) e < length ranks
+  pub tail : entry (recordTails rs) e < length ranks
   pub small : length ranks ≤ 255
 
 module _ {rs links ranks into₀ into : List ℕ} {v e : ℕ} (L : Looking rs links ranks into₀ into v e) where
   abbrev tails : List ℕ
-  tails = tailsOf rs
+  tails = recordTails rs
 
   abbrev heads : List ℕ
-  heads = headsOf rs
+  heads = recordHeads rs
 
   abbrev W : Watch tails heads ranks into
   W = L .moved .watch

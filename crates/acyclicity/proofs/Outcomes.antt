@@ -19,7 +19,7 @@ use Rattle.arc_index.specs.Chains.{Chains}
 use Rattle.arc_index.specs.declared.End.the-variants.{Head}
 use Rattle.arc_index.proofs.Building.{Built, links-built}
 use Rattle.arc_index.proofs.Ends.{record-chains}
-use Rattle.arc_index.specs.Columns.{tailsOf, headsOf}
+use Rattle.arc_index.specs.Columns.{recordTails, recordHeads}
 use Rattle.acyclicity.specs.Search.{joinsBelow, searchable, SearchOutcome}
 use Rattle.acyclicity.specs.Steps.{Arcs, Chained, ClosedPath, OrderOrCycle}
 use Rattle.acyclicity.specs.Steps.OrderOrCycle.{ordered, cyclic}
@@ -40,10 +40,10 @@ closed-as {n} {n'} {tails} {heads} {into} {path} {spot} {len} q C = subst (λ (k
 
 -- ---- the index of the arcs by head, as it was built
 
-pub chained-built : (rs links₀ links : List ℕ) {n : ℕ} → Arcs n (tailsOf rs) (headsOf rs) → length links₀ ≡ 256 + length rs → Built rs (headsOf rs) links₀ links → Chained n (tailsOf rs) (headsOf rs) links
+pub chained-built : (rs links₀ links : List ℕ) {n : ℕ} → Arcs n (recordTails rs) (recordHeads rs) → length links₀ ≡ 256 + length rs → Built rs (recordHeads rs) links₀ links → Chained n (recordTails rs) (recordHeads rs) links
 chained-built rs links₀ links A q b =
     let few : length rs ≤ noArc = omega (arith, A .few, tails-len rs) in
-    record { arcs = A; chains = subst (Chains (headsOf rs)) (sym (links-built rs (headsOf rs) links₀ links few q b)) (record-chains Head rs few) }
+    record { arcs = A; chains = subst (Chains (recordHeads rs)) (sym (links-built rs (recordHeads rs) links₀ links few q b)) (record-chains Head rs few) }
 
 -- ---- what passes the test
 
@@ -51,7 +51,7 @@ pub record Searchable (rs : List ℕ) (n marks : ℕ) : Type 0 where
   pub small : n ≤ mostVertices
   pub few : length rs ≤ mostArcs
   pub one-each : marks ≡ length rs
-  pub arcs : Arcs n (tailsOf rs) (headsOf rs)
+  pub arcs : Arcs n (recordTails rs) (recordHeads rs)
 
 pub searchable-facts : (rs : List ℕ) (n marks : ℕ) → searchable rs n marks ≡ true → Searchable rs n marks
 searchable-facts rs n marks ok =
@@ -73,7 +73,7 @@ searchable-facts rs n marks ok =
       };
     }
   where
-    joins : (e : ℕ) → e < length (tailsOf rs) → T (joinsBelow n (entry rs e))
+    joins : (e : ℕ) → e < length (recordTails rs) → T (joinsBelow n (entry rs e))
     joins e h =
         each-entry (joinsBelow n) rs
         (and-right (leb n mostVertices && leb (length rs) mostArcs && eqb marks (length rs)) (all (joinsBelow n) rs) (true→T (searchable rs n marks) ok)) e
@@ -94,6 +94,6 @@ module _ (rs ranks marks : List ℕ) (u : Bool) (e : u ≡ searchable rs (length
 
     -- after ranks and marks were set to 0
     pub search-decided : {ranks₁ marks₁ ranks' marks' : List ℕ} {r : Found} → length ranks₁ ≡ length ranks → marks₁ ≡ zeroList (length marks)
-        → length ranks' ≡ length ranks → OrderOrCycle (tailsOf rs) (headsOf rs) ranks₁ marks₁ ranks' marks' r → SearchOutcome rs ranks marks ranks' marks' r
+        → length ranks' ≡ length ranks → OrderOrCycle (recordTails rs) (recordHeads rs) ranks₁ marks₁ ranks' marks' r → SearchOutcome rs ranks marks ranks' marks' r
     search-decided q z k (ordered o m) = SearchOutcome.ordered ok k o (m ∙ z)
     search-decided q z k (cyclic p c) = SearchOutcome.cyclic ok (p ∙ ap zeroList q) c

@@ -8,7 +8,7 @@ use native.Mathlib.Decide.{ℕ-discrete}
 use native.Mathlib.Omega.{arith}
 use lib.ListN.{length, set, length-set, length-replicate}
 use lib.Seq.{getD-set-same, getD-set-other}
-use Rattle.packed_arcs.specs.Entries.{entry, zeroList, zeros}
+use Rattle.packed_arcs.specs.Entries.{entry, zeroList, zeroCount}
 use Rattle.packed_arcs.proofs.LentParts.{zero-at}
 use Rattle.packed_arcs.proofs.ListLoops.{set-cases}
 use Rattle.acyclicity.specs.Steps.{LeadsFrom, Path}
@@ -18,7 +18,7 @@ pub path-none : {n : ℕ} {tails into path spot : List ℕ} → length path ≡ 
 path-none {n} {tails} {into} {path} {spot} q z = record {
   path-len = q;
   spot-len = ap length z ∙ length-replicate n 0;
-  count = omega (arith, ap zeros z, zeros-all n);
+  count = omega (arith, ap zeroCount z, zeros-all n);
   vertex = λ i h. absurd (omega arith);
   spots = λ i h. absurd (omega arith);
   joined = λ i h. absurd (omega arith);
@@ -55,7 +55,7 @@ module _ {n : ℕ} {tails into path spot : List ℕ} {len : ℕ} (P : Path n tai
     slot : v < length spot
     slot = omega (arith, P .spot-len)
 
-    fewer : zeros (set spot v (len + 1)) + 1 ≡ zeros spot
+    fewer : zeroCount (set spot v (len + 1)) + 1 ≡ zeroCount spot
     fewer = zeros-fewer spot v (len + 1) slot off (omega arith)
 
     pub has-room : len < n

@@ -8,11 +8,11 @@ use native.Mathlib.Decide.{decLt}
 use native.Mathlib.Omega.{arith}
 use lib.ListN.{length, set, take, length-set}
 use lib.Seq.{getD-set-other}
-use Rattle.packed_arcs.specs.Entries.{entry, zeroList, zeros}
+use Rattle.packed_arcs.specs.Entries.{entry, zeroList, zeroCount}
 use Rattle.packed_arcs.proofs.LentParts.{zero-at}
 use Rattle.packed_arcs.proofs.ListLoops.{set-cases}
 use Rattle.arc_index.specs.ArcIndex.{noArc}
-use Rattle.arc_index.specs.Columns.{tailsOf, headsOf}
+use Rattle.arc_index.specs.Columns.{recordTails, recordHeads}
 use Rattle.acyclicity.specs.Steps.{Arcs, Points, Chained, Looked, LeadsFrom, Path, Searching, Pushed, Started, Climbed, Ranking, AllRanked, Searched}
 use Rattle.acyclicity.specs.Steps.Started.{kept, started}
 use Rattle.packed_arcs.proofs.Zeros.{zeros-all, zeros-fewer}
@@ -56,25 +56,25 @@ module _ {tails heads ranks into path spot : List ℕ} {len : ℕ} (S : Searchin
 
 -- the last vertex v of the path was looked at, and its current arc is e
 pub record TopLooked (rs links ranks into path spot into' : List ℕ) (len v e : ℕ) : Type 0 where
-  pub chained : Chained (length ranks) (tailsOf rs) (headsOf rs) links
-  pub searching : Searching (tailsOf rs) (headsOf rs) ranks into path spot len
+  pub chained : Chained (length ranks) (recordTails rs) (recordHeads rs) links
+  pub searching : Searching (recordTails rs) (recordHeads rs) ranks into path spot len
   pub some : 0 < len
   pub last : v ≡ entry path (len - 1)
-  pub looked : Looked (tailsOf rs) (headsOf rs) ranks into v into' e
+  pub looked : Looked (recordTails rs) (recordHeads rs) ranks into v into' e
 
 -- what the code asks of that arc
 pub record AtTop (rs ranks spot : List ℕ) (e : ℕ) : Type 0 where
   pub arc : e < length rs
-  pub tail : entry (tailsOf rs) e < length ranks
+  pub tail : entry (recordTails rs) e < length ranks
   pub small : length ranks ≤ 255
-  pub slot : entry (tailsOf rs) e < length spot
+  pub slot : entry (recordTails rs) e < length spot
 
 module _ {rs links ranks into path spot into' : List ℕ} {len v e : ℕ} (T : TopLooked rs links ranks into path spot into' len v e) where
   abbrev tails : List ℕ
-  tails = tailsOf rs
+  tails = recordTails rs
 
   abbrev heads : List ℕ
-  heads = headsOf rs
+  heads = recordHeads rs
 
   pub moved-on : Searching tails heads ranks into' path spot len
   moved-on = searching-looked (T .searching) (T .some) (T .last) (T .looked)
@@ -145,7 +145,7 @@ module _ {tails heads ranks into path spot : List ℕ} {len r : ℕ} (A : Arcs (
   len₁ : length ranks₁ ≡ length ranks
   len₁ = length-set ranks v (r + 1)
 
-  fewer-left : zeros ranks₁ + 1 ≡ zeros ranks
+  fewer-left : zeroCount ranks₁ + 1 ≡ zeroCount ranks
   fewer-left = zeros-fewer ranks v (r + 1) vertex none (omega arith)
 
   pub one-left : r < length ranks
@@ -265,7 +265,7 @@ ranking-none {tails} {heads} ranks z = record {
   low = λ v. omega (arith, none v);
   ranked = λ e h l. absurd (omega (arith, none (entry heads e)));
   rises = λ e h l. absurd (omega (arith, none (entry heads e)));
-  count = omega (arith, ap zeros z, zeros-all (length ranks));
+  count = omega (arith, ap zeroCount z, zeros-all (length ranks));
 }
   where
     none : (v : ℕ) → entry ranks v ≡ 0

@@ -10,7 +10,7 @@ use Rattle.prelude.specs.Lists.{all}
 use Rattle.network.specs.Limits.{mostVertices, mostArcs}
 use Rattle.network.specs.Network.{wordArc, wordArcs}
 use Rattle.packed_arcs.specs.Entries.{entry, zeroList, flowAt}
-use Rattle.arc_index.specs.Columns.{tailsOf, headsOf}
+use Rattle.arc_index.specs.Columns.{recordTails, recordHeads}
 use Rattle.acyclicity.specs.declared.Found.{Found}
 use Rattle.acyclicity.specs.declared.Found.the-variants.{Order, Cycle, Refused}
 
@@ -42,10 +42,10 @@ pub record Circulation (tails heads marks : List ℕ) : Type 0 where
 -- The three outcomes: an order, and no mark; a cycle, and ranks 0; or a refusal, with nothing changed.
 pub data SearchOutcome (rs ranks marks ranks' marks' : List ℕ) : Found → Type 0 where
   ordered :
-      searchable rs (length ranks) (length marks) ≡ true → length ranks' ≡ length ranks → Ordered (tailsOf rs) (headsOf rs) ranks'
+      searchable rs (length ranks) (length marks) ≡ true → length ranks' ≡ length ranks → Ordered (recordTails rs) (recordHeads rs) ranks'
       → marks' ≡ zeroList (length marks) → SearchOutcome rs ranks marks ranks' marks' Order
   cyclic :
-      searchable rs (length ranks) (length marks) ≡ true → ranks' ≡ zeroList (length ranks) → Circulation (tailsOf rs) (headsOf rs) marks'
+      searchable rs (length ranks) (length marks) ≡ true → ranks' ≡ zeroList (length ranks) → Circulation (recordTails rs) (recordHeads rs) marks'
       → SearchOutcome rs ranks marks ranks' marks' Cycle
   refused :
       searchable rs (length ranks) (length marks) ≡ false → ranks' ≡ ranks → marks' ≡ marks

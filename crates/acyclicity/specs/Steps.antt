@@ -6,7 +6,7 @@ use mathlib.Core.List.{List, [], _∷_}
 use Prim.Native.Nat.{ℕ, zero, suc, _+_, _-_, _<_, _≤_}
 use lib.ListN.{length, set}
 use Rattle.network.specs.Limits.{mostVertices, mostArcs}
-use Rattle.packed_arcs.specs.Entries.{entry, zeroList, zeros}
+use Rattle.packed_arcs.specs.Entries.{entry, zeroList, zeroCount}
 use Rattle.arc_index.specs.ArcIndex.{noArc}
 use Rattle.arc_index.specs.Chains.{Chains}
 use Rattle.acyclicity.specs.Search.{Ordered, Circulation}
@@ -64,7 +64,7 @@ pub record LeadsFrom (tails : List ℕ) (e w : ℕ) : Type 0 where
 pub record Path (n : ℕ) (tails into path spot : List ℕ) (len : ℕ) : Type 0 where
   pub path-len : length path ≡ n
   pub spot-len : length spot ≡ n
-  pub count : len + zeros spot ≡ n
+  pub count : len + zeroCount spot ≡ n
   pub vertex : (i : ℕ) → i < len → entry path i < n
   pub spots : (i : ℕ) → i < len → entry spot (entry path i) ≡ i + 1
   pub joined : (i : ℕ) → i + 1 < len → LeadsFrom tails (entry into (entry path i)) (entry path (i + 1))
@@ -110,7 +110,7 @@ pub record Ranking (tails heads ranks : List ℕ) (r : ℕ) : Type 0 where
   pub low : (v : ℕ) → entry ranks v ≤ r
   pub ranked : (e : ℕ) → e < length tails → 0 < entry ranks (entry heads e) → 0 < entry ranks (entry tails e)
   pub rises : (e : ℕ) → e < length tails → 0 < entry ranks (entry heads e) → entry ranks (entry tails e) < entry ranks (entry heads e)
-  pub count : r + zeros ranks ≡ length ranks
+  pub count : r + zeroCount ranks ≡ length ranks
 
 -- Every vertex below v has a rank.
 abbrev pub AllRanked : List ℕ → ℕ → Type 0

@@ -2,7 +2,7 @@
 ghost use mathlib.Core.Path.{_≡_};
 ghost use lib.ListN.{length};
 ghost use Rattle.packed_arcs.specs.Entries.{zeroList};
-ghost use Rattle.arc_index.specs.Columns.{tailsOf, headsOf};
+ghost use Rattle.arc_index.specs.Columns.{recordTails, recordHeads};
 ghost use Rattle.acyclicity.specs.Search.{Circulation};
 ghost use Rattle.acyclicity.specs.Steps.{Arcs, ClosedPath};
 use super::index::place;
@@ -17,10 +17,10 @@ pub(crate) fn mark(
     spot: &[usize],
     marks: &mut [u16],
 )
-    requires { ⌜ Arcs (length (now into)) (tailsOf (now records)) (headsOf (now records)) ⌝ }
-    requires { ⌜ ClosedPath (length (now into)) (tailsOf (now records)) (headsOf (now records)) (now into) (now path) (now spot) len ⌝ }
+    requires { ⌜ Arcs (length (now into)) (recordTails (now records)) (recordHeads (now records)) ⌝ }
+    requires { ⌜ ClosedPath (length (now into)) (recordTails (now records)) (recordHeads (now records)) (now into) (now path) (now spot) len ⌝ }
     requires { ⌜ now marks ≡ zeroList (length (now records)) ⌝ }
-    ensures { λ _. ⌜ Circulation (tailsOf (now (records .entry))) (headsOf (now (records .entry))) (now (marks .exit)) ⌝ }
+    ensures { λ _. ⌜ Circulation (recordTails (now (records .entry))) (recordHeads (now (records .entry))) (now (marks .exit)) ⌝ }
 {
     let top = path[len - 1];
     let w = tail_at(place(into[top]), records);

@@ -3,7 +3,7 @@ ghost use mathlib.Core.Path.{_≡_};
 ghost use Prim.Native.Nat.{_<_, _≤_};
 ghost use lib.ListN.{length, take};
 ghost use Rattle.packed_arcs.specs.Entries.{entry};
-ghost use Rattle.arc_index.specs.Columns.{tailsOf};
+ghost use Rattle.arc_index.specs.Columns.{recordTails};
 use network::arc_in;
 
 // What stands where there is no arc, as an index.
@@ -12,7 +12,7 @@ pub(crate) const NONE: usize = arc_index::NO_ARC as usize;
 // The tail of the arc e.
 pub(crate) fn tail_at(e: usize, records: &[u32]) -> usize
     requires { ⌜ e < length (now records) ⌝ }
-    ensures { λ r. ⌜ r ≡ entry (tailsOf (now (records .entry))) e ⌝ }
+    ensures { λ r. ⌜ r ≡ entry (recordTails (now (records .entry))) e ⌝ }
 {
     let arc = arc_in(records[e]);
     arc.tail as usize

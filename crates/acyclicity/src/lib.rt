@@ -3,7 +3,7 @@ ghost use mathlib.Core.Path.{_≡_};
 ghost use Prim.Native.Nat.{_+_};
 ghost use lib.ListN.{length};
 ghost use Rattle.packed_arcs.specs.Entries.{zeroList};
-ghost use Rattle.arc_index.specs.Columns.{tailsOf, headsOf};
+ghost use Rattle.arc_index.specs.Columns.{recordTails, recordHeads};
 ghost use Rattle.acyclicity.specs.Search.{SearchOutcome};
 ghost use Rattle.acyclicity.specs.Steps.{Arcs, OrderOrCycle};
 use arc_index::End;
@@ -40,10 +40,10 @@ fn decide(
     path: &mut [usize],
     spot: &mut [usize],
 ) -> Found
-    requires { ⌜ Arcs (length (now ranks)) (tailsOf (now records)) (headsOf (now records)) × (length (now links) ≡ 256 + length (now records)) ⌝ }
+    requires { ⌜ Arcs (length (now ranks)) (recordTails (now records)) (recordHeads (now records)) × (length (now links) ≡ 256 + length (now records)) ⌝ }
     requires { ⌜ (now ranks ≡ zeroList (length (now ranks))) × (now marks ≡ zeroList (length (now records))) ⌝ }
     requires { ⌜ (length (now into) ≡ length (now ranks)) × (length (now path) ≡ length (now ranks)) × (now spot ≡ zeroList (length (now ranks))) ⌝ }
-    ensures { λ r. ⌜ OrderOrCycle (tailsOf (now (records .entry))) (headsOf (now (records .entry))) (now (ranks .entry)) (now (marks .entry)) (now (ranks .exit)) (now (marks .exit)) r ⌝ }
+    ensures { λ r. ⌜ OrderOrCycle (recordTails (now (records .entry))) (recordHeads (now (records .entry))) (now (ranks .entry)) (now (marks .entry)) (now (ranks .exit)) (now (marks .exit)) r ⌝ }
 {
     index(records, End::Head, links);
     first_arcs(links, into);

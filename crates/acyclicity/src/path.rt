@@ -4,7 +4,7 @@ ghost use mathlib.Core.Path.{_≡_};
 ghost use Prim.Native.Nat.{_<_};
 ghost use lib.ListN.{length};
 ghost use Rattle.packed_arcs.specs.Entries.{entry};
-ghost use Rattle.arc_index.specs.Columns.{tailsOf, headsOf};
+ghost use Rattle.arc_index.specs.Columns.{recordTails, recordHeads};
 ghost use Rattle.acyclicity.specs.Steps.{Chained, Watch, Looked, Searching, Pushed, Started, Climbed};
 use super::index::NONE;
 use super::index::place;
@@ -12,9 +12,9 @@ use super::index::tail_at;
 
 // An arc into v from a vertex without a rank, or none: the current arc of v moves on to it, past arcs from vertices with a rank.
 fn look(v: usize, records: &[u32], links: &[u16], ranks: &[u32], into: &mut [u16]) -> usize
-    requires { ⌜ Chained (length (now ranks)) (tailsOf (now records)) (headsOf (now records)) (now links) × (v < length (now ranks)) ⌝ }
-    requires { ⌜ Watch (tailsOf (now records)) (headsOf (now records)) (now ranks) (now into) ⌝ }
-    ensures { λ e. ⌜ Looked (tailsOf (now (records .entry))) (headsOf (now (records .entry))) (now (ranks .entry)) (now (into .entry)) v (now (into .exit)) e ⌝ }
+    requires { ⌜ Chained (length (now ranks)) (recordTails (now records)) (recordHeads (now records)) (now links) × (v < length (now ranks)) ⌝ }
+    requires { ⌜ Watch (recordTails (now records)) (recordHeads (now records)) (now ranks) (now into) ⌝ }
+    ensures { λ e. ⌜ Looked (recordTails (now (records .entry))) (recordHeads (now (records .entry))) (now (ranks .entry)) (now (into .entry)) v (now (into .exit)) e ⌝ }
 {
     loop {
         let e = place(into[v]);
@@ -61,10 +61,10 @@ pub(crate) fn climb(
     path: &mut [usize],
     spot: &mut [usize],
 ) -> usize
-    requires { ⌜ Chained (length (now ranks)) (tailsOf (now records)) (headsOf (now records)) (now links) ⌝ }
-    requires { ⌜ Searching (tailsOf (now records)) (headsOf (now records)) (now ranks) (now into) (now path) (now spot) first ⌝ }
+    requires { ⌜ Chained (length (now ranks)) (recordTails (now records)) (recordHeads (now records)) (now links) ⌝ }
+    requires { ⌜ Searching (recordTails (now records)) (recordHeads (now records)) (now ranks) (now into) (now path) (now spot) first ⌝ }
     requires { ⌜ (root < length (now ranks)) × (entry (now ranks) root ≡ 0) ⌝ }
-    ensures { λ r. ⌜ Climbed (tailsOf (now (records .entry))) (headsOf (now (records .entry))) (now (ranks .entry)) (now (into .exit)) (now (path .exit)) (now (spot .exit)) r ⌝ }
+    ensures { λ r. ⌜ Climbed (recordTails (now (records .entry))) (recordHeads (now (records .entry))) (now (ranks .entry)) (now (into .exit)) (now (path .exit)) (now (spot .exit)) r ⌝ }
 {
     let mut len = start(root, first, path, spot);
     loop {

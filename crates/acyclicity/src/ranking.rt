@@ -2,7 +2,7 @@
 ghost use mathlib.Core.Path.{_≡_};
 ghost use lib.ListN.{length, take};
 ghost use Rattle.packed_arcs.specs.Entries.{zeroList};
-ghost use Rattle.arc_index.specs.Columns.{tailsOf, headsOf};
+ghost use Rattle.arc_index.specs.Columns.{recordTails, recordHeads};
 ghost use Rattle.acyclicity.specs.Steps.{Chained, AllRanked, FirstUnranked, Searched};
 use super::path::climb;
 use arc_index::NO_ARC;
@@ -31,9 +31,9 @@ pub(crate) fn rank_all(
     path: &mut [usize],
     spot: &mut [usize],
 ) -> usize
-    requires { ⌜ Chained (length (now ranks)) (tailsOf (now records)) (headsOf (now records)) (now links) × (now into ≡ take (length (now ranks)) (now links)) ⌝ }
+    requires { ⌜ Chained (length (now ranks)) (recordTails (now records)) (recordHeads (now records)) (now links) × (now into ≡ take (length (now ranks)) (now links)) ⌝ }
     requires { ⌜ (now ranks ≡ zeroList (length (now ranks))) × (length (now path) ≡ length (now ranks)) × (now spot ≡ zeroList (length (now ranks))) ⌝ }
-    ensures { λ r. ⌜ Searched (tailsOf (now (records .entry))) (headsOf (now (records .entry))) (now (ranks .exit)) (now (into .exit)) (now (path .exit)) (now (spot .exit)) r ⌝ }
+    ensures { λ r. ⌜ Searched (recordTails (now (records .entry))) (recordHeads (now (records .entry))) (now (ranks .exit)) (now (into .exit)) (now (path .exit)) (now (spot .exit)) r ⌝ }
 {
     let mut r: u32 = 0;
     let mut root = 0;

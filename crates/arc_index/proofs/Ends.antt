@@ -10,7 +10,7 @@ use Rattle.network.specs.Network.{Arc, wordArc, wordArcs}
 use Rattle.packed_arcs.specs.Entries.{entry}
 use Rattle.packed_arcs.specs.PackedArcs.{tailOf, headOf}
 use Rattle.packed_arcs.proofs.ArcColumns.{tail-at, head-at}
-use Rattle.arc_index.specs.ArcIndex.{noArc, linksOf, endOf, endsOf, packedEnd, packedEnds}
+use Rattle.arc_index.specs.ArcIndex.{noArc, linksOf, recordEnd, recordEnds, packedEnd, packedEnds}
 use Rattle.arc_index.specs.declared.End.{End}
 use Rattle.arc_index.specs.declared.End.the-variants.{Tail, Head}
 use Rattle.arc_index.specs.Chains.{Chains}
@@ -18,24 +18,24 @@ use Rattle.arc_index.proofs.Chains.{links-chains}
 
 -- ---- of records
 
-pub ends-len : (end : End) (rs : List ℕ) → length (endsOf end rs) ≡ length rs
+pub ends-len : (end : End) (rs : List ℕ) → length (recordEnds end rs) ≡ length rs
 ends-len Tail rs = length-map (wordArcs rs) (λ e. e .tail) ∙ length-map rs wordArc
 ends-len Head rs = length-map (wordArcs rs) (λ e. e .head) ∙ length-map rs wordArc
 
-pub end-at : (end : End) (rs : List ℕ) (e : ℕ) → entry (endsOf end rs) e ≡ endOf end (entry rs e)
+pub end-at : (end : End) (rs : List ℕ) (e : ℕ) → entry (recordEnds end rs) e ≡ recordEnd end (entry rs e)
 end-at Tail rs e = List·getD-map (λ a. a .tail) (wordArcs rs) e (wordArc 0) ∙ ap (λ (a : Arc). a .tail) (List·getD-map wordArc rs e 0)
 end-at Head rs e = List·getD-map (λ a. a .head) (wordArcs rs) e (wordArc 0) ∙ ap (λ (a : Arc). a .head) (List·getD-map wordArc rs e 0)
 
 -- each is a vertex
-pub ends-below : (end : End) (rs : List ℕ) → Every (λ v. v < 256) (endsOf end rs)
+pub ends-below : (end : End) (rs : List ℕ) → Every (λ v. v < 256) (recordEnds end rs)
 ends-below Tail [] = tt
 ends-below Tail (r ∷ rs) = (omega arith, ends-below Tail rs)
 ends-below Head [] = tt
 ends-below Head (r ∷ rs) = (omega arith, ends-below Head rs)
 
 -- the chains of their index
-pub record-chains : (end : End) (rs : List ℕ) → length rs ≤ noArc → Chains (endsOf end rs) (linksOf (endsOf end rs))
-record-chains end rs h = links-chains (endsOf end rs) (omega (arith, ends-len end rs)) (ends-below end rs)
+pub record-chains : (end : End) (rs : List ℕ) → length rs ≤ noArc → Chains (recordEnds end rs) (linksOf (recordEnds end rs))
+record-chains end rs h = links-chains (recordEnds end rs) (omega (arith, ends-len end rs)) (ends-below end rs)
 
 -- ---- of packed arcs
 

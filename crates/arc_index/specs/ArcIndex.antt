@@ -72,14 +72,14 @@ walk (suc k) links e = pick (ltb e noArc) (e ∷ walk k links (nextArc links e))
 -- ---- of records
 
 -- The end of the arc of a record: its tail, or its head.
-abbrev pub endOf : End → ℕ → ℕ
-endOf Tail k = wordArc k .tail
-endOf Head k = wordArc k .head
+abbrev pub recordEnd : End → ℕ → ℕ
+recordEnd Tail k = wordArc k .tail
+recordEnd Head k = wordArc k .head
 
 -- The ends of the arcs of the records: their tails, or their heads.
-abbrev pub endsOf : End → List ℕ → List ℕ
-endsOf Tail rs = map (λ e. e .tail) (wordArcs rs)
-endsOf Head rs = map (λ e. e .head) (wordArcs rs)
+abbrev pub recordEnds : End → List ℕ → List ℕ
+recordEnds Tail rs = map (λ e. e .tail) (wordArcs rs)
+recordEnds Head rs = map (λ e. e .head) (wordArcs rs)
 
 -- ---- of packed arcs
 

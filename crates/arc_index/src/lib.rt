@@ -5,7 +5,7 @@ ghost use Prim.Native.Nat.{_≤_};
 ghost use lib.ListN.{length, replicate, set};
 ghost use Rattle.prelude.specs.Choice.{pick};
 ghost use Rattle.prelude.specs.Lists.{listTo};
-ghost use Rattle.arc_index.specs.ArcIndex.{noArc, indexOf, addedBelow, indexFrom, linksOf, endOf, endsOf, indexable};
+ghost use Rattle.arc_index.specs.ArcIndex.{noArc, indexOf, addedBelow, indexFrom, linksOf, recordEnd, recordEnds, indexable};
 use network::arc_in;
 
 pub mod packed;
@@ -82,7 +82,7 @@ pub fn add(e: u16, v: u8, links: &mut [u16], last: &mut [u16; 256])
 
 // The end of the arc of a record.
 fn end_of(end: End, word: u32) -> u8
-    ensures { λ r. ⌜ r ≡ endOf end word ⌝ }
+    ensures { λ r. ⌜ r ≡ recordEnd end word ⌝ }
 {
     let arc = arc_in(word);
     match end {
@@ -94,7 +94,7 @@ fn end_of(end: End, word: u32) -> u8
 // Adds the arcs of the records one after the other to an index that has none.
 fn add_all(records: &[u32], end: End, links: &mut [u16], last: &mut [u16; 256])
     requires { ⌜ length (now records) ≤ noArc ⌝ }
-    ensures { λ _. ⌜ indexOf (now (links .exit)) (now (last .exit)) ≡ indexFrom 0 (endsOf end (now (records .entry))) (indexOf (now (links .entry)) (now (last .entry))) ⌝ }
+    ensures { λ _. ⌜ indexOf (now (links .exit)) (now (last .exit)) ≡ indexFrom 0 (recordEnds end (now (records .entry))) (indexOf (now (links .entry)) (now (last .entry))) ⌝ }
 {
     let mut e: u16 = 0;
     while (e as usize) < records.len() {
@@ -106,7 +106,7 @@ fn add_all(records: &[u32], end: End, links: &mut [u16], last: &mut [u16; 256])
 
 // The links of the index of the arcs of the records by an end. Refused, and then nothing is changed, unless there are at most 4096 records, and 256 links and one for each.
 pub fn index(records: &[u32], end: End, links: &mut [u16]) -> bool
-    ensures { λ r. ⌜ (r ≡ indexable (now (records .entry)) (now (links .entry))) × (now (links .exit) ≡ pick (indexable (now (records .entry)) (now (links .entry))) (linksOf (endsOf end (now (records .entry)))) (now (links .entry))) ⌝ }
+    ensures { λ r. ⌜ (r ≡ indexable (now (records .entry)) (now (links .entry))) × (now (links .exit) ≡ pick (indexable (now (records .entry)) (now (links .entry))) (linksOf (recordEnds end (now (records .entry)))) (now (links .entry))) ⌝ }
 {
     if (NO_ARC as usize) < records.len() {
         return false;

@@ -18,7 +18,7 @@ use Rattle.packed_arcs.proofs.Sums.{sum-set}
 use Rattle.engine.specs.Residual.{unreached, ResidualNetwork, residual, WithinLimits, ParentArc, LoweredKeys, AllRelaxed, RaisedPotentials}
 use Rattle.prelude.specs.Choice.{indicator}
 use Rattle.engine.specs.Push.{ParentLink, PushReady, Augmentable, Moved, residualCapacity}
-use Rattle.engine.specs.Phase.{firstKey, Started, SearchResult, NearestSoFar, Nearest, PhaseState, Advanced}
+use Rattle.engine.specs.Phase.{firstKey, FirstKeys, SearchResult, NearestSoFar, Nearest, PhaseState, Advanced}
 use Rattle.engine.proofs.PushedAmounts.{left-sub}
 use Rattle.engine.proofs.PotentialBounds.{in-range, moved-nonnegative}
 
@@ -61,7 +61,7 @@ pub record Converged (N : ResidualNetwork) (key par key' par' : List ℕ) : Type
   pub relaxed : AllRelaxed N key' (length (N .from))
 
 -- a search from the first keys
-pub found : (N : ResidualNetwork) (left key₁ par₁ key par : List ℕ) → Started left key₁ → length par₁ ≡ length left → Converged N key₁ par₁ key par → SearchResult N left key par
+pub found : (N : ResidualNetwork) (left key₁ par₁ key par : List ℕ) → FirstKeys left key₁ → length par₁ ≡ length left → Converged N key₁ par₁ key par → SearchResult N left key par
 found N left key₁ par₁ key par S hp T = record {
   key-len = T .keeps .key-len ∙ S .len;
   par-len = T .keeps .par-len ∙ hp;

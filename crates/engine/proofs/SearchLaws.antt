@@ -21,8 +21,8 @@ use Rattle.arc_index.proofs.ChainSteps as steps
 use Rattle.vertex_queue.specs.VertexQueue.{waitsNot, Kept, Holds, nobody, putIn, takenOut, leastVertex, leastEntry}
 use Rattle.vertex_queue.proofs.Laws.{begin-kept, put-kept, take-kept, taken-key, none-waits, vertex-below}
 use Rattle.engine.specs.Residual.{unreached, ResidualNetwork, keyBeyond, WithinLimits, ParentArc, LoweredKeys, RelaxedArc, AllRelaxed}
-use Rattle.engine.specs.Search.{startOf, finishOf, IsResidual, lengthOf, codeOf, starts, Relaxed, LowerOutcome, RelaxOutcome, SearchReady, waiting, work, SearchState, Looking, firstCode, endCode, Scanned, BackwardIndex}
-use Rattle.engine.specs.Phase.{Started, firstKey, StartOutcome}
+use Rattle.engine.specs.Search.{startOf, finishOf, IsResidual, lengthOf, codeOf, starts, Relaxed, LowerOutcome, RelaxOutcome, SearchReady, waiting, work, SearchState, Looking, firstCode, endCode, ScannedFrom, BackwardIndex}
+use Rattle.engine.specs.Phase.{FirstKeys, firstKey, StartOutcome}
 use Rattle.engine.proofs.FallingKeys.{lower-refl, lower-trans, lower-one}
 
 -- ---- residual arcs, forward or back
@@ -286,7 +286,7 @@ module _ {N : ResidualNetwork} {n : ℕ} (R : SearchReady N n) {back : Bool} {u 
   })
 
 pub scan-end : {N : ResidualNetwork} {n : ℕ} → SearchReady N n → {back : Bool} {u k : ℕ} {key₀ par₀ keys₀ low₀ key par keys low : List ℕ} {e : ℕ}
-    → Scanning N back u k key₀ par₀ keys₀ low₀ key par keys low e → 4096 ≤ e → Scanned N back u k key₀ par₀ keys₀ low₀ key par keys low
+    → Scanning N back u k key₀ par₀ keys₀ low₀ key par keys low e → 4096 ≤ e → ScannedFrom N back u k key₀ par₀ keys₀ low₀ key par keys low
 scan-end {N} {n} R {back} {u} {k} {key₀} {par₀} {keys₀} {low₀} {key} {par} {keys} {low} {e} G q = record {
   keeps = G .keeps;
   looking = record {
@@ -319,13 +319,13 @@ scan-end {N} {n} R {back} {u} {k} {key₀} {par₀} {keys₀} {low₀} {key} {pa
 -- ---- all residual arcs from a vertex
 
 -- both directions of a scan, one after the other
-pub both-scans : {N : ResidualNetwork} {u k : ℕ} {key₀ par₀ keys₀ low₀ key par keys low key' par' keys' low' : List ℕ} → Scanned N false u k key₀ par₀ keys₀ low₀ key par keys low
-    → Scanned N true u k key par keys low key' par' keys' low' → Scanned N true u k key₀ par₀ keys₀ low₀ key' par' keys' low'
+pub both-scans : {N : ResidualNetwork} {u k : ℕ} {key₀ par₀ keys₀ low₀ key par keys low key' par' keys' low' : List ℕ} → ScannedFrom N false u k key₀ par₀ keys₀ low₀ key par keys low
+    → ScannedFrom N true u k key par keys low key' par' keys' low' → ScannedFrom N true u k key₀ par₀ keys₀ low₀ key' par' keys' low'
 both-scans A B = record { keeps = lower-trans (A .keeps) (B .keeps); looking = B .looking; falls = omega (arith, A .falls, B .falls) }
 
 -- where no arc carries anything, there is none back
-pub forward-only : {N : ResidualNetwork} {u k : ℕ} {into key₀ par₀ keys₀ low₀ key par keys low : List ℕ} → length (N .from) ≤ 4096 → BackwardIndex N into → length into ≡ 0 → Scanned N false u k key₀ par₀ keys₀ low₀ key par keys low
-    → Scanned N true u k key₀ par₀ keys₀ low₀ key par keys low
+pub forward-only : {N : ResidualNetwork} {u k : ℕ} {into key₀ par₀ keys₀ low₀ key par keys low : List ℕ} → length (N .from) ≤ 4096 → BackwardIndex N into → length into ≡ 0 → ScannedFrom N false u k key₀ par₀ keys₀ low₀ key par keys low
+    → ScannedFrom N true u k key₀ par₀ keys₀ low₀ key par keys low
 forward-only few (BackwardIndex.indexed C) z A = absurd (omega (arith, C .len))
 forward-only {N} {u} {k} {into} {key₀} {par₀} {keys₀} {low₀} {key} {par} {keys} {low} few (BackwardIndex.idle none z') z A =
     let L = A .looking in
@@ -462,5 +462,5 @@ between-on {N} {key} {keys} {low} {u} R L = record {
     below true i h = omega (arith, R .sized .few)
 
 -- from the start on
-pub ready-since : {N : ResidualNetwork} {left key₁ par₁ key par : List ℕ} → SearchReady N (length left) → Started left key₁ → LoweredKeys N key₁ par₁ key par → SearchReady N (length key)
+pub ready-since : {N : ResidualNetwork} {left key₁ par₁ key par : List ℕ} → SearchReady N (length left) → FirstKeys left key₁ → LoweredKeys N key₁ par₁ key par → SearchReady N (length key)
 ready-since {N} R S K = subst (SearchReady N) (sym (K .key-len ∙ S .len)) R

@@ -16,13 +16,13 @@ abbrev pub firstKey : ℕ → ℕ
 firstKey l = pick (ltb 0 l) 0 unreached
 
 -- The keys that a search starts with, by the supply left.
-pub record Started (left key : List ℕ) : Type 0 where
+pub record FirstKeys (left key : List ℕ) : Type 0 where
   pub len : length key ≡ length left
   pub keys : (v : ℕ) → v < length left → entry key v ≡ firstKey (entry left v)
 
 -- The keys that a search starts with, and who waits: each vertex with its key, so those with supply.
 pub record StartOutcome (left key keys low : List ℕ) : Type 0 where
-  pub started : Started left key
+  pub started : FirstKeys left key
   pub queue : Kept keys low
   pub same : (v : ℕ) → v < length left → entry keys v ≡ entry key v
   pub nobody : (v : ℕ) → length left ≤ v → v < 256 → waitsNot ≤ entry keys v

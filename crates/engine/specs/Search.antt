@@ -106,7 +106,7 @@ abbrev pub endCode : Bool → ℕ
 endCode back = codeOf back 4096
 
 -- All residual arcs from u, forward or back, were looked at.
-pub record Scanned (N : ResidualNetwork) (back : Bool) (u k : ℕ) (key par keys low key' par' keys' low' : List ℕ) : Type 0 where
+pub record ScannedFrom (N : ResidualNetwork) (back : Bool) (u k : ℕ) (key par keys low key' par' keys' low' : List ℕ) : Type 0 where
   pub keeps : LoweredKeys N key par key' par'
   pub looking : Looking N key' keys' low' u k (endCode back)
   pub falls : work key' keys' ≤ work key keys

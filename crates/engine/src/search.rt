@@ -6,7 +6,7 @@ ghost use Prim.Native.Nat.{_+_, _<_, _≤_};
 ghost use lib.ListN.{length};
 ghost use Rattle.arc_index.specs.Chains.{Chains};
 ghost use Rattle.engine.specs.PackedNetwork.{residualOf};
-ghost use Rattle.engine.specs.Search.{starts, LowerOutcome, RelaxOutcome, SearchReady, Looking, firstCode, Scanned, BackwardIndex};
+ghost use Rattle.engine.specs.Search.{starts, LowerOutcome, RelaxOutcome, SearchReady, Looking, firstCode, ScannedFrom, BackwardIndex};
 ghost use Rattle.packed_arcs.specs.PackedArcs.{tailsOf};
 ghost use Rattle.vertex_queue.specs.VertexQueue.{Holds, nobody};
 ghost use Rattle.engine.specs.Phase.{firstKey, StartOutcome, SearchResult};
@@ -139,7 +139,7 @@ fn scan(
 )
     requires { ⌜ Chains (starts (residualOf (now arcs) (now x) (now pi)) back) (now links) × (length (now par) ≡ length (now key)) × SearchReady (residualOf (now arcs) (now x) (now pi)) (length (now key)) ⌝ }
     requires { ⌜ Looking (residualOf (now arcs) (now x) (now pi)) (now key) (now keys) (now low) u k (firstCode back) ⌝ }
-    ensures { λ _. ⌜ Scanned (residualOf (now (arcs .entry)) (now (x .entry)) (now (pi .entry))) back u k (now (key .entry)) (now (par .entry)) (now (keys .entry)) (now (low .entry)) (now (key .exit)) (now (par .exit)) (now (keys .exit)) (now (low .exit)) ⌝ }
+    ensures { λ _. ⌜ ScannedFrom (residualOf (now (arcs .entry)) (now (x .entry)) (now (pi .entry))) back u k (now (key .entry)) (now (par .entry)) (now (keys .entry)) (now (low .entry)) (now (key .exit)) (now (par .exit)) (now (keys .exit)) (now (low .exit)) ⌝ }
 {
     let mut e = place(links[u]);
     while e < 4096 {
@@ -164,7 +164,7 @@ fn look(
 )
     requires { ⌜ Chains (starts (residualOf (now arcs) (now x) (now pi)) false) (now out) × BackwardIndex (residualOf (now arcs) (now x) (now pi)) (now into) × (length (now par) ≡ length (now key)) × SearchReady (residualOf (now arcs) (now x) (now pi)) (length (now key)) ⌝ }
     requires { ⌜ Looking (residualOf (now arcs) (now x) (now pi)) (now key) (now keys) (now low) u k (firstCode false) ⌝ }
-    ensures { λ _. ⌜ Scanned (residualOf (now (arcs .entry)) (now (x .entry)) (now (pi .entry))) true u k (now (key .entry)) (now (par .entry)) (now (keys .entry)) (now (low .entry)) (now (key .exit)) (now (par .exit)) (now (keys .exit)) (now (low .exit)) ⌝ }
+    ensures { λ _. ⌜ ScannedFrom (residualOf (now (arcs .entry)) (now (x .entry)) (now (pi .entry))) true u k (now (key .entry)) (now (par .entry)) (now (keys .entry)) (now (low .entry)) (now (key .exit)) (now (par .exit)) (now (keys .exit)) (now (low .exit)) ⌝ }
 {
     scan(false, u, k, arcs, out, x, pi, key, par, keys, low);
     if into.len() == 0 {

@@ -12,7 +12,7 @@ use Rattle.prelude.proofs.Choice.{eqb-on, eqb-off, leb-on, leb-off}
 use Rattle.packed_arcs.specs.Entries.{entry}
 use Rattle.arc_index.specs.ArcIndex.{noArc, firstArc, nextArc}
 use Rattle.arc_index.specs.Chains.{First, found, none, Chains}
-use Rattle.matching.specs.Bidding.{tooMuch, costOf, costUnless, Affordable, Cheapest, Offer, Room, freed, assignedMates, assignedPotentials}
+use Rattle.matching.specs.Bidding.{tooMuch, bidCost, costUnless, Affordable, Cheapest, Offer, Room, freed, assignedMates, assignedPotentials}
 use Rattle.matching.specs.Matching.{Bipartite, Noted, State}
 use Rattle.matching.proofs.Pairs.{noted, left-end}
 
@@ -21,7 +21,7 @@ use Rattle.matching.proofs.Pairs.{noted, left-end}
 pub cost-except : (T W pi : List ℕ) (except e : ℕ) → entry T e ≡ except → costUnless T W pi except e ≡ tooMuch
 cost-except T W pi except e q = sym (eqb-on ℕ _ _ _ _ _ q refl)
 
-pub cost-other : (T W pi : List ℕ) (except e : ℕ) → entry T e ≢ except → costUnless T W pi except e ≡ costOf T W pi e
+pub cost-other : (T W pi : List ℕ) (except e : ℕ) → entry T e ≢ except → costUnless T W pi except e ≡ bidCost T W pi e
 cost-other T W pi except e q = sym (eqb-off ℕ _ _ _ _ _ q refl)
 
 -- ---- the cheapest arc along a chain
@@ -141,14 +141,14 @@ affordable {h} {n} {T} S e l =
 
 -- the cheapest arc, or the second, where they cost the same, for what the second costs
 pub offer : {h n : ℕ} {T H W links mate pi : List ℕ} (t e1 e2 e u : ℕ) → State h n T H W links mate pi → e1 < noArc → e2 < noArc → Cheapest T H W pi t h e1 → Cheapest T H W pi t (entry T e1) e2
-    → u ≡ costOf T W pi e2 → u ≤ 8322818 → (e ≡ e1) ⊎ ((e ≡ e2) × (u ≤ costOf T W pi e1)) → Offer T H W pi t e u
+    → u ≡ bidCost T W pi e2 → u ≤ 8322818 → (e ≡ e1) ⊎ ((e ≡ e2) × (u ≤ bidCost T W pi e1)) → Offer T H W pi t e u
 offer {h} {n} {T} {H} {W} {links} {mate} {pi} t e1 e2 e u S i j A B q m c = go c
   where
     -- nobody is excepted in the first place
-    first : (k : ℕ) → k < length T → entry H k ≡ t → costOf T W pi e1 ≤ costOf T W pi k
+    first : (k : ℕ) → k < length T → entry H k ≡ t → bidCost T W pi e1 ≤ bidCost T W pi k
     first k l r = A .least i k l r (λ z. absurd (omega (arith, S .graph .from-left k l)))
 
-    go : (e ≡ e1) ⊎ ((e ≡ e2) × (u ≤ costOf T W pi e1)) → Offer T H W pi t e u
+    go : (e ≡ e1) ⊎ ((e ≡ e2) × (u ≤ bidCost T W pi e1)) → Offer T H W pi t e u
     go (inl z) =
         subst (λ (k : ℕ). Offer T H W pi t k u) (sym z)
         (record {

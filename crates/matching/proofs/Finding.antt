@@ -15,12 +15,12 @@ use Rattle.network.specs.Network.{wordArc}
 use Rattle.packed_arcs.specs.Entries.{entry, zeroList}
 use Rattle.packed_arcs.proofs.LentParts.{zero-at}
 use Rattle.packed_arcs.proofs.ListLoops.{each-entry}
-use Rattle.arc_index.specs.ArcIndex.{noArc, linksOf, endsOf, indexable}
+use Rattle.arc_index.specs.ArcIndex.{noArc, linksOf, recordEnds, indexable}
 use Rattle.arc_index.specs.Chains.{Chains}
 use Rattle.arc_index.specs.declared.End.the-variants.{Head}
 use Rattle.arc_index.proofs.Building.{Built, links-built}
 use Rattle.arc_index.proofs.Ends.{record-chains}
-use Rattle.arc_index.specs.Columns.{tailsOf, headsOf, weightsOf}
+use Rattle.arc_index.specs.Columns.{recordTails, recordHeads, recordWeights}
 use Rattle.matching.specs.Matching.{Bipartite, Noted, State}
 use Rattle.matching.specs.Outcome.{leadsAcross, matchable, Amounts, Marks, Perfect, Deficient, FindOutcome}
 use Rattle.matching.specs.Serving.{PassOutcome}
@@ -36,7 +36,7 @@ pub record Matchable (rs : List ℕ) (h n xs : ℕ) : Type 0 where
   pub double : n ≡ h + h
   pub few : length rs ≤ 4096
   pub one-each : xs ≡ length rs
-  pub graph : Bipartite h n (tailsOf rs) (headsOf rs) (weightsOf rs)
+  pub graph : Bipartite h n (recordTails rs) (recordHeads rs) (recordWeights rs)
 
 pub matchable-facts : (rs : List ℕ) (h n xs : ℕ) → matchable rs h n xs ≡ true → Matchable rs h n xs
 matchable-facts rs h n xs ok =
@@ -83,7 +83,7 @@ matchable-facts rs h n xs ok =
     d : T (eqb xs (length rs))
     d = and-right (leb h 127 && eqb n (2 * h) && leb (length rs) mostArcs) (eqb xs (length rs)) t₄
 
-    each : (e : ℕ) → e < length (tailsOf rs) → T (leadsAcross h n (entry rs e))
+    each : (e : ℕ) → e < length (recordTails rs) → T (leadsAcross h n (entry rs e))
     each e l = each-entry (leadsAcross h n) rs (and-right (leb h 127 && eqb n (2 * h) && leb (length rs) mostArcs && eqb xs (length rs)) (all (leadsAcross h n) rs) t) e (omega (arith, tails-len rs))
 
     p₁ : ℕ → Bool
@@ -100,15 +100,15 @@ matchable-facts rs h n xs ok =
 
 -- ---- nothing is matched yet
 
-pub begun : (rs links₀ : List ℕ) {h n : ℕ} {links mate pi : List ℕ} → Bipartite h n (tailsOf rs) (headsOf rs) (weightsOf rs) → length links₀ ≡ 256 + length rs → Built rs (headsOf rs) links₀ links
-    → mate ≡ replicate n noArc → pi ≡ zeroList n → State h n (tailsOf rs) (headsOf rs) (weightsOf rs) links mate pi
+pub begun : (rs links₀ : List ℕ) {h n : ℕ} {links mate pi : List ℕ} → Bipartite h n (recordTails rs) (recordHeads rs) (recordWeights rs) → length links₀ ≡ 256 + length rs → Built rs (recordHeads rs) links₀ links
+    → mate ≡ replicate n noArc → pi ≡ zeroList n → State h n (recordTails rs) (recordHeads rs) (recordWeights rs) links mate pi
 begun rs links₀ {h} {n} {links} {mate} {pi} G l q em ep = record {
   graph = G;
-  index = subst (Chains (headsOf rs)) (sym (links-built rs (headsOf rs) links₀ links few l q)) (record-chains Head rs few);
+  index = subst (Chains (recordHeads rs)) (sym (links-built rs (recordHeads rs) links₀ links few l q)) (record-chains Head rs few);
   pairs = record { len = rw em (length-replicate n noArc); each = λ v b. inl (bare v b) };
   priced = record {
     len = rw ep (length-replicate n 0);
-    feasible = λ e b. omega (arith, none (entry (headsOf rs) e));
+    feasible = λ e b. omega (arith, none (entry (recordHeads rs) e));
     tight = λ v b m. absurd (omega (arith, bare v b));
   };
   exposed = λ a b m. none a;

@@ -11,13 +11,13 @@ use borrow.Author.Tests.{lt-ltb, le-ltb, eq-eqb, ne-eqb}
 use lib.Dec.{eqb, ltb}
 use lib.ListN.{length, set, length-set}
 use Rattle.prelude.specs.Choice.{pick}
-use Rattle.packed_arcs.specs.Entries.{entry, zeros}
+use Rattle.packed_arcs.specs.Entries.{entry, zeroCount}
 use Rattle.packed_arcs.proofs.ListLoops.{set-cases}
 use Rattle.packed_arcs.proofs.Zeros.{zeros-fewer}
 use Rattle.arc_index.specs.ArcIndex.{noArc}
 use Rattle.vertex_queue.specs.VertexQueue.{waitsNot}
 use Rattle.matching.specs.Matching.{Noted, State}
-use Rattle.matching.specs.Tree.{InTree, Parent, Taken, Tree}
+use Rattle.matching.specs.Tree.{InTree, Parent, TakenLeft, Tree}
 use Rattle.matching.specs.Augmenting.{riseOf, Raised, Onward, Alternating}
 use Rattle.matching.proofs.TreeLaws.{right-end, left-end, partner, in-tree-near}
 use Rattle.matching.proofs.Pairs.{noted}
@@ -32,10 +32,10 @@ rise-most h T mate dist t d v = go (ltb v h) (eqb v t) (ltb (entry mate v) noArc
     go false false true = omega arith
     go false false false = omega arith
 
-zeros-some : (l : List ℕ) (i : ℕ) → i < length l → entry l i ≡ 0 → 0 < zeros l
+zeros-some : (l : List ℕ) (i : ℕ) → i < length l → entry l i ≡ 0 → 0 < zeroCount l
 zeros-some l i h e = go (zeros-fewer l i 1 h e (omega arith))
   where
-    go : zeros (set l i 1) + 1 ≡ zeros l → 0 < zeros l
+    go : zeroCount (set l i 1) + 1 ≡ zeroCount l → 0 < zeroCount l
     go q = omega arith
 
 module _ {h n : ℕ} {T H W links mate pi : List ℕ} (S : State h n T H W links mate pi)

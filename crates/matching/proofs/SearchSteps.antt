@@ -7,14 +7,14 @@ use Prim.Native.Nat.{ℕ, _+_, _*_, _<_, _≤_}
 use native.Mathlib.Omega.{arith}
 use native.Mathlib.Decide.{decLt}
 use lib.ListN.{length, set, replicate, length-replicate, getD-replicate}
-use Rattle.packed_arcs.specs.Entries.{entry, zeroList, zeros}
+use Rattle.packed_arcs.specs.Entries.{entry, zeroList, zeroCount}
 use Rattle.packed_arcs.proofs.LentParts.{zero-at}
 use Rattle.packed_arcs.proofs.Zeros.{zeros-all}
 use Rattle.arc_index.specs.ArcIndex.{noArc}
 use Rattle.vertex_queue.specs.VertexQueue.{waitsNot, Kept, Holds, nobody, takenOut, leastVertex, leastEntry}
 use Rattle.vertex_queue.proofs.Laws.{begin-kept, take-kept, taken-key, take-least, none-waits, vertex-below}
 use Rattle.matching.specs.Matching.{Noted, State}
-use Rattle.matching.specs.Tree.{InTree, Tree, ScanEnd, Scanned, Searched}
+use Rattle.matching.specs.Tree.{InTree, Tree, ScanEnd, Scanned, SearchedBack}
 use Rattle.matching.proofs.TreeLaws.{in-tree-near, one-distance}
 use Rattle.matching.proofs.TakenVertices as vertices
 
@@ -85,12 +85,12 @@ module _ {h n : ℕ} {T H W links mate pi : List ℕ} (S : State h n T H W links
       end = C .grows t nd (G .j) order (G .here) (G .kept) (G .tree)
 
       -- an exposed vertex as near as b
-      pub met : r < h → Searched h n T H W mate pi t dist' par' order r
+      pub met : r < h → SearchedBack h n T H W mate pi t dist' par' order r
       met l = go (end .1)
         where
-          go : ScanEnd h n T H W mate pi t dist' par' order keys' b k nd r → Searched h n T H W mate pi t dist' par' order r
+          go : ScanEnd h n T H W mate pi t dist' par' order keys' b k nd r → SearchedBack h n T H W mate pi t dist' par' order r
           go (ScanEnd.all x R) = absurd (omega (arith, S .graph .half))
-          go (ScanEnd.found hr m d j lo I R) = Searched.reached hr m (omega (arith, small)) keys' nd b lo
+          go (ScanEnd.found hr m d j lo I R) = SearchedBack.reached hr m (omega (arith, small)) keys' nd b lo
               (subst (λ (z : ℕ). Tree h n T H W mate pi t dist' par' order keys' z nd b lo) (sym d) R)
               (λ D i q J. omega (arith, one-distance S R b D k i j J I))
 
@@ -103,8 +103,8 @@ module _ {h n : ℕ} {T H W links mate pi : List ℕ} (S : State h n T H W links
             go (ScanEnd.found hr m d j lo I R) = absurd (omega arith)
 
         -- nobody waits
-        pub nobody-left : waitsNot ≤ leastEntry low' 0 → Searched h n T H W mate pi t dist' par' order 256
-        nobody-left q = Searched.stuck refl keys' k nd R' (λ a ha o. omega (arith, R' .waits a ha o, none-waits keys' low' (end .0) q a (omega (arith, S .graph .half))))
+        pub nobody-left : waitsNot ≤ leastEntry low' 0 → SearchedBack h n T H W mate pi t dist' par' order 256
+        nobody-left q = SearchedBack.stuck refl keys' k nd R' (λ a ha o. omega (arith, R' .waits a ha o, none-waits keys' low' (end .0) q a (omega (arith, S .graph .half))))
 
         module _ (q : leastEntry low' 0 < waitsNot) where
           abbrev a : ℕ
@@ -127,8 +127,8 @@ module _ {h n : ℕ} {T H W links mate pi : List ℕ} (S : State h n T H W links
           distance : leastEntry low' 0 ≡ entry dist' a
           distance = sym (taken-key keys' low' (end .0)) ∙ vertices.key-is S R' a left wait least
 
-          pub exposed-there : noArc ≤ entry mate a → Searched h n T H W mate pi t dist' par' order a
-          exposed-there m = Searched.reached left (bare (S .pairs .each a (omega (arith, left, S .graph .within)))) (omega (arith, distance)) keys' nd n 0
+          pub exposed-there : noArc ≤ entry mate a → SearchedBack h n T H W mate pi t dist' par' order a
+          exposed-there m = SearchedBack.reached left (bare (S .pairs .each a (omega (arith, left, S .graph .within)))) (omega (arith, distance)) keys' nd n 0
               (vertices.ended S R' a left wait least) (λ D j x I. absurd (omega arith))
             where
               bare : (entry mate a ≡ noArc) ⊎ Noted T H mate a (entry mate a) → entry mate a ≡ noArc

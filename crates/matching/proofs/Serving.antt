@@ -12,7 +12,7 @@ use Rattle.packed_arcs.specs.Entries.{entry}
 use Rattle.arc_index.specs.ArcIndex.{noArc}
 use Rattle.vertex_queue.specs.VertexQueue.{waitsNot}
 use Rattle.matching.specs.Matching.{Noted, State}
-use Rattle.matching.specs.Tree.{InTree, Tree, Searched}
+use Rattle.matching.specs.Tree.{InTree, Tree, SearchedBack}
 use Rattle.matching.specs.Augmenting.{Raised, Alternating, Augmented}
 use Rattle.matching.specs.Serving.{Stuck, Served, PassOutcome}
 use Rattle.matching.proofs.Raising as raising
@@ -22,28 +22,28 @@ pub state-at : {h n h' n' : ℕ} {T H W links mate pi : List ℕ} → h' ≡ h �
 state-at {h} {n} {h'} {n'} {T} {H} {W} {links} {mate} {pi} p q S =
     subst (λ (z : ℕ). State z n' T H W links mate pi) (sym p) (subst (λ (z : ℕ). State h z T H W links mate pi) (sym q) S)
 
-module _ {h n : ℕ} {T H W links mate pi : List ℕ} (S : State h n T H W links mate pi) {t r : ℕ} {dist par order : List ℕ} (X : Searched h n T H W mate pi t dist par order r) where
+module _ {h n : ℕ} {T H W links mate pi : List ℕ} (S : State h n T H W links mate pi) {t r : ℕ} {dist par order : List ℕ} (X : SearchedBack h n T H W mate pi t dist par order r) where
   pub search-lengths : (length dist ≡ h) × (length par ≡ h) × (length order ≡ h)
   search-lengths = go X
     where
-      go : Searched h n T H W mate pi t dist par order r → (length dist ≡ h) × (length par ≡ h) × (length order ≡ h)
-      go (Searched.reached a b c keys nd cur lo R l) = (R .dist-len, R .par-len, R .order-len)
-      go (Searched.stuck a keys k nd R f) = (R .dist-len, R .par-len, R .order-len)
+      go : SearchedBack h n T H W mate pi t dist par order r → (length dist ≡ h) × (length par ≡ h) × (length order ≡ h)
+      go (SearchedBack.reached a b c keys nd cur lo R l) = (R .dist-len, R .par-len, R .order-len)
+      go (SearchedBack.stuck a keys k nd R f) = (R .dist-len, R .par-len, R .order-len)
 
   pub search-stuck : h ≤ r → Stuck h n T H W mate pi t dist
   search-stuck g = go X
     where
-      go : Searched h n T H W mate pi t dist par order r → Stuck h n T H W mate pi t dist
-      go (Searched.reached a b c keys nd cur lo R l) = absurd (omega arith)
-      go (Searched.stuck a keys k nd R f) = record { par = par; order = order; keys = keys; k = k; nd = nd; tree = R; none = f }
+      go : SearchedBack h n T H W mate pi t dist par order r → Stuck h n T H W mate pi t dist
+      go (SearchedBack.reached a b c keys nd cur lo R l) = absurd (omega arith)
+      go (SearchedBack.stuck a keys k nd R f) = record { par = par; order = order; keys = keys; k = k; nd = nd; tree = R; none = f }
 
   module _ (hr : r < h) where
     pub small : entry dist r ≤ 2000000000
     small = go X
       where
-        go : Searched h n T H W mate pi t dist par order r → entry dist r ≤ 2000000000
-        go (Searched.reached a b c keys nd cur lo R l) = omega (arith, R .near r hr c, S .range r (omega (arith, S .graph .within)), R .count, S .graph .half)
-        go (Searched.stuck a keys k nd R f) = absurd (omega (arith, S .graph .half))
+        go : SearchedBack h n T H W mate pi t dist par order r → entry dist r ≤ 2000000000
+        go (SearchedBack.reached a b c keys nd cur lo R l) = omega (arith, R .near r hr c, S .range r (omega (arith, S .graph .within)), R .count, S .graph .half)
+        go (SearchedBack.stuck a keys k nd R f) = absurd (omega (arith, S .graph .half))
 
     order-long : {h₂ : ℕ} → h₂ ≡ length (set order r 255) → h₂ ≡ h
     order-long e = e ∙ length-set order r 255 ∙ search-lengths .2
@@ -53,9 +53,9 @@ module _ {h n : ℕ} {T H W links mate pi : List ℕ} (S : State h n T H W links
         subst (λ (z : ℕ). Alternating z n₂ T H W links mate pi' par (set order r 255) t r) (sym (order-long e₂))
         (subst (λ (z : ℕ). Alternating h z T H W links mate pi' par (set order r 255) t r) (sym e₃) (go X))
       where
-        go : Searched h n T H W mate pi t dist par order r → Alternating h n T H W links mate pi' par (set order r 255) t r
-        go (Searched.reached a b c keys nd cur lo R l) = raising.alternating S r hr b c R l (subst (λ (z : ℕ). Raised z T mate dist t (entry dist r) pi pi') e₁ U)
-        go (Searched.stuck a keys k nd R f) = absurd (omega (arith, S .graph .half))
+        go : SearchedBack h n T H W mate pi t dist par order r → Alternating h n T H W links mate pi' par (set order r 255) t r
+        go (SearchedBack.reached a b c keys nd cur lo R l) = raising.alternating S r hr b c R l (subst (λ (z : ℕ). Raised z T mate dist t (entry dist r) pi pi') e₁ U)
+        go (SearchedBack.stuck a keys k nd R f) = absurd (omega (arith, S .graph .half))
 
     pub served : {pi' mate' : List ℕ} {h₂ n₂ : ℕ} → h₂ ≡ length (set order r 255) → n₂ ≡ n → Augmented h₂ n₂ T H W links mate pi' t mate' → Served h n T H W links mate t dist mate' pi' true
     served {pi'} {mate'} {h₂} {n₂} e₂ e₃ A = Served.grown (search-lengths .0) (state-at (sym (order-long e₂)) (sym e₃) (A .state)) (A .root)

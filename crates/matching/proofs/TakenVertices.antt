@@ -7,13 +7,13 @@ use Prim.Native.Nat.{ℕ, _+_, _*_, _<_, _≤_}
 use native.Mathlib.Omega.{arith}
 use native.Mathlib.Decide.{decLt}
 use lib.ListN.{length, set, length-set}
-use Rattle.packed_arcs.specs.Entries.{entry, zeros}
+use Rattle.packed_arcs.specs.Entries.{entry, zeroCount}
 use Rattle.packed_arcs.proofs.ListLoops.{set-cases}
 use Rattle.packed_arcs.proofs.Zeros.{zeros-fewer}
 use Rattle.arc_index.specs.ArcIndex.{noArc}
 use Rattle.vertex_queue.specs.VertexQueue.{waitsNot}
 use Rattle.matching.specs.Matching.{Noted, State}
-use Rattle.matching.specs.Tree.{InTree, Parent, Taken, Tree}
+use Rattle.matching.specs.Tree.{InTree, Parent, TakenLeft, Tree}
 use Rattle.matching.proofs.TreeLaws.{right-end, left-end, in-tree-near}
 use Rattle.matching.proofs.Pairs.{noted}
 
@@ -40,7 +40,7 @@ module _ {h n : ℕ} {T H W links mate pi : List ℕ} (S : State h n T H W links
 
     -- ---- it is exposed: the search ends
 
-    taken-farther : (c : ℕ) → Taken mate pi dist order t k nd c → Taken mate pi dist order t (entry dist a) nd c
+    taken-farther : (c : ℕ) → TakenLeft mate pi dist order t k nd c → TakenLeft mate pi dist order t (entry dist a) nd c
     taken-farther c A = record { no-farther = omega (arith, A .no-farther, R .ahead a ha untaken); mated = A .mated; when = A .when; near = A .near; not-below = A .not-below }
 
     pub ended : Tree h n T H W mate pi t dist par order keys (entry dist a) nd n 0
@@ -122,7 +122,7 @@ module _ {h n : ℕ} {T H W links mate pi : List ℕ} (S : State h n T H W links
         far = P .far;
       }
 
-      taken' : (c : ℕ) → c < h → 0 < entry order' c → Taken mate pi dist order' t (entry dist a) (nd + 1) c
+      taken' : (c : ℕ) → c < h → 0 < entry order' c → TakenLeft mate pi dist order' t (entry dist a) (nd + 1) c
       taken' c hc o = ⊎-elim
           (λ p. record {
             no-farther = omega (arith, ap (entry dist) p.0);

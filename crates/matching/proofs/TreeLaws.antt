@@ -8,12 +8,12 @@ use Prim.Native.Nat.{ℕ, zero, suc, _+_, _*_, _-_, _/_, _<_, _≤_, min}
 use native.Mathlib.Omega.{arith}
 use native.Mathlib.Decide.{ℕ-discrete, decLt}
 use lib.ListN.{length, set, length-set}
-use Rattle.packed_arcs.specs.Entries.{entry, zeros}
+use Rattle.packed_arcs.specs.Entries.{entry, zeroCount}
 use Rattle.packed_arcs.proofs.ListLoops.{set-cases}
 use Rattle.arc_index.specs.ArcIndex.{noArc}
 use Rattle.vertex_queue.specs.VertexQueue.{waitsNot}
 use Rattle.matching.specs.Matching.{Bipartite, Noted, Matching, Priced, State}
-use Rattle.matching.specs.Tree.{InTree, Parent, Taken, Tree}
+use Rattle.matching.specs.Tree.{InTree, Parent, TakenLeft, Tree}
 use Rattle.matching.proofs.Pairs as pairs
 use Rattle.matching.proofs.Pairs.{noted}
 

@@ -15,31 +15,31 @@ abbrev pub tooMuch : ℕ
 tooMuch = 4294967295
 
 -- What the arc e costs at its head: its weight, and the potential of its tail.
-abbrev pub costOf : List ℕ → List ℕ → List ℕ → ℕ → ℕ
-costOf T W pi e = entry W e + entry pi (entry T e)
+abbrev pub bidCost : List ℕ → List ℕ → List ℕ → ℕ → ℕ
+bidCost T W pi e = entry W e + entry pi (entry T e)
 
 -- The same, and too much for an arc from the vertex `except`.
 abbrev pub costUnless : List ℕ → List ℕ → List ℕ → ℕ → ℕ → ℕ
-costUnless T W pi except e = pick (eqb (entry T e) except) tooMuch (costOf T W pi e)
+costUnless T W pi except e = pick (eqb (entry T e) except) tooMuch (bidCost T W pi e)
 
 -- Every arc costs something that can be added up.
 abbrev pub Affordable : List ℕ → List ℕ → List ℕ → Type 0
-Affordable T W pi = (e : ℕ) → e < length T → (entry T e < length pi) × (costOf T W pi e ≤ 8355585)
+Affordable T W pi = (e : ℕ) → e < length T → (entry T e < length pi) × (bidCost T W pi e ≤ 8355585)
 
 -- r is no arc, or among the arcs to t that do not come from `except` none is cheaper.
 pub record Cheapest (T H W pi : List ℕ) (t except r : ℕ) : Type 0 where
   pub arc : r < noArc → r < length T
   pub head : r < noArc → entry H r ≡ t
   pub tail : r < noArc → entry T r ≢ except
-  pub least : r < noArc → (e : ℕ) → e < length T → entry H e ≡ t → entry T e ≢ except → costOf T W pi r ≤ costOf T W pi e
+  pub least : r < noArc → (e : ℕ) → e < length T → entry H e ≡ t → entry T e ≢ except → bidCost T W pi r ≤ bidCost T W pi e
 
 -- The arc e to t may be taken for u: u covers its cost, no arc to t from another vertex costs less than u, and none from the same vertex weighs less.
 pub record Offer (T H W pi : List ℕ) (t e u : ℕ) : Type 0 where
   pub arc : e < length T
   pub head : entry H e ≡ t
-  pub covers : costOf T W pi e ≤ u
+  pub covers : bidCost T W pi e ≤ u
   pub most : u ≤ 8322818
-  pub others : (j : ℕ) → j < length T → entry H j ≡ t → entry T j ≢ entry T e → u ≤ costOf T W pi j
+  pub others : (j : ℕ) → j < length T → entry H j ≡ t → entry T j ≢ entry T e → u ≤ bidCost T W pi j
   pub same : (j : ℕ) → j < length T → entry H j ≡ t → entry T j ≡ entry T e → entry W e ≤ entry W j
 
 -- Indices within the lists, where the arc e to t is taken for u.

@@ -14,7 +14,7 @@ use Rattle.network.specs.Network.{wordArc}
 use Rattle.packed_arcs.specs.Entries.{entry, flowAt, zeroList}
 use Rattle.arc_index.specs.ArcIndex.{noArc}
 use Rattle.vertex_queue.specs.VertexQueue.{waitsNot}
-use Rattle.arc_index.specs.Columns.{tailsOf, headsOf, weightsOf}
+use Rattle.arc_index.specs.Columns.{recordTails, recordHeads, recordWeights}
 use Rattle.matching.specs.declared.Match.{Match}
 use Rattle.matching.specs.declared.Match.the-variants.{Perfect as PerfectMatch, Deficient as NoMatch, Refused}
 
@@ -86,5 +86,5 @@ pub data FindOutcome (h n : ℕ) (T H W pi' x' : List ℕ) : Match → Type 0 wh
 -- The outcome: that of the search, or refused, with nothing changed.
 pub data MatchOutcome (rs : List ℕ) (h : ℕ) (pi x pi' x' : List ℕ) : Match → Type 0 where
   found :
-      {r : Match} → matchable rs h (length pi) (length x) ≡ true → FindOutcome h (length pi) (tailsOf rs) (headsOf rs) (weightsOf rs) pi' x' r → MatchOutcome rs h pi x pi' x' r
+      {r : Match} → matchable rs h (length pi) (length x) ≡ true → FindOutcome h (length pi) (recordTails rs) (recordHeads rs) (recordWeights rs) pi' x' r → MatchOutcome rs h pi x pi' x' r
   refused : matchable rs h (length pi) (length x) ≡ false → pi' ≡ pi → x' ≡ x → MatchOutcome rs h pi x pi' x' Refused

@@ -5,7 +5,7 @@ use mathlib.Core.Bool.{Bool, true, false}
 use mathlib.Core.List.{List}
 use Prim.Native.Nat.{ℕ, _+_, _*_, _-_, _/_, _<_, _≤_, min}
 use lib.ListN.{length, set}
-use Rattle.packed_arcs.specs.Entries.{entry, zeros}
+use Rattle.packed_arcs.specs.Entries.{entry, zeroCount}
 use Rattle.arc_index.specs.ArcIndex.{noArc}
 use Rattle.vertex_queue.specs.VertexQueue.{waitsNot, Kept}
 
@@ -27,7 +27,7 @@ pub record Parent (T H W mate pi dist order : List ℕ) (t a e : ℕ) : Type 0 w
   pub far : entry dist a + entry pi (entry H e) ≡ D + entry pi a + entry W e
 
 -- The left vertex a was taken, at most at the distance k; nd were taken. It is matched, and its potential is as near to its distance as nd arcs allow.
-pub record Taken (mate pi dist order : List ℕ) (t k nd a : ℕ) : Type 0 where
+pub record TakenLeft (mate pi dist order : List ℕ) (t k nd a : ℕ) : Type 0 where
   pub no-farther : entry dist a ≤ k
   pub mated : entry mate a < noArc
   pub when : entry order a ≤ nd
@@ -48,14 +48,14 @@ pub record Tree (h n : ℕ) (T H W mate pi : List ℕ) (t : ℕ) (dist par order
   pub gone : (a : ℕ) → a < h → 0 < entry order a → waitsNot ≤ entry keys a
   pub nobody : (v : ℕ) → h ≤ v → v < 256 → waitsNot ≤ entry keys v
   pub most : (a : ℕ) → a < h → entry dist a ≤ waitsNot
-  pub taken : (a : ℕ) → a < h → 0 < entry order a → Taken mate pi dist order t k nd a
+  pub taken : (a : ℕ) → a < h → 0 < entry order a → TakenLeft mate pi dist order t k nd a
   pub ahead : (a : ℕ) → a < h → entry order a ≡ 0 → k ≤ entry dist a
   pub looked :
       (e D j : ℕ) → e < length T → InTree T mate dist order t (entry H e) D j → (entry H e ≡ cur → e < lo)
       → entry dist (entry T e) + entry pi (entry H e) ≤ D + entry pi (entry T e) + entry W e
   pub near : (a : ℕ) → a < h → entry dist a < waitsNot → entry dist a + entry pi t ≤ entry pi a + (nd + 1) * 32767
   pub not-below : (a : ℕ) → a < h → entry dist a < waitsNot → entry pi a ≤ entry dist a + entry pi t + nd * 32767
-  pub count : nd + zeros order ≡ h
+  pub count : nd + zeroCount order ≡ h
 
 -- The left vertex a came to be at the distance far by the arc e, where that is nearer; the reply is whether it is then exposed and no farther than k.
 pub data Lowered (a e far k : ℕ) (mate dist par keys low dist' par' keys' low' : List ℕ) : Bool → Type 0 where
@@ -93,11 +93,11 @@ pub record Scanned (h n : ℕ) (T H W mate pi dist par keys low dist' par' keys'
       → Kept keys' low' × ScanEnd h n T H W mate pi t dist' par' order keys' b k nd r
 
 -- What the search came to: the exposed vertex r at the distance d, and no vertex in the tree whose arcs were not all looked at is nearer; or no vertex, and nobody waits.
-pub data Searched (h n : ℕ) (T H W mate pi : List ℕ) (t : ℕ) (dist par order : List ℕ) (r : ℕ) : Type 0 where
+pub data SearchedBack (h n : ℕ) (T H W mate pi : List ℕ) (t : ℕ) (dist par order : List ℕ) (r : ℕ) : Type 0 where
   reached :
       r < h → entry mate r ≡ noArc → entry dist r < waitsNot → (keys : List ℕ) (nd cur lo : ℕ)
       → Tree h n T H W mate pi t dist par order keys (entry dist r) nd cur lo
-      → ((D j : ℕ) → cur < n → InTree T mate dist order t cur D j → entry dist r ≤ D) → Searched h n T H W mate pi t dist par order r
+      → ((D j : ℕ) → cur < n → InTree T mate dist order t cur D j → entry dist r ≤ D) → SearchedBack h n T H W mate pi t dist par order r
   stuck :
       r ≡ 256 → (keys : List ℕ) (k nd : ℕ) → Tree h n T H W mate pi t dist par order keys k nd n 0
-      → ((a : ℕ) → a < h → entry order a ≡ 0 → waitsNot ≤ entry dist a) → Searched h n T H W mate pi t dist par order r
+      → ((a : ℕ) → a < h → entry order a ≡ 0 → waitsNot ≤ entry dist a) → SearchedBack h n T H W mate pi t dist par order r

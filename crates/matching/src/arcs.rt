@@ -3,12 +3,12 @@ ghost use mathlib.Core.Path.{_≡_};
 ghost use Prim.Native.Nat.{_<_};
 ghost use lib.ListN.{length};
 ghost use Rattle.packed_arcs.specs.Entries.{entry};
-ghost use Rattle.arc_index.specs.Columns.{tailsOf, headsOf, weightsOf};
+ghost use Rattle.arc_index.specs.Columns.{recordTails, recordHeads, recordWeights};
 use network::arc_in;
 
 pub(crate) fn tail_at(e: usize, records: &[u32]) -> usize
     requires { ⌜ e < length (now records) ⌝ }
-    ensures { λ r. ⌜ r ≡ entry (tailsOf (now (records .entry))) e ⌝ }
+    ensures { λ r. ⌜ r ≡ entry (recordTails (now (records .entry))) e ⌝ }
 {
     let arc = arc_in(records[e]);
     arc.tail as usize
@@ -16,7 +16,7 @@ pub(crate) fn tail_at(e: usize, records: &[u32]) -> usize
 
 pub(crate) fn head_at(e: usize, records: &[u32]) -> usize
     requires { ⌜ e < length (now records) ⌝ }
-    ensures { λ r. ⌜ r ≡ entry (headsOf (now (records .entry))) e ⌝ }
+    ensures { λ r. ⌜ r ≡ entry (recordHeads (now (records .entry))) e ⌝ }
 {
     let arc = arc_in(records[e]);
     arc.head as usize
@@ -24,7 +24,7 @@ pub(crate) fn head_at(e: usize, records: &[u32]) -> usize
 
 pub(crate) fn weight_at(e: usize, records: &[u32]) -> u32
     requires { ⌜ e < length (now records) ⌝ }
-    ensures { λ r. ⌜ r ≡ entry (weightsOf (now (records .entry))) e ⌝ }
+    ensures { λ r. ⌜ r ≡ entry (recordWeights (now (records .entry))) e ⌝ }
 {
     let arc = arc_in(records[e]);
     arc.weight

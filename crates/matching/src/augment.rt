@@ -2,7 +2,7 @@
 ghost use mathlib.Core.Path.{_≡_};
 ghost use Prim.Native.Nat.{_<_, _≤_};
 ghost use lib.ListN.{length};
-ghost use Rattle.arc_index.specs.Columns.{tailsOf, headsOf, weightsOf};
+ghost use Rattle.arc_index.specs.Columns.{recordTails, recordHeads, recordWeights};
 ghost use Rattle.matching.specs.Augmenting.{Alternating, Augmented};
 use super::arcs::head_at;
 use super::arcs::place;
@@ -20,8 +20,8 @@ pub(crate) fn augment(
     order: &[u8],
     mate: &mut [u16],
 )
-    requires { ⌜ Alternating (length (now order)) (length (now pi)) (tailsOf (now records)) (headsOf (now records)) (weightsOf (now records)) (now links) (now mate) (now pi) (now par) (now order) t r ⌝ }
-    ensures { λ _. ⌜ Augmented (length (now (order .entry))) (length (now (pi .entry))) (tailsOf (now (records .entry))) (headsOf (now (records .entry))) (weightsOf (now (records .entry))) (now (links .entry)) (now (mate .entry)) (now (pi .entry)) t (now (mate .exit)) ⌝ }
+    requires { ⌜ Alternating (length (now order)) (length (now pi)) (recordTails (now records)) (recordHeads (now records)) (recordWeights (now records)) (now links) (now mate) (now pi) (now par) (now order) t r ⌝ }
+    ensures { λ _. ⌜ Augmented (length (now (order .entry))) (length (now (pi .entry))) (recordTails (now (records .entry))) (recordHeads (now (records .entry))) (recordWeights (now (records .entry))) (now (links .entry)) (now (mate .entry)) (now (pi .entry)) t (now (mate .exit)) ⌝ }
 {
     let mut a = r;
     loop {

@@ -6,8 +6,8 @@ ghost use lib.ListN.{length};
 ghost use Rattle.packed_arcs.specs.Entries.{entry};
 ghost use Rattle.arc_index.specs.ArcIndex.{noArc};
 ghost use Rattle.arc_index.specs.Chains.{Chains};
-ghost use Rattle.matching.specs.Bidding.{costOf, costUnless, Affordable, Cheapest, Room, freed, assignedMates, assignedPotentials};
-ghost use Rattle.arc_index.specs.Columns.{tailsOf, headsOf, weightsOf};
+ghost use Rattle.matching.specs.Bidding.{bidCost, costUnless, Affordable, Cheapest, Room, freed, assignedMates, assignedPotentials};
+ghost use Rattle.arc_index.specs.Columns.{recordTails, recordHeads, recordWeights};
 ghost use Rattle.matching.specs.Matching.{State};
 use super::arcs::head_at;
 use super::arcs::place;
@@ -23,8 +23,8 @@ const MOST: u32 = 8322818;
 
 // What the arc e costs at its head: its weight, and the potential of its tail.
 fn cost_of(e: usize, records: &[u32], pi: &[u32]) -> u32
-    requires { ⌜ Affordable (tailsOf (now records)) (weightsOf (now records)) (now pi) × (e < length (now records)) ⌝ }
-    ensures { λ r. ⌜ r ≡ costOf (tailsOf (now (records .entry))) (weightsOf (now (records .entry))) (now (pi .entry)) e ⌝ }
+    requires { ⌜ Affordable (recordTails (now records)) (recordWeights (now records)) (now pi) × (e < length (now records)) ⌝ }
+    ensures { λ r. ⌜ r ≡ bidCost (recordTails (now (records .entry))) (recordWeights (now (records .entry))) (now (pi .entry)) e ⌝ }
 {
     let a = tail_at(e, records);
     weight_at(e, records) + pi[a]
@@ -32,8 +32,8 @@ fn cost_of(e: usize, records: &[u32], pi: &[u32]) -> u32
 
 // The same, and too much for an arc from the vertex `except`.
 fn cost_unless(e: usize, except: usize, records: &[u32], pi: &[u32]) -> u32
-    requires { ⌜ Affordable (tailsOf (now records)) (weightsOf (now records)) (now pi) × (e < length (now records)) ⌝ }
-    ensures { λ r. ⌜ r ≡ costUnless (tailsOf (now (records .entry))) (weightsOf (now (records .entry))) (now (pi .entry)) except e ⌝ }
+    requires { ⌜ Affordable (recordTails (now records)) (recordWeights (now records)) (now pi) × (e < length (now records)) ⌝ }
+    ensures { λ r. ⌜ r ≡ costUnless (recordTails (now (records .entry))) (recordWeights (now (records .entry))) (now (pi .entry)) except e ⌝ }
 {
     if tail_at(e, records) == except {
         return TOO_MUCH;
@@ -43,9 +43,9 @@ fn cost_unless(e: usize, except: usize, records: &[u32], pi: &[u32]) -> u32
 
 // The first of the cheapest arcs to t that do not come from the vertex `except`, or no arc.
 fn cheapest(t: usize, except: usize, records: &[u32], links: &[u16], pi: &[u32]) -> usize
-    requires { ⌜ Chains (headsOf (now records)) (now links) × (t < 256) ⌝ }
-    requires { ⌜ Affordable (tailsOf (now records)) (weightsOf (now records)) (now pi) ⌝ }
-    ensures { λ r. ⌜ Cheapest (tailsOf (now (records .entry))) (headsOf (now (records .entry))) (weightsOf (now (records .entry))) (now (pi .entry)) t except r ⌝ }
+    requires { ⌜ Chains (recordHeads (now records)) (now links) × (t < 256) ⌝ }
+    requires { ⌜ Affordable (recordTails (now records)) (recordWeights (now records)) (now pi) ⌝ }
+    ensures { λ r. ⌜ Cheapest (recordTails (now (records .entry))) (recordHeads (now (records .entry))) (recordWeights (now (records .entry))) (now (pi .entry)) t except r ⌝ }
 {
     let mut best = NO_ARC as usize;
     let mut least = TOO_MUCH;
@@ -63,8 +63,8 @@ fn cheapest(t: usize, except: usize, records: &[u32], links: &[u16], pi: &[u32])
 
 // Which of two arcs to take, the second at the cost u: the first, unless it costs as much and its tail is matched.
 fn choose(e1: usize, e2: usize, u: u32, records: &[u32], mate: &[u16], pi: &[u32]) -> usize
-    requires { ⌜ Affordable (tailsOf (now records)) (weightsOf (now records)) (now pi) × (e1 < length (now records)) × (length (now mate) ≡ length (now pi)) ⌝ }
-    ensures { λ r. ⌜ (r ≡ e1) ⊎ ((r ≡ e2) × (u ≤ costOf (tailsOf (now (records .entry))) (weightsOf (now (records .entry))) (now (pi .entry)) e1)) ⌝ }
+    requires { ⌜ Affordable (recordTails (now records)) (recordWeights (now records)) (now pi) × (e1 < length (now records)) × (length (now mate) ≡ length (now pi)) ⌝ }
+    ensures { λ r. ⌜ (r ≡ e1) ⊎ ((r ≡ e2) × (u ≤ bidCost (recordTails (now (records .entry))) (recordWeights (now (records .entry))) (now (pi .entry)) e1)) ⌝ }
 {
     let a = tail_at(e1, records);
     if mate[a] == NO_ARC {
@@ -78,8 +78,8 @@ fn choose(e1: usize, e2: usize, u: u32, records: &[u32], mate: &[u16], pi: &[u32
 
 // The head of the arc that is matched at a, if there is one, becomes exposed.
 fn free(a: usize, records: &[u32], mate: &mut [u16])
-    requires { ⌜ (a < length (now mate)) × (entry (now mate) a < noArc → (entry (now mate) a < length (now records)) × (entry (headsOf (now records)) (entry (now mate) a) < length (now mate))) ⌝ }
-    ensures { λ _. ⌜ now (mate .exit) ≡ freed (headsOf (now (records .entry))) (now (mate .entry)) a ⌝ }
+    requires { ⌜ (a < length (now mate)) × (entry (now mate) a < noArc → (entry (now mate) a < length (now records)) × (entry (recordHeads (now records)) (entry (now mate) a) < length (now mate))) ⌝ }
+    ensures { λ _. ⌜ now (mate .exit) ≡ freed (recordHeads (now (records .entry))) (now (mate .entry)) a ⌝ }
 {
     let e = place(mate[a]);
     if NO_ARC as usize <= e {
@@ -91,9 +91,9 @@ fn free(a: usize, records: &[u32], mate: &mut [u16])
 
 // The arc e from a to t is matched, in place of the arc that was matched at a.
 fn note(a: usize, t: usize, e: usize, records: &[u32], mate: &mut [u16])
-    requires { ⌜ (a < length (now mate)) × (entry (now mate) a < noArc → (entry (now mate) a < length (now records)) × (entry (headsOf (now records)) (entry (now mate) a) < length (now mate))) ⌝ }
+    requires { ⌜ (a < length (now mate)) × (entry (now mate) a < noArc → (entry (now mate) a < length (now records)) × (entry (recordHeads (now records)) (entry (now mate) a) < length (now mate))) ⌝ }
     requires { ⌜ (t < length (now mate)) × (e < noArc) ⌝ }
-    ensures { λ _. ⌜ now (mate .exit) ≡ assignedMates (headsOf (now (records .entry))) (now (mate .entry)) a t e ⌝ }
+    ensures { λ _. ⌜ now (mate .exit) ≡ assignedMates (recordHeads (now (records .entry))) (now (mate .entry)) a t e ⌝ }
 {
     free(a, records, mate);
     mate[a] = e as u16;
@@ -111,9 +111,9 @@ fn price(a: usize, t: usize, u: u32, w: u32, pi: &mut [u32])
 
 // The arc e to t is taken for u.
 fn assign(t: usize, e: usize, u: u32, records: &[u32], mate: &mut [u16], pi: &mut [u32])
-    requires { ⌜ Room (tailsOf (now records)) (headsOf (now records)) (weightsOf (now records)) (now mate) (now pi) t e u ⌝ }
-    ensures { λ _. ⌜ now (mate .exit) ≡ assignedMates (headsOf (now (records .entry))) (now (mate .entry)) (entry (tailsOf (now (records .entry))) e) t e ⌝ }
-    ensures { λ _. ⌜ now (pi .exit) ≡ assignedPotentials (now (pi .entry)) (entry (tailsOf (now (records .entry))) e) t u (entry (weightsOf (now (records .entry))) e) ⌝ }
+    requires { ⌜ Room (recordTails (now records)) (recordHeads (now records)) (recordWeights (now records)) (now mate) (now pi) t e u ⌝ }
+    ensures { λ _. ⌜ now (mate .exit) ≡ assignedMates (recordHeads (now (records .entry))) (now (mate .entry)) (entry (recordTails (now (records .entry))) e) t e ⌝ }
+    ensures { λ _. ⌜ now (pi .exit) ≡ assignedPotentials (now (pi .entry)) (entry (recordTails (now (records .entry))) e) t u (entry (recordWeights (now (records .entry))) e) ⌝ }
 {
     let a = tail_at(e, records);
     note(a, t, e, records, mate);
@@ -122,9 +122,9 @@ fn assign(t: usize, e: usize, u: u32, records: &[u32], mate: &mut [u16], pi: &mu
 
 // The bid of the right vertex t, where it is exposed: it takes its cheapest arc for what the cheapest from another vertex costs.
 fn bid(h: usize, t: usize, records: &[u32], links: &[u16], mate: &mut [u16], pi: &mut [u32])
-    requires { ⌜ State h (length (now pi)) (tailsOf (now records)) (headsOf (now records)) (weightsOf (now records)) (now links) (now mate) (now pi) ⌝ }
+    requires { ⌜ State h (length (now pi)) (recordTails (now records)) (recordHeads (now records)) (recordWeights (now records)) (now links) (now mate) (now pi) ⌝ }
     requires { ⌜ (h ≤ t) × (t < length (now pi)) ⌝ }
-    ensures { λ _. ⌜ State h (length (now (pi .entry))) (tailsOf (now (records .entry))) (headsOf (now (records .entry))) (weightsOf (now (records .entry))) (now (links .entry)) (now (mate .exit)) (now (pi .exit)) ⌝ }
+    ensures { λ _. ⌜ State h (length (now (pi .entry))) (recordTails (now (records .entry))) (recordHeads (now (records .entry))) (recordWeights (now (records .entry))) (now (links .entry)) (now (mate .exit)) (now (pi .exit)) ⌝ }
 {
     if mate[t] < NO_ARC {
         return;
@@ -147,8 +147,8 @@ fn bid(h: usize, t: usize, records: &[u32], links: &[u16], mate: &mut [u16], pi:
 
 // A round of bids, by every right vertex that is exposed at its turn.
 fn bid_round(h: usize, records: &[u32], links: &[u16], mate: &mut [u16], pi: &mut [u32])
-    requires { ⌜ State h (length (now pi)) (tailsOf (now records)) (headsOf (now records)) (weightsOf (now records)) (now links) (now mate) (now pi) ⌝ }
-    ensures { λ _. ⌜ State h (length (now (pi .entry))) (tailsOf (now (records .entry))) (headsOf (now (records .entry))) (weightsOf (now (records .entry))) (now (links .entry)) (now (mate .exit)) (now (pi .exit)) ⌝ }
+    requires { ⌜ State h (length (now pi)) (recordTails (now records)) (recordHeads (now records)) (recordWeights (now records)) (now links) (now mate) (now pi) ⌝ }
+    ensures { λ _. ⌜ State h (length (now (pi .entry))) (recordTails (now (records .entry))) (recordHeads (now (records .entry))) (recordWeights (now (records .entry))) (now (links .entry)) (now (mate .exit)) (now (pi .exit)) ⌝ }
 {
     let mut t = h;
     while t < pi.len() {
@@ -159,8 +159,8 @@ fn bid_round(h: usize, records: &[u32], links: &[u16], mate: &mut [u16], pi: &mu
 
 // Two rounds of bids: later ones match few more.
 pub(crate) fn bid_all(h: usize, records: &[u32], links: &[u16], mate: &mut [u16], pi: &mut [u32])
-    requires { ⌜ State h (length (now pi)) (tailsOf (now records)) (headsOf (now records)) (weightsOf (now records)) (now links) (now mate) (now pi) ⌝ }
-    ensures { λ _. ⌜ State h (length (now (pi .entry))) (tailsOf (now (records .entry))) (headsOf (now (records .entry))) (weightsOf (now (records .entry))) (now (links .entry)) (now (mate .exit)) (now (pi .exit)) ⌝ }
+    requires { ⌜ State h (length (now pi)) (recordTails (now records)) (recordHeads (now records)) (recordWeights (now records)) (now links) (now mate) (now pi) ⌝ }
+    ensures { λ _. ⌜ State h (length (now (pi .entry))) (recordTails (now (records .entry))) (recordHeads (now (records .entry))) (recordWeights (now (records .entry))) (now (links .entry)) (now (mate .exit)) (now (pi .exit)) ⌝ }
 {
     bid_round(h, records, links, mate, pi);
     bid_round(h, records, links, mate, pi);

@@ -5,7 +5,7 @@ ghost use Prim.Native.Nat.{_+_};
 ghost use lib.ListN.{length, replicate};
 ghost use Rattle.packed_arcs.specs.Entries.{zeroList};
 ghost use Rattle.arc_index.specs.ArcIndex.{noArc};
-ghost use Rattle.arc_index.specs.Columns.{tailsOf, headsOf, weightsOf};
+ghost use Rattle.arc_index.specs.Columns.{recordTails, recordHeads, recordWeights};
 ghost use Rattle.matching.specs.Matching.{Bipartite};
 ghost use Rattle.matching.specs.Outcome.{FindOutcome, MatchOutcome};
 use arc_index::End;
@@ -46,10 +46,10 @@ fn find(
     order: &mut [u8],
     x: &mut [u16],
 ) -> Match
-    requires { ⌜ Bipartite (length (now dist)) (length (now pi)) (tailsOf (now records)) (headsOf (now records)) (weightsOf (now records)) × (length (now pi) ≡ length (now dist) + length (now dist)) ⌝ }
+    requires { ⌜ Bipartite (length (now dist)) (length (now pi)) (recordTails (now records)) (recordHeads (now records)) (recordWeights (now records)) × (length (now pi) ≡ length (now dist) + length (now dist)) ⌝ }
     requires { ⌜ (length (now links) ≡ 256 + length (now records)) × (length (now par) ≡ length (now dist)) × (length (now order) ≡ length (now dist)) × (length (now x) ≡ length (now records)) ⌝ }
     requires { ⌜ (now mate ≡ replicate (length (now pi)) noArc) × (now pi ≡ zeroList (length (now pi))) ⌝ }
-    ensures { λ r. ⌜ FindOutcome (length (now (dist .entry))) (length (now (pi .entry))) (tailsOf (now (records .entry))) (headsOf (now (records .entry))) (weightsOf (now (records .entry))) (now (pi .exit)) (now (x .exit)) r ⌝ }
+    ensures { λ r. ⌜ FindOutcome (length (now (dist .entry))) (length (now (pi .entry))) (recordTails (now (records .entry))) (recordHeads (now (records .entry))) (recordWeights (now (records .entry))) (now (pi .exit)) (now (x .exit)) r ⌝ }
 {
     let h = dist.len();
     index(records, End::Head, links);

@@ -4,7 +4,7 @@ ghost use Prim.Native.Nat.{_-_, _<_, _≤_};
 ghost use lib.ListN.{length};
 ghost use Rattle.packed_arcs.specs.Entries.{entry};
 ghost use Rattle.arc_index.specs.ArcIndex.{noArc};
-ghost use Rattle.arc_index.specs.Columns.{tailsOf, headsOf, weightsOf};
+ghost use Rattle.arc_index.specs.Columns.{recordTails, recordHeads, recordWeights};
 ghost use Rattle.matching.specs.Matching.{State};
 ghost use Rattle.matching.specs.Augmenting.{riseOf, Raised};
 use super::arcs::place;
@@ -23,8 +23,8 @@ fn nearer(far: u32, d: u32) -> u32
 
 // By how much the potential of the vertex v rises.
 fn rise(v: usize, t: usize, d: u32, records: &[u32], mate: &[u16], dist: &[u32]) -> u32
-    requires { ⌜ (v < length (now mate)) × (entry (now mate) v < noArc → (entry (now mate) v < length (now records)) × (entry (tailsOf (now records)) (entry (now mate) v) < length (now dist))) ⌝ }
-    ensures { λ r. ⌜ r ≡ riseOf (length (now (dist .entry))) (tailsOf (now (records .entry))) (now (mate .entry)) (now (dist .entry)) t d v ⌝ }
+    requires { ⌜ (v < length (now mate)) × (entry (now mate) v < noArc → (entry (now mate) v < length (now records)) × (entry (recordTails (now records)) (entry (now mate) v) < length (now dist))) ⌝ }
+    ensures { λ r. ⌜ r ≡ riseOf (length (now (dist .entry))) (recordTails (now (records .entry))) (now (mate .entry)) (now (dist .entry)) t d v ⌝ }
 {
     if v < dist.len() {
         return nearer(dist[v], d);
@@ -50,9 +50,9 @@ pub(crate) fn raise(
     dist: &[u32],
     pi: &mut [u32],
 )
-    requires { ⌜ State (length (now dist)) (length (now pi)) (tailsOf (now records)) (headsOf (now records)) (weightsOf (now records)) (now links) (now mate) (now pi) ⌝ }
+    requires { ⌜ State (length (now dist)) (length (now pi)) (recordTails (now records)) (recordHeads (now records)) (recordWeights (now records)) (now links) (now mate) (now pi) ⌝ }
     requires { ⌜ d ≤ 2000000000 ⌝ }
-    ensures { λ _. ⌜ Raised (length (now (dist .entry))) (tailsOf (now (records .entry))) (now (mate .entry)) (now (dist .entry)) t d (now (pi .entry)) (now (pi .exit)) ⌝ }
+    ensures { λ _. ⌜ Raised (length (now (dist .entry))) (recordTails (now (records .entry))) (now (mate .entry)) (now (dist .entry)) t d (now (pi .entry)) (now (pi .exit)) ⌝ }
 {
     let mut v = 0;
     while v < pi.len() {

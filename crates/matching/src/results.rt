@@ -3,7 +3,7 @@ ghost use mathlib.Core.Path.{_≡_};
 ghost use Prim.Native.Nat.{ℕ, _<_};
 ghost use lib.ListN.{length};
 ghost use Rattle.packed_arcs.specs.Entries.{entry};
-ghost use Rattle.arc_index.specs.Columns.{tailsOf, headsOf, weightsOf};
+ghost use Rattle.arc_index.specs.Columns.{recordTails, recordHeads, recordWeights};
 ghost use Rattle.matching.specs.Matching.{Bipartite, Matching};
 ghost use Rattle.matching.specs.Outcome.{matchedAmount, Amounts, farMark, unreachedMark, Marks};
 use super::arcs::head_at;
@@ -14,8 +14,8 @@ use vertex_queue::WAITS_NOT;
 
 // 1 for an arc that is noted as matched at its head, else 0.
 fn amount_of(e: usize, records: &[u32], mate: &[u16]) -> u16
-    requires { ⌜ (e < length (now records)) × (entry (headsOf (now records)) e < length (now mate)) ⌝ }
-    ensures { λ r. ⌜ r ≡ matchedAmount (headsOf (now (records .entry))) (now (mate .entry)) e ⌝ }
+    requires { ⌜ (e < length (now records)) × (entry (recordHeads (now records)) e < length (now mate)) ⌝ }
+    ensures { λ r. ⌜ r ≡ matchedAmount (recordHeads (now (records .entry))) (now (mate .entry)) e ⌝ }
 {
     let b = head_at(e, records);
     if place(mate[b]) == e {
@@ -26,8 +26,8 @@ fn amount_of(e: usize, records: &[u32], mate: &[u16]) -> u16
 
 // The amounts of the matching on the arcs.
 pub(crate) fn write_amounts(records: &[u32], mate: &[u16], x: &mut [u16])
-    requires { ⌜ (length (now x) ≡ length (now records)) × ((e : ℕ) → e < length (now records) → entry (headsOf (now records)) e < length (now mate)) ⌝ }
-    ensures { λ _. ⌜ Amounts (headsOf (now (records .entry))) (now (mate .entry)) (now (x .exit)) ⌝ }
+    requires { ⌜ (length (now x) ≡ length (now records)) × ((e : ℕ) → e < length (now records) → entry (recordHeads (now records)) e < length (now mate)) ⌝ }
+    ensures { λ _. ⌜ Amounts (recordHeads (now (records .entry))) (now (mate .entry)) (now (x .exit)) ⌝ }
 {
     let mut e = 0;
     while e < records.len() {
@@ -48,9 +48,9 @@ fn far_mark(d: u32) -> u32
 
 // The mark of the vertex v after a search from t.
 fn mark_of(v: usize, t: usize, records: &[u32], mate: &[u16], dist: &[u32]) -> u32
-    requires { ⌜ Bipartite (length (now dist)) (length (now mate)) (tailsOf (now records)) (headsOf (now records)) (weightsOf (now records)) ⌝ }
-    requires { ⌜ Matching (length (now mate)) (tailsOf (now records)) (headsOf (now records)) (now mate) × (v < length (now mate)) ⌝ }
-    ensures { λ r. ⌜ r ≡ unreachedMark (tailsOf (now (records .entry))) (now (mate .entry)) (now (dist .entry)) t v ⌝ }
+    requires { ⌜ Bipartite (length (now dist)) (length (now mate)) (recordTails (now records)) (recordHeads (now records)) (recordWeights (now records)) ⌝ }
+    requires { ⌜ Matching (length (now mate)) (recordTails (now records)) (recordHeads (now records)) (now mate) × (v < length (now mate)) ⌝ }
+    ensures { λ r. ⌜ r ≡ unreachedMark (recordTails (now (records .entry))) (now (mate .entry)) (now (dist .entry)) t v ⌝ }
 {
     if v < dist.len() {
         return far_mark(dist[v]);
@@ -68,9 +68,9 @@ fn mark_of(v: usize, t: usize, records: &[u32], mate: &[u16], dist: &[u32]) -> u
 
 // The marks of all vertices after a search from t, in place of their potentials.
 pub(crate) fn write_marks(t: usize, records: &[u32], mate: &[u16], dist: &[u32], pi: &mut [u32])
-    requires { ⌜ Bipartite (length (now dist)) (length (now pi)) (tailsOf (now records)) (headsOf (now records)) (weightsOf (now records)) ⌝ }
-    requires { ⌜ Matching (length (now pi)) (tailsOf (now records)) (headsOf (now records)) (now mate) ⌝ }
-    ensures { λ _. ⌜ Marks (length (now (pi .entry))) (tailsOf (now (records .entry))) (now (mate .entry)) (now (dist .entry)) t (now (pi .exit)) ⌝ }
+    requires { ⌜ Bipartite (length (now dist)) (length (now pi)) (recordTails (now records)) (recordHeads (now records)) (recordWeights (now records)) ⌝ }
+    requires { ⌜ Matching (length (now pi)) (recordTails (now records)) (recordHeads (now records)) (now mate) ⌝ }
+    ensures { λ _. ⌜ Marks (length (now (pi .entry))) (recordTails (now (records .entry))) (now (mate .entry)) (now (dist .entry)) t (now (pi .exit)) ⌝ }
 {
     let mut v = 0;
     while v < mate.len() {

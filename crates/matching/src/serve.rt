@@ -4,7 +4,7 @@ ghost use Prim.Native.Nat.{_<_, _≤_};
 ghost use lib.ListN.{length};
 ghost use Rattle.packed_arcs.specs.Entries.{entry};
 ghost use Rattle.arc_index.specs.ArcIndex.{noArc};
-ghost use Rattle.arc_index.specs.Columns.{tailsOf, headsOf, weightsOf};
+ghost use Rattle.arc_index.specs.Columns.{recordTails, recordHeads, recordWeights};
 ghost use Rattle.matching.specs.Matching.{State};
 ghost use Rattle.matching.specs.Serving.{Served, PassOutcome};
 use super::augment::augment;
@@ -26,9 +26,9 @@ fn serve(
     par: &mut [u16],
     order: &mut [u8],
 ) -> bool
-    requires { ⌜ State (length (now dist)) (length (now pi)) (tailsOf (now records)) (headsOf (now records)) (weightsOf (now records)) (now links) (now mate) (now pi) ⌝ }
+    requires { ⌜ State (length (now dist)) (length (now pi)) (recordTails (now records)) (recordHeads (now records)) (recordWeights (now records)) (now links) (now mate) (now pi) ⌝ }
     requires { ⌜ (length (now dist) ≤ t) × (t < length (now pi)) × (entry (now mate) t ≡ noArc) × (length (now par) ≡ length (now dist)) × (length (now order) ≡ length (now dist)) ⌝ }
-    ensures { λ r. ⌜ Served (length (now (dist .entry))) (length (now (pi .entry))) (tailsOf (now (records .entry))) (headsOf (now (records .entry))) (weightsOf (now (records .entry))) (now (links .entry)) (now (mate .entry)) t (now (dist .exit)) (now (mate .exit)) (now (pi .exit)) r ⌝ }
+    ensures { λ r. ⌜ Served (length (now (dist .entry))) (length (now (pi .entry))) (recordTails (now (records .entry))) (recordHeads (now (records .entry))) (recordWeights (now (records .entry))) (now (links .entry)) (now (mate .entry)) t (now (dist .exit)) (now (mate .exit)) (now (pi .exit)) r ⌝ }
 {
     let r = search(t, records, links, mate, pi, dist, par, order);
     if dist.len() <= r {
@@ -52,9 +52,9 @@ fn serve_exposed(
     par: &mut [u16],
     order: &mut [u8],
 ) -> bool
-    requires { ⌜ State (length (now dist)) (length (now pi)) (tailsOf (now records)) (headsOf (now records)) (weightsOf (now records)) (now links) (now mate) (now pi) ⌝ }
+    requires { ⌜ State (length (now dist)) (length (now pi)) (recordTails (now records)) (recordHeads (now records)) (recordWeights (now records)) (now links) (now mate) (now pi) ⌝ }
     requires { ⌜ (length (now dist) ≤ t) × (t < length (now pi)) × (length (now par) ≡ length (now dist)) × (length (now order) ≡ length (now dist)) ⌝ }
-    ensures { λ r. ⌜ Served (length (now (dist .entry))) (length (now (pi .entry))) (tailsOf (now (records .entry))) (headsOf (now (records .entry))) (weightsOf (now (records .entry))) (now (links .entry)) (now (mate .entry)) t (now (dist .exit)) (now (mate .exit)) (now (pi .exit)) r ⌝ }
+    ensures { λ r. ⌜ Served (length (now (dist .entry))) (length (now (pi .entry))) (recordTails (now (records .entry))) (recordHeads (now (records .entry))) (recordWeights (now (records .entry))) (now (links .entry)) (now (mate .entry)) t (now (dist .exit)) (now (mate .exit)) (now (pi .exit)) r ⌝ }
 {
     if mate[t] < NO_ARC {
         return true;
@@ -73,9 +73,9 @@ fn pass(
     par: &mut [u16],
     order: &mut [u8],
 ) -> usize
-    requires { ⌜ State (length (now dist)) (length (now pi)) (tailsOf (now records)) (headsOf (now records)) (weightsOf (now records)) (now links) (now mate) (now pi) ⌝ }
+    requires { ⌜ State (length (now dist)) (length (now pi)) (recordTails (now records)) (recordHeads (now records)) (recordWeights (now records)) (now links) (now mate) (now pi) ⌝ }
     requires { ⌜ (0 < step) × (step ≤ 16) × (length (now par) ≡ length (now dist)) × (length (now order) ≡ length (now dist)) ⌝ }
-    ensures { λ r. ⌜ PassOutcome (length (now (dist .entry))) (length (now (pi .entry))) (tailsOf (now (records .entry))) (headsOf (now (records .entry))) (weightsOf (now (records .entry))) (now (links .entry)) step (now (dist .exit)) (now (mate .exit)) (now (pi .exit)) r ⌝ }
+    ensures { λ r. ⌜ PassOutcome (length (now (dist .entry))) (length (now (pi .entry))) (recordTails (now (records .entry))) (recordHeads (now (records .entry))) (recordWeights (now (records .entry))) (now (links .entry)) step (now (dist .exit)) (now (mate .exit)) (now (pi .exit)) r ⌝ }
 {
     let mut t = dist.len();
     while t < mate.len() {
@@ -97,9 +97,9 @@ pub(crate) fn serve_all(
     par: &mut [u16],
     order: &mut [u8],
 ) -> usize
-    requires { ⌜ State (length (now dist)) (length (now pi)) (tailsOf (now records)) (headsOf (now records)) (weightsOf (now records)) (now links) (now mate) (now pi) ⌝ }
+    requires { ⌜ State (length (now dist)) (length (now pi)) (recordTails (now records)) (recordHeads (now records)) (recordWeights (now records)) (now links) (now mate) (now pi) ⌝ }
     requires { ⌜ (length (now par) ≡ length (now dist)) × (length (now order) ≡ length (now dist)) ⌝ }
-    ensures { λ r. ⌜ PassOutcome (length (now (dist .entry))) (length (now (pi .entry))) (tailsOf (now (records .entry))) (headsOf (now (records .entry))) (weightsOf (now (records .entry))) (now (links .entry)) 1 (now (dist .exit)) (now (mate .exit)) (now (pi .exit)) r ⌝ }
+    ensures { λ r. ⌜ PassOutcome (length (now (dist .entry))) (length (now (pi .entry))) (recordTails (now (records .entry))) (recordHeads (now (records .entry))) (recordWeights (now (records .entry))) (now (links .entry)) 1 (now (dist .exit)) (now (mate .exit)) (now (pi .exit)) r ⌝ }
 {
     let first = pass(16, records, links, mate, pi, dist, par, order);
     if first < mate.len() {

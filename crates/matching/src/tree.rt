@@ -5,9 +5,9 @@ ghost use lib.ListN.{length, replicate};
 ghost use Rattle.packed_arcs.specs.Entries.{entry, zeroList};
 ghost use Rattle.vertex_queue.specs.VertexQueue.{waitsNot};
 ghost use Rattle.arc_index.specs.ArcIndex.{noArc};
-ghost use Rattle.arc_index.specs.Columns.{tailsOf, headsOf, weightsOf};
+ghost use Rattle.arc_index.specs.Columns.{recordTails, recordHeads, recordWeights};
 ghost use Rattle.matching.specs.Matching.{State};
-ghost use Rattle.matching.specs.Tree.{Lowered, Relaxable, Scanned, Searched};
+ghost use Rattle.matching.specs.Tree.{Lowered, Relaxable, Scanned, SearchedBack};
 use super::arcs::head_at;
 use super::arcs::place;
 use super::arcs::tail_at;
@@ -75,9 +75,9 @@ fn relax(
     keys: &mut [u32; 256],
     low: &mut [u32; 16],
 ) -> bool
-    requires { ⌜ Relaxable e k price (tailsOf (now records)) (weightsOf (now records)) (now mate) (now pi) (now dist) (now par) ⌝ }
+    requires { ⌜ Relaxable e k price (recordTails (now records)) (recordWeights (now records)) (now mate) (now pi) (now dist) (now par) ⌝ }
     requires { ⌜ e < length (now records) ⌝ }
-    ensures { λ r. ⌜ Lowered (entry (tailsOf (now (records .entry))) e) e (k + (entry (weightsOf (now (records .entry))) e + entry (now (pi .entry)) (entry (tailsOf (now (records .entry))) e) - price)) k (now (mate .entry)) (now (dist .entry)) (now (par .entry)) (now (keys .entry)) (now (low .entry)) (now (dist .exit)) (now (par .exit)) (now (keys .exit)) (now (low .exit)) r ⌝ }
+    ensures { λ r. ⌜ Lowered (entry (recordTails (now (records .entry))) e) e (k + (entry (recordWeights (now (records .entry))) e + entry (now (pi .entry)) (entry (recordTails (now (records .entry))) e) - price)) k (now (mate .entry)) (now (dist .entry)) (now (par .entry)) (now (keys .entry)) (now (low .entry)) (now (dist .exit)) (now (par .exit)) (now (keys .exit)) (now (low .exit)) r ⌝ }
 {
     let a = tail_at(e, records);
     let up = weight_at(e, records) + pi[a];
@@ -98,9 +98,9 @@ fn scan(
     keys: &mut [u32; 256],
     low: &mut [u32; 16],
 ) -> usize
-    requires { ⌜ State (length (now dist)) (length (now pi)) (tailsOf (now records)) (headsOf (now records)) (weightsOf (now records)) (now links) (now mate) (now pi) ⌝ }
+    requires { ⌜ State (length (now dist)) (length (now pi)) (recordTails (now records)) (recordHeads (now records)) (recordWeights (now records)) (now links) (now mate) (now pi) ⌝ }
     requires { ⌜ (b < length (now pi)) × (k ≤ 2000000000) × (length (now par) ≡ length (now dist)) ⌝ }
-    ensures { λ r. ⌜ Scanned (length (now (dist .entry))) (length (now (pi .entry))) (tailsOf (now (records .entry))) (headsOf (now (records .entry))) (weightsOf (now (records .entry))) (now (mate .entry)) (now (pi .entry)) (now (dist .entry)) (now (par .entry)) (now (keys .entry)) (now (low .entry)) (now (dist .exit)) (now (par .exit)) (now (keys .exit)) (now (low .exit)) b k r ⌝ }
+    ensures { λ r. ⌜ Scanned (length (now (dist .entry))) (length (now (pi .entry))) (recordTails (now (records .entry))) (recordHeads (now (records .entry))) (recordWeights (now (records .entry))) (now (mate .entry)) (now (pi .entry)) (now (dist .entry)) (now (par .entry)) (now (keys .entry)) (now (low .entry)) (now (dist .exit)) (now (par .exit)) (now (keys .exit)) (now (low .exit)) b k r ⌝ }
 {
     let price = pi[b];
     let mut e = place(links[b]);
@@ -124,9 +124,9 @@ pub(crate) fn search(
     par: &mut [u16],
     order: &mut [u8],
 ) -> usize
-    requires { ⌜ State (length (now dist)) (length (now pi)) (tailsOf (now records)) (headsOf (now records)) (weightsOf (now records)) (now links) (now mate) (now pi) ⌝ }
+    requires { ⌜ State (length (now dist)) (length (now pi)) (recordTails (now records)) (recordHeads (now records)) (recordWeights (now records)) (now links) (now mate) (now pi) ⌝ }
     requires { ⌜ (length (now dist) ≤ t) × (t < length (now pi)) × (entry (now mate) t ≡ noArc) × (length (now par) ≡ length (now dist)) × (length (now order) ≡ length (now dist)) ⌝ }
-    ensures { λ r. ⌜ Searched (length (now (dist .entry))) (length (now (pi .entry))) (tailsOf (now (records .entry))) (headsOf (now (records .entry))) (weightsOf (now (records .entry))) (now (mate .entry)) (now (pi .entry)) t (now (dist .exit)) (now (par .exit)) (now (order .exit)) r ⌝ }
+    ensures { λ r. ⌜ SearchedBack (length (now (dist .entry))) (length (now (pi .entry))) (recordTails (now (records .entry))) (recordHeads (now (records .entry))) (recordWeights (now (records .entry))) (now (mate .entry)) (now (pi .entry)) t (now (dist .exit)) (now (par .exit)) (now (order .exit)) r ⌝ }
 {
     let h = dist.len();
     let mut keys = [0u32; 256];

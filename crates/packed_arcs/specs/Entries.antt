@@ -15,10 +15,10 @@ abbrev pub zeroList : ℕ → List ℕ
 zeroList n = replicate n 0
 
 -- How many entries are 0.
-unfoldable pub zeros : List ℕ → ℕ
-zeros [] = 0
-zeros (zero ∷ l) = 1 + zeros l
-zeros (suc a ∷ l) = zeros l
+unfoldable pub zeroCount : List ℕ → ℕ
+zeroCount [] = 0
+zeroCount (zero ∷ l) = 1 + zeroCount l
+zeroCount (suc a ∷ l) = zeroCount l
 
 -- The sum of the entries.
 unfoldable pub sum : List ℕ → ℕ

@@ -18,7 +18,7 @@ use Rattle.network.specs.Question.{acyclicity, Setting, Allowed, Answer, value,
 use Rattle.network.proofs.Rules.{ZeroOrOne, NoAmount, Rises, AcyclicCertificate, CyclicCertificate, RulesHold}
 use Rattle.packed_arcs.specs.Entries.{entry, zeroList}
 use Rattle.packed_arcs.proofs.LentParts.{zero-at}
-use Rattle.arc_index.specs.Columns.{tailsOf, headsOf}
+use Rattle.arc_index.specs.Columns.{recordTails, recordHeads}
 use Rattle.acyclicity.specs.Search.{joinsBelow, searchable, Ordered, Circulation, SearchOutcome}
 use Rattle.acyclicity.specs.declared.Found.{Found}
 use Rattle.acyclicity.specs.declared.Found.the-variants.{Order, Cycle, Refused}
@@ -70,13 +70,13 @@ module _ (st : Setting) (rs : List ℕ) (a : Admissible st (wordArcs rs)) (q : a
   -- the outcome of the search, taken apart
   pub record InOrder (ranks' marks' : List ℕ) : Type 0 where
     pub few : length ranks' ≤ mostVertices
-    pub order : Ordered (tailsOf rs) (headsOf rs) ranks'
+    pub order : Ordered (recordTails rs) (recordHeads rs) ranks'
     pub unmarked : marks' ≡ zeroList (length rs)
 
   pub record InCycle (ranks' marks' : List ℕ) : Type 0 where
     pub no-ranks : ranks' ≡ zeroList (st .n)
     pub marks-len : length marks' ≡ length rs
-    pub cycle : Circulation (tailsOf rs) (headsOf rs) marks'
+    pub cycle : Circulation (recordTails rs) (recordHeads rs) marks'
 
   abbrev pub FoundCase : List ℕ → List ℕ → Found → Type 0
   FoundCase ranks' marks' Order = InOrder ranks' marks'

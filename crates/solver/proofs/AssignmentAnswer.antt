@@ -27,7 +27,7 @@ use Rattle.network.proofs.Assignments.{Between, enters-no-pump, leaves-no-site,
 use Rattle.network.proofs.Sound.{balance-parts}
 use Rattle.packed_arcs.specs.Entries.{entry, zeroList, flowAt}
 use Rattle.packed_arcs.proofs.LentParts.{zero-at}
-use Rattle.arc_index.specs.Columns.{tailsOf, headsOf, weightsOf}
+use Rattle.arc_index.specs.Columns.{recordTails, recordHeads, recordWeights}
 use Rattle.matching.specs.Outcome.{leadsAcross, matchable, Perfect, Deficient, FindOutcome, MatchOutcome}
 use Rattle.matching.specs.declared.Match.{Match}
 use Rattle.matching.specs.declared.Match.the-variants.{Perfect as PerfectMatch, Deficient as NoMatch, Refused}
@@ -97,15 +97,15 @@ module _ (st : Setting) (rs : List ℕ) (a : Admissible st (wordArcs rs)) (q : a
   -- ---- what was found, taken apart
 
   abbrev pub MatchCase : List ℕ → List ℕ → Match → Type 0
-  MatchCase pi' x' PerfectMatch = Perfect (pumps st) (st .n) (tailsOf rs) (headsOf rs) (weightsOf rs) x' pi'
-  MatchCase pi' x' NoMatch = Deficient (pumps st) (st .n) (tailsOf rs) (headsOf rs) pi' × (x' ≡ zeroList (length (tailsOf rs)))
+  MatchCase pi' x' PerfectMatch = Perfect (pumps st) (st .n) (recordTails rs) (recordHeads rs) (recordWeights rs) x' pi'
+  MatchCase pi' x' NoMatch = Deficient (pumps st) (st .n) (recordTails rs) (recordHeads rs) pi' × (x' ≡ zeroList (length (recordTails rs)))
   MatchCase pi' x' Refused = ⊥
 
   pub match-case : {pi x pi' x' : List ℕ} {r : Match} → length pi ≡ st .n → length x ≡ length rs → MatchOutcome rs (pumps st) pi x pi' x' r → MatchCase pi' x' r
   match-case {pi} {x} en em (MatchOutcome.refused off ep ex) = absurd (false≢true (sym off ∙ may-match pi x en em))
-  match-case {pi} {x} {pi'} {x'} {r} en em (MatchOutcome.found ok O) = go (subst (λ (n : ℕ). FindOutcome (pumps st) n (tailsOf rs) (headsOf rs) (weightsOf rs) pi' x' r) en O)
+  match-case {pi} {x} {pi'} {x'} {r} en em (MatchOutcome.found ok O) = go (subst (λ (n : ℕ). FindOutcome (pumps st) n (recordTails rs) (recordHeads rs) (recordWeights rs) pi' x' r) en O)
     where
-      go : {s : Match} → FindOutcome (pumps st) (st .n) (tailsOf rs) (headsOf rs) (weightsOf rs) pi' x' s → MatchCase pi' x' s
+      go : {s : Match} → FindOutcome (pumps st) (st .n) (recordTails rs) (recordHeads rs) (recordWeights rs) pi' x' s → MatchCase pi' x' s
       go (FindOutcome.perfect P) = P
       go (FindOutcome.deficient D z) = (D, z)
 
@@ -166,7 +166,7 @@ module _ (st : Setting) (rs : List ℕ) (a : Admissible st (wordArcs rs)) (q : a
         (subst (λ (y : ℕ → ℤ). RulesHold assignment st y f (value (cost f))) (sym (written-at Potential pi' ys refl w)) certificate) tt
 
   module _ {pi' x' : List ℕ} (C : MatchCase pi' x' NoMatch) where
-    D : Deficient (pumps st) (st .n) (tailsOf rs) (headsOf rs) pi'
+    D : Deficient (pumps st) (st .n) (recordTails rs) (recordHeads rs) pi'
     D = C .0
 
     pub marks-low : (v : ℕ) → v < length pi' → numberOf Potential (entry pi' v) ≤ mostPotential
@@ -179,10 +179,10 @@ module _ (st : Setting) (rs : List ℕ) (a : Admissible st (wordArcs rs)) (q : a
     closed e h = go (marked (λ w. pos (entry pi' w)) t) refl (marked (λ w. pos (entry pi' w)) u) refl
       where
         t : ℕ
-        t = entry (tailsOf rs) e
+        t = entry (recordTails rs) e
 
         u : ℕ
-        u = entry (headsOf rs) e
+        u = entry (recordHeads rs) e
 
         go : (x : Bool) → marked (λ w. pos (entry pi' w)) t ≡ x → (y : Bool) → marked (λ w. pos (entry pi' w)) u ≡ y → (marked (λ w. pos (entry pi' w)) t && not (marked (λ w. pos (entry pi' w)) u)) ≡ false
         go false p y r = rw p
@@ -192,7 +192,7 @@ module _ (st : Setting) (rs : List ℕ) (a : Admissible st (wordArcs rs)) (q : a
     no-certificate : NoAssignmentCertificate st (λ v. pos (entry pi' v)) (loadsOf es x')
     no-certificate = record {
       marks = λ v h. record { above = omega signed; below = omega (signed, D .zero-or-one v) };
-      amounts = every-load NoAmount es x' (λ e h. rw (C .1) (zero-at (length (tailsOf rs)) e));
+      amounts = every-load NoAmount es x' (λ e h. rw (C .1) (zero-at (length (recordTails rs)) e));
       closed = every-load (Closed (λ v. pos (entry pi' v))) es x' (λ e h. closed e h);
       more-pumps = omega (
         arith,

@@ -5,14 +5,14 @@ use Prim.Native.Nat.{ℕ, _-_, _<_}
 use native.Mathlib.Omega.{arith}
 use lib.ListN.{length, length-replicate}
 use Rattle.packed_arcs.specs.Entries.{entry, zeroList}
-use Rattle.arc_index.specs.Columns.{tailsOf, headsOf}
+use Rattle.arc_index.specs.Columns.{recordTails, recordHeads}
 use Rattle.arc_index.proofs.Columns.{tails-len}
 use Rattle.acyclicity.proofs.Cycles.{Marking, AtIndex, at-index, AtEnd, at-end, marking-none, marking-more, circulates}
 use Rattle.acyclicity.proofs.cycle.mark.Statement.{statement}
 use Rattle.acyclicity.proofs.cycle.mark.Tie as tie
 
 abbrev Inv-loop : tie.InvT-loop
-Inv-loop len records into path spot marks₀ top w i₀ marks i = Marking (tailsOf records) (headsOf records) into path spot marks i₀ len i
+Inv-loop len records into path spot marks₀ top w i₀ marks i = Marking (recordTails records) (recordHeads records) into path spot marks i₀ len i
 
 abbrev μ-loop : tie.MeasureT-loop
 μ-loop len records into path spot marks₀ top w i₀ marks i = len - i
@@ -26,8 +26,8 @@ at-top s = at-path s (s .args .len - 1) (omega (arith, s .pre .1 .0 .some))
 
 -- the vertex from which an arc enters the last
 closing : (c : tie.After-tail-at Inv-loop μ-loop)
-    → let a = c .before .before .before .before .before .before .before .before .before .args in c .tail-at .result ≡ entry (tailsOf (a .records .now)) (entry (a .into .now) (entry (a .path .now) (a .len - 1)))
-closing c = c .tail-at .ensures ∙ ap (entry (tailsOf (c .before .before .before .before .before .before .before .before .before .args .records .now))) (c .before .place .ensures)
+    → let a = c .before .before .before .before .before .before .before .before .before .args in c .tail-at .result ≡ entry (recordTails (a .records .now)) (entry (a .into .now) (entry (a .path .now) (a .len - 1)))
+closing c = c .tail-at .ensures ∙ ap (entry (recordTails (c .before .before .before .before .before .before .before .before .before .args .records .now))) (c .before .place .ensures)
 
 at-closing : (c : tie.After-tail-at Inv-loop μ-loop) → AtEnd (c .before .before .before .before .before .before .before .before .before .args .spot .now) (c .tail-at .result)
 at-closing c = let s = c .before .before .before .before .before .before .before .before .before in at-end (s .pre .0) (s .pre .1 .0) _ _ (closing c) refl

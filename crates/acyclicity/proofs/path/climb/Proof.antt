@@ -5,14 +5,14 @@ use Prim.Native.Nat.{_-_, _<_}
 use native.Mathlib.Omega.{arith}
 use lib.ListN.{length}
 use Rattle.packed_arcs.specs.Entries.{entry}
-use Rattle.arc_index.specs.Columns.{tailsOf, headsOf}
+use Rattle.arc_index.specs.Columns.{recordTails, recordHeads}
 use Rattle.acyclicity.specs.Steps.{Searching}
 use Rattle.acyclicity.proofs.Rankings.{searching-started, TopLooked, AtTop, at-top, climbed, moved-on, room-left, searching-longer}
 use Rattle.acyclicity.proofs.path.climb.Statement.{statement}
 use Rattle.acyclicity.proofs.path.climb.Tie as tie
 
 abbrev Inv-loop : tie.InvT-loop
-Inv-loop root first records links ranks into₀ path₀ spot₀ len₀ into path spot len = Searching (tailsOf records) (headsOf records) ranks into path spot len × (0 < len)
+Inv-loop root first records links ranks into₀ path₀ spot₀ len₀ into path spot len = Searching (recordTails records) (recordHeads records) ranks into path spot len × (0 < len)
 
 abbrev μ-loop : tie.MeasureT-loop
 μ-loop root first records links ranks into₀ path₀ spot₀ len₀ into path spot len = length ranks - len

@@ -6,14 +6,14 @@ use native.Mathlib.Omega.{arith}
 use borrow.Author.Needs.{needs}
 use Rattle.packed_arcs.specs.Entries.{entry}
 use Rattle.arc_index.specs.ArcIndex.{noArc}
-use Rattle.arc_index.specs.Columns.{tailsOf, headsOf}
+use Rattle.arc_index.specs.Columns.{recordTails, recordHeads}
 use Rattle.acyclicity.specs.Steps.{MovedOn}
 use Rattle.acyclicity.proofs.CurrentArcs.{moved-none, Looking, at-arc, fewer-left, moved-more}
 use Rattle.acyclicity.proofs.path.look.Statement.{statement}
 use Rattle.acyclicity.proofs.path.look.Tie as tie
 
 abbrev Inv-loop : tie.InvT-loop
-Inv-loop v records links ranks into₀ into = MovedOn (tailsOf records) (headsOf records) ranks into₀ v into
+Inv-loop v records links ranks into₀ into = MovedOn (recordTails records) (recordHeads records) ranks into₀ v into
 
 abbrev μ-loop : tie.MeasureT-loop
 μ-loop v records links ranks into₀ into = noArc - entry into v

@@ -5,7 +5,7 @@ use Prim.Native.Nat.{_-_}
 use native.Mathlib.Omega.{arith}
 use lib.ListN.{length}
 use Rattle.packed_arcs.specs.Entries.{entry}
-use Rattle.arc_index.specs.Columns.{tailsOf, headsOf}
+use Rattle.arc_index.specs.Columns.{recordTails, recordHeads}
 use Rattle.acyclicity.specs.Steps.{Arcs, Searching}
 use Rattle.acyclicity.proofs.Rankings.{Progress, AtLast, at-last, SameLengths, same-lengths, arcs-as, chained-as, searching-none, ranking-none, searched-all, searched-closed, one-left, progress-more}
 use Rattle.acyclicity.proofs.ranking.rank_all.Statement.{statement}
@@ -13,13 +13,13 @@ use Rattle.acyclicity.proofs.ranking.rank_all.Tie as tie
 
 abbrev Inv-loop : tie.InvT-loop
 Inv-loop records links ranks₀ into₀ path₀ spot₀ r₀ root₀ len₀ ranks into path spot r root len =
-    Progress (length ranks₀) (tailsOf records) (headsOf records) ranks into path spot r root len
+    Progress (length ranks₀) (recordTails records) (recordHeads records) ranks into path spot r root len
 
 abbrev μ-loop : tie.MeasureT-loop
 μ-loop records links ranks₀ into₀ path₀ spot₀ r₀ root₀ len₀ ranks into path spot r root len = length ranks₀ - r
 
 at-first : (s : tie.Start Inv-loop μ-loop)
-    → let a = s .args in Searching (tailsOf (a .records .now)) (headsOf (a .records .now)) (a .ranks .now) (a .into .now) (a .path .now) (a .spot .now) 0
+    → let a = s .args in Searching (recordTails (a .records .now)) (recordHeads (a .records .now)) (a .ranks .now) (a .into .now) (a .path .now) (a .spot .now) 0
 at-first s = searching-none (s .pre .0 .0) (s .pre .0 .1) (s .pre .1 .1) (s .pre .1 .2)
 
 loop-holds : tie.Need-loop-holds Inv-loop μ-loop
@@ -28,7 +28,7 @@ loop-holds c =
     record { size = refl; searching = at-first s; ranking = ranking-none (s .args .ranks .now) (s .pre .1 .0); passed = λ u h. absurd (omega arith) }
 
 -- at the loop's top
-arcs : (c : tie.At-loop Inv-loop μ-loop) → let rs = c .before .before .before .before .before .before .before .args .records .now in Arcs (length (c .loop .ranks)) (tailsOf rs) (headsOf rs)
+arcs : (c : tie.At-loop Inv-loop μ-loop) → let rs = c .before .before .before .before .before .before .before .args .records .now in Arcs (length (c .loop .ranks)) (recordTails rs) (recordHeads rs)
 arcs c = arcs-as (c .loop .inv .size) (c .before .before .before .before .before .before .before .pre .0 .0 .arcs)
 
 lengths : (c : tie.At-loop Inv-loop μ-loop)

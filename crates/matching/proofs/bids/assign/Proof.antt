@@ -8,7 +8,7 @@ use lib.ListN.{length}
 use Rattle.packed_arcs.specs.Entries.{entry}
 use Rattle.arc_index.specs.ArcIndex.{noArc}
 use Rattle.matching.specs.Bidding.{assignedMates, assignedPotentials}
-use Rattle.arc_index.specs.Columns.{headsOf}
+use Rattle.arc_index.specs.Columns.{recordHeads}
 use Rattle.arc_index.proofs.Columns.{tails-len}
 use Rattle.matching.proofs.bids.assign.Statement.{statement}
 use Rattle.matching.proofs.bids.assign.Tie as tie
@@ -21,7 +21,7 @@ note-requires c κs =
     let rs = a .records .now in
     let mate = a .mate .now in
     subst
-    (λ (k : ℕ). ((k < length mate) × (entry mate k < noArc → (entry mate k < length rs) × (entry (headsOf rs) (entry mate k) < length mate))) × ((a .t < length mate) × (a .e < noArc)))
+    (λ (k : ℕ). ((k < length mate) × (entry mate k < noArc → (entry mate k < length rs) × (entry (recordHeads rs) (entry mate k) < length mate))) × ((a .t < length mate) × (a .e < noArc)))
     (sym (c .before .tail-at .ensures))
     ((R .tail, λ k. (omega (arith, R .matched k .0, tails-len rs), R .matched k .1)), (R .right, omega (arith, R .arc, R .few)))
 
@@ -33,7 +33,7 @@ price-requires c κs =
 returns : tie.Need-returns
 returns c =
     let a = c .before .before .before .before .before .before .before .before .before .before .before .before .before .args in (
-      c .before .before .before .before .before .before .before .note .ensures ∙ ap (λ (v : ℕ). assignedMates (headsOf (a .records .now)) (a .mate .now) v (a .t) (a .e)) (c .before .before .before .before .before .before .before .before .before .tail-at .ensures),
+      c .before .before .before .before .before .before .before .note .ensures ∙ ap (λ (v : ℕ). assignedMates (recordHeads (a .records .now)) (a .mate .now) v (a .t) (a .e)) (c .before .before .before .before .before .before .before .before .before .tail-at .ensures),
       c .before .before .price .ensures ∙ ap₂ (λ (v w : ℕ). assignedPotentials (a .pi .now) v (a .t) (a .u) w) (c .before .before .before .before .before .before .before .before .before .tail-at .ensures) (c .before .before .before .before .weight-at .ensures),
     )
 

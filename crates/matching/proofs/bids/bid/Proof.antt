@@ -7,7 +7,7 @@ use borrow.Author.Needs.{needs}
 use Rattle.packed_arcs.specs.Entries.{entry}
 use Rattle.arc_index.specs.ArcIndex.{noArc}
 use Rattle.matching.specs.Bidding.{Cheapest, Offer}
-use Rattle.arc_index.specs.Columns.{tailsOf, headsOf, weightsOf}
+use Rattle.arc_index.specs.Columns.{recordTails, recordHeads, recordWeights}
 use Rattle.matching.proofs.Bidding.{affordable, offer, room, taken-offer, bare-of}
 use Rattle.arc_index.proofs.Columns.{tails-len}
 use Rattle.matching.proofs.bids.bid.Statement.{statement}
@@ -17,13 +17,13 @@ use Rattle.matching.proofs.bids.bid.Tie as tie
 here : (c : tie.After-choose)
     → let a = c .before .before .before .before .before .before .before .before .before .before .before .before .before .before .before .before .before .before .before .args in
     let rs = a .records .now in
-    Offer (tailsOf rs) (headsOf rs) (weightsOf rs) (a .pi .now) (a .t) (c .choose .result) (c .before .before .before .before .cost-of .result)
+    Offer (recordTails rs) (recordHeads rs) (recordWeights rs) (a .pi .now) (a .t) (c .choose .result) (c .before .before .before .before .cost-of .result)
 here c =
     let s = c .before .before .before .before .before .before .before .before .before .before .before .before .before .before .before .before .before .before .before in
     let rs = s .args .records .now in
     let e1 = c .before .before .before .before .before .before .before .before .before .before .before .cheapest .result in
     offer (s .args .t) e1 (c .before .before .before .before .before .before .before .cheapest2 .result) (c .choose .result) (c .before .before .before .before .cost-of .result) (s .pre .0) (c .before .before .before .before .before .before .before .before .before .before .if2 .left) (c .before .before .before .before .before .before .if3 .left) (c .before .before .before .before .before .before .before .before .before .before .before .cheapest .ensures)
-    (subst (λ (k : ℕ). Cheapest (tailsOf rs) (headsOf rs) (weightsOf rs) (s .args .pi .now) (s .args .t) k (c .before .before .before .before .before .before .before .cheapest2 .result)) (c .before .before .before .before .before .before .before .before .before .tail-at .ensures) (c .before .before .before .before .before .before .before .cheapest2 .ensures))
+    (subst (λ (k : ℕ). Cheapest (recordTails rs) (recordHeads rs) (recordWeights rs) (s .args .pi .now) (s .args .t) k (c .before .before .before .before .before .before .before .cheapest2 .result)) (c .before .before .before .before .before .before .before .before .before .tail-at .ensures) (c .before .before .before .before .before .before .before .cheapest2 .ensures))
     (c .before .before .before .before .cost-of .ensures) (c .before .before .before .if4 .left) (c .choose .ensures)
 
 -- before that t was exposed

@@ -5,14 +5,14 @@ use Prim.Native.Nat.{_-_, _≤_}
 use native.Mathlib.Omega.{arith}
 use borrow.Author.Needs.{needs}
 use lib.ListN.{length}
-use Rattle.arc_index.specs.Columns.{tailsOf, headsOf, weightsOf}
+use Rattle.arc_index.specs.Columns.{recordTails, recordHeads, recordWeights}
 use Rattle.matching.specs.Matching.{State}
 use Rattle.matching.proofs.Bidding.{sized, resized}
 use Rattle.matching.proofs.bids.bid_round.Statement.{statement}
 use Rattle.matching.proofs.bids.bid_round.Tie as tie
 
 abbrev Inv-loop : tie.InvT-loop
-Inv-loop h records links mate₀ pi₀ t₀ mate pi t = (h ≤ t) × State h (length pi₀) (tailsOf records) (headsOf records) (weightsOf records) links mate pi
+Inv-loop h records links mate₀ pi₀ t₀ mate pi t = (h ≤ t) × State h (length pi₀) (recordTails records) (recordHeads records) (recordWeights records) links mate pi
 
 abbrev μ-loop : tie.MeasureT-loop
 μ-loop h records links mate₀ pi₀ t₀ mate pi t = length pi₀ - t

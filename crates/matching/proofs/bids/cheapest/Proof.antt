@@ -5,20 +5,20 @@ use mathlib.Core.Logic.{⊎-elim}
 use Prim.Native.Nat.{ℕ, _-_}
 use native.Mathlib.Omega.{arith}
 use borrow.Author.Needs.{needs}
-use Rattle.arc_index.specs.Columns.{tailsOf, headsOf, weightsOf}
+use Rattle.arc_index.specs.Columns.{recordTails, recordHeads, recordWeights}
 use Rattle.matching.proofs.Bidding.{Best, best-start, best-take, best-skip, best-end, at-arc, next-later}
 use Rattle.arc_index.proofs.Columns.{tails-len, heads-len}
 use Rattle.matching.proofs.bids.cheapest.Statement.{statement}
 use Rattle.matching.proofs.bids.cheapest.Tie as tie
 
 abbrev Inv-loop : tie.InvT-loop
-Inv-loop t except records links pi best₀ least₀ e₀ best least e = Best (tailsOf records) (headsOf records) (weightsOf records) pi t except e best least
+Inv-loop t except records links pi best₀ least₀ e₀ best least e = Best (recordTails records) (recordHeads records) (recordWeights records) pi t except e best least
 
 abbrev μ-loop : tie.MeasureT-loop
 μ-loop t except records links pi best₀ least₀ e₀ best least e = 4096 - e
 
 loop-holds : tie.Need-loop-holds Inv-loop μ-loop
-loop-holds c = let a = c .before .before .before .before .before .args in let p = c .before .before .before .before .before .pre .0 in subst (λ (k : ℕ). Best (tailsOf (a .records .now)) (headsOf (a .records .now)) (weightsOf (a .records .now)) (a .pi .now) (a .t) (a .except) k 4096 4294967295) (sym (c .place .ensures)) (best-start _ _ _ _ (a .links .now) (a .t) (a .except) (p .0) (p .1))
+loop-holds c = let a = c .before .before .before .before .before .args in let p = c .before .before .before .before .before .pre .0 in subst (λ (k : ℕ). Best (recordTails (a .records .now)) (recordHeads (a .records .now)) (recordWeights (a .records .now)) (a .pi .now) (a .t) (a .except) k 4096 4294967295) (sym (c .place .ensures)) (best-start _ _ _ _ (a .links .now) (a .t) (a .except) (p .0) (p .1))
 
 cost-unless-requires : tie.Need-cost-unless-requires Inv-loop μ-loop
 cost-unless-requires c κs = let s = c .before .before .before .before .before .before .before in (s .pre .1, omega (arith, at-arc (c .before .loop .inv) (c .loop-test .taken) .0, heads-len (s .args .records .now)))
@@ -42,7 +42,7 @@ loop-again c =
     let l = c .before .before .before .before .before .loop in
     let k = c .before .before .before .before .loop-test .taken in
     let q = c .before .before .before .cost-unless .ensures in
-    subst (λ (e : ℕ). Best (tailsOf (a .records .now)) (headsOf (a .records .now)) (weightsOf (a .records .now)) (a .pi .now) (a .t) (a .except) e (c .before .before .if1 .best) (c .before .before .if1 .least)) (sym (c .place2 .ensures))
+    subst (λ (e : ℕ). Best (recordTails (a .records .now)) (recordHeads (a .records .now)) (recordWeights (a .records .now)) (a .pi .now) (a .t) (a .except) e (c .before .before .if1 .best) (c .before .before .if1 .least)) (sym (c .place2 .ensures))
     (⊎-elim
     (λ w. best-take _ _ _ (a .pi .now) (a .links .now) (a .t) (a .except) (l .e) (l .best) (l .least) _ _ _ (s .pre .0 .0) k (l .inv) q (w .0 .taken) (w .1) (w .2))
     (λ w. best-skip _ _ _ (a .pi .now) (a .links .now) (a .t) (a .except) (l .e) (l .best) (l .least) _ _ _ (s .pre .0 .0) k (l .inv) q (w .0 .left) (w .1) (w .2))

@@ -6,13 +6,13 @@ use native.Mathlib.Omega.{arith}
 use borrow.Author.Needs.{needs}
 use lib.ListN.{length}
 use Rattle.packed_arcs.specs.Entries.{entry}
-use Rattle.arc_index.specs.Columns.{weightsOf}
+use Rattle.arc_index.specs.Columns.{recordWeights}
 use Rattle.arc_index.proofs.Columns.{tails-len}
 use Rattle.matching.proofs.bids.cost_of.Statement.{statement}
 use Rattle.matching.proofs.bids.cost_of.Tie as tie
 
 -- the tail has a potential, and the cost is small
-here : (c : tie.After-tail-at) → let a = c .before .before .before .args in (c .tail-at .result < length (a .pi .now)) × (entry (weightsOf (a .records .now)) (a .e) + entry (a .pi .now) (c .tail-at .result) ≤ 8355585)
+here : (c : tie.After-tail-at) → let a = c .before .before .before .args in (c .tail-at .result < length (a .pi .now)) × (entry (recordWeights (a .records .now)) (a .e) + entry (a .pi .now) (c .tail-at .result) ≤ 8355585)
 here c =
     let s = c .before .before .before in
     let P = s .pre .0 (s .args .e) (omega (arith, tails-len (s .args .records .now), s .pre .1)) in

@@ -8,7 +8,7 @@ use lib.ListN.{length, set}
 use Rattle.prelude.proofs.Choice.{leb-on, leb-off}
 use Rattle.packed_arcs.specs.Entries.{entry}
 use Rattle.arc_index.specs.ArcIndex.{noArc}
-use Rattle.arc_index.specs.Columns.{headsOf}
+use Rattle.arc_index.specs.Columns.{recordHeads}
 use Rattle.matching.proofs.bids.free.Statement.{statement}
 use Rattle.matching.proofs.bids.free.Tie as tie
 
@@ -17,12 +17,12 @@ returns c = leb-on (List ℕ) _ _ _ _ _ (subst (λ (k : ℕ). noArc ≤ k) (c .b
 
 -- the arc that was read, and its head
 here : (c : tie.Else1)
-    → let a = c .before .before .before .before .before .args in (c .before .place .result < length (a .records .now)) × (entry (headsOf (a .records .now)) (c .before .place .result) < length (a .mate .now))
+    → let a = c .before .before .before .before .before .args in (c .before .place .result < length (a .records .now)) × (entry (recordHeads (a .records .now)) (c .before .place .result) < length (a .mate .now))
 here c =
     let s = c .before .before .before .before .before in
     let e = c .before .place .ensures in
     let P = s .pre .1 (subst (λ (k : ℕ). k < noArc) e (c .if1 .left)) in
-    (subst (λ (k : ℕ). k < length (s .args .records .now)) (sym e) (P .0), subst (λ (k : ℕ). entry (headsOf (s .args .records .now)) k < length (s .args .mate .now)) (sym e) (P .1))
+    (subst (λ (k : ℕ). k < length (s .args .records .now)) (sym e) (P .0), subst (λ (k : ℕ). entry (recordHeads (s .args .records .now)) k < length (s .args .mate .now)) (sym e) (P .1))
 
 head : (c : tie.After-head-at) → c .head-at .result < length (c .before .before .before .before .before .before .args .mate .now)
 head c = subst (λ (k : ℕ). k < length (c .before .before .before .before .before .before .args .mate .now)) (sym (c .head-at .ensures)) (here (c .before) .1)
@@ -41,7 +41,7 @@ returns-2 c =
     let a = c .before .before .before .before .before .before .args in
     let e = c .before .before .place .ensures in
     leb-off (List ℕ) _ _ _ _ _ (subst (λ (k : ℕ). k < noArc) e (c .before .if1 .left))
-    (ap (λ (b : ℕ). set (a .mate .now) b noArc) (c .head-at .ensures ∙ ap (entry (headsOf (a .records .now))) e))
+    (ap (λ (b : ℕ). set (a .mate .now) b noArc) (c .head-at .ensures ∙ ap (entry (recordHeads (a .records .now))) e))
 
 pub free-spec : {M : Type 1} → statement M
 free-spec =

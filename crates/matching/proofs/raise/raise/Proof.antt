@@ -6,7 +6,7 @@ use native.Mathlib.Omega.{arith}
 use lib.ListN.{length}
 use borrow.Author.Needs.{needs}
 use Rattle.packed_arcs.specs.Entries.{entry}
-use Rattle.arc_index.specs.Columns.{tailsOf}
+use Rattle.arc_index.specs.Columns.{recordTails}
 use Rattle.matching.specs.Augmenting.{riseOf}
 use Rattle.arc_index.proofs.Columns.{tails-len}
 use Rattle.matching.proofs.Pairs.{noted}
@@ -19,7 +19,7 @@ use Rattle.matching.proofs.raise.raise.Lts as lts
 use Rattle.matching.proofs.raise.rise.Reads as rise-reads
 
 abbrev Inv-loop : tie.InvT-loop
-Inv-loop t d records links mate dist pi₀ v₀ pi v = Rising (riseOf (length dist) (tailsOf records) mate dist t d) pi₀ pi v
+Inv-loop t d records links mate dist pi₀ v₀ pi v = Rising (riseOf (length dist) (recordTails records) mate dist t d) pi₀ pi v
 
 abbrev μ-loop : tie.MeasureT-loop
 μ-loop t d records links mate dist pi₀ v₀ pi v = length pi₀ - v
@@ -42,7 +42,7 @@ slice-read-pi c = search needs
 
 -- src/raise.rt:52:17
 add-pi : tie.Need-add-pi Inv-loop μ-loop
-add-pi c = let a = c .before .before .before .before .before .before .before .before .before .args in let l = c .before .before .before .loop in record { fits = omega (arith, l .inv .above (l .v) (omega arith), c .before .before .before .before .before .before .before .before .before .pre .0 .range (l .v) (omega (arith, c .before .before .loop-test .taken, l .inv .len)), c .before .rise .ensures, rise-most (length (a .dist .now)) (tailsOf (a .records .now)) (a .mate .now) (a .dist .now) (a .t) (a .d) (l .v), c .before .before .before .before .before .before .before .before .before .pre .1) }
+add-pi c = let a = c .before .before .before .before .before .before .before .before .before .args in let l = c .before .before .before .loop in record { fits = omega (arith, l .inv .above (l .v) (omega arith), c .before .before .before .before .before .before .before .before .before .pre .0 .range (l .v) (omega (arith, c .before .before .loop-test .taken, l .inv .len)), c .before .rise .ensures, rise-most (length (a .dist .now)) (recordTails (a .records .now)) (a .mate .now) (a .dist .now) (a .t) (a .d) (l .v), c .before .before .before .before .before .before .before .before .before .pre .1) }
 
 -- src/raise.rt:52:9
 mul-pi-2 : tie.Need-mul-pi-2 Inv-loop μ-loop

@@ -6,7 +6,7 @@ use native.Mathlib.Omega.{arith}
 use borrow.Author.Tests.{lt-ltb, le-ltb, eq-eqb, ne-eqb}
 use borrow.Author.Needs.{needs}
 use Rattle.packed_arcs.specs.Entries.{entry}
-use Rattle.arc_index.specs.Columns.{tailsOf}
+use Rattle.arc_index.specs.Columns.{recordTails}
 use Rattle.matching.proofs.raise.rise.Statement.{statement}
 use Rattle.matching.proofs.raise.rise.Tie as tie
 use Rattle.matching.proofs.raise.rise.Reads as reads
@@ -53,11 +53,11 @@ tail-at-requires c κs = omega (arith, (c .before .before .before .before .befor
 
 -- src/raise.rt:38:23
 mul-nearer-2 : tie.Need-mul-nearer-2
-mul-nearer-2 c = record { fits = omega (arith, (c .before .before .before .before .before .before .before .before .before .pre .1 (c .before .before .if3 .taken)), c .tail-at .ensures, ap (entry (tailsOf (c .before .before .before .before .before .before .before .before .before .args .records .now))) (c .before .place .ensures)) }
+mul-nearer-2 c = record { fits = omega (arith, (c .before .before .before .before .before .before .before .before .before .pre .1 (c .before .before .if3 .taken)), c .tail-at .ensures, ap (entry (recordTails (c .before .before .before .before .before .before .before .before .before .args .records .now))) (c .before .place .ensures)) }
 
 -- src/raise.rt:38:23
 shared-slice-read-nearer-2 : tie.Need-shared-slice-read-nearer-2
-shared-slice-read-nearer-2 c = omega (arith, (c .before .before .before .before .before .before .before .before .before .before .pre .1 (c .before .before .before .if3 .taken)), c .before .tail-at .ensures, ap (entry (tailsOf (c .before .before .before .before .before .before .before .before .before .before .args .records .now))) (c .before .before .place .ensures))
+shared-slice-read-nearer-2 c = omega (arith, (c .before .before .before .before .before .before .before .before .before .before .pre .1 (c .before .before .before .if3 .taken)), c .before .tail-at .ensures, ap (entry (recordTails (c .before .before .before .before .before .before .before .before .before .before .args .records .now))) (c .before .before .place .ensures))
 
 -- src/raise.rt:38:9
 nearer-requires-2 : tie.Need-nearer-requires-2

@@ -8,7 +8,7 @@ use lib.ListN.{length}
 use Rattle.prelude.proofs.Choice.{ltb-on, ltb-off, eqb-on, eqb-off, leb-on, leb-off}
 use Rattle.packed_arcs.specs.Entries.{entry}
 use Rattle.arc_index.specs.ArcIndex.{noArc}
-use Rattle.arc_index.specs.Columns.{tailsOf}
+use Rattle.arc_index.specs.Columns.{recordTails}
 use Rattle.matching.specs.Outcome.{farMark}
 use Rattle.arc_index.proofs.Columns.{tails-len}
 use Rattle.matching.proofs.Pairs.{noted}
@@ -17,12 +17,12 @@ use Rattle.matching.proofs.results.mark_of.Tie as tie
 
 -- the arc that was read is one of the records', and comes from a left vertex
 matched : (c : tie.Else3)
-    → let a = c .before .before .before .before .before .before .before .before .args in (c .before .place .result < length (a .records .now)) × (entry (tailsOf (a .records .now)) (c .before .place .result) < length (a .dist .now))
+    → let a = c .before .before .before .before .before .before .before .before .args in (c .before .place .result < length (a .records .now)) × (entry (recordTails (a .records .now)) (c .before .place .result) < length (a .dist .now))
 matched c =
     let s = c .before .before .before .before .before .before .before .before in
     let e = c .before .place .ensures in
     let N = noted (s .pre .1 .0) (s .args .v) (s .pre .1 .1) (omega (arith, c .if3 .left)) in
-    (omega (arith, N .arc, tails-len (s .args .records .now)), subst (λ (k : ℕ). entry (tailsOf (s .args .records .now)) k < length (s .args .dist .now)) (sym e) (s .pre .0 .from-left _ (N .arc)))
+    (omega (arith, N .arc, tails-len (s .args .records .now)), subst (λ (k : ℕ). entry (recordTails (s .args .records .now)) k < length (s .args .dist .now)) (sym e) (s .pre .0 .from-left _ (N .arc)))
 
 returns : tie.Need-returns
 returns c = ltb-on ℕ _ _ _ _ _ (c .before .before .if1 .taken) (c .far-mark .ensures)
@@ -45,7 +45,7 @@ shared-slice-read-far-mark-2 c = omega (arith, matched (c .before .before) .1, c
 returns-4 : tie.Need-returns-4
 returns-4 c =
     ltb-off ℕ _ _ _ _ _ (c .before .before .before .before .before .before .before .if1 .left) (eqb-off ℕ _ _ _ _ _ (c .before .before .before .before .before .before .if2 .left) (leb-off ℕ _ _ _ _ _ (subst (λ (k : ℕ). k < noArc) (c .before .before .before .before .place .ensures) (c .before .before .before .if3 .left))
-    (c .far-mark2 .ensures ∙ ap (λ (a : ℕ). farMark (entry (c .before .before .before .before .before .before .before .before .before .before .before .args .dist .now) a)) (c .before .before .tail-at .ensures ∙ ap (entry (tailsOf (c .before .before .before .before .before .before .before .before .before .before .before .args .records .now))) (c .before .before .before .before .place .ensures)))))
+    (c .far-mark2 .ensures ∙ ap (λ (a : ℕ). farMark (entry (c .before .before .before .before .before .before .before .before .before .before .before .args .dist .now) a)) (c .before .before .tail-at .ensures ∙ ap (entry (recordTails (c .before .before .before .before .before .before .before .before .before .before .before .args .records .now))) (c .before .before .before .before .place .ensures)))))
 
 pub mark-of-spec : {M : Type 1} → statement M
 mark-of-spec =

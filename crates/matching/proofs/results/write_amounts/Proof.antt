@@ -6,14 +6,14 @@ use native.Mathlib.Omega.{arith}
 use lib.ListN.{length}
 use borrow.Author.Needs.{needs}
 use Rattle.prelude.proofs.Filling.{Filling, fill-start, fill-turn, fill-end}
-use Rattle.arc_index.specs.Columns.{headsOf}
+use Rattle.arc_index.specs.Columns.{recordHeads}
 use Rattle.matching.specs.Outcome.{matchedAmount}
 use Rattle.arc_index.proofs.Columns.{heads-len}
 use Rattle.matching.proofs.results.write_amounts.Statement.{statement}
 use Rattle.matching.proofs.results.write_amounts.Tie as tie
 
 abbrev Inv-loop : tie.InvT-loop
-Inv-loop records mate x₀ e₀ x e = Filling (λ i k. k ≡ matchedAmount (headsOf records) mate i) 0 x₀ x e
+Inv-loop records mate x₀ e₀ x e = Filling (λ i k. k ≡ matchedAmount (recordHeads records) mate i) 0 x₀ x e
 
 abbrev μ-loop : tie.MeasureT-loop
 μ-loop records mate x₀ e₀ x e = length records - e

@@ -6,14 +6,14 @@ use native.Mathlib.Omega.{arith}
 use lib.ListN.{length}
 use borrow.Author.Needs.{needs}
 use Rattle.prelude.proofs.Filling.{Filling, fill-start, fill-turn, fill-end}
-use Rattle.arc_index.specs.Columns.{tailsOf, headsOf, weightsOf}
+use Rattle.arc_index.specs.Columns.{recordTails, recordHeads, recordWeights}
 use Rattle.matching.specs.Matching.{Bipartite, Matching}
 use Rattle.matching.specs.Outcome.{unreachedMark}
 use Rattle.matching.proofs.results.write_marks.Statement.{statement}
 use Rattle.matching.proofs.results.write_marks.Tie as tie
 
 abbrev Inv-loop : tie.InvT-loop
-Inv-loop t records mate dist pi₀ v₀ pi v = Filling (λ i k. k ≡ unreachedMark (tailsOf records) mate dist t i) 0 pi₀ pi v
+Inv-loop t records mate dist pi₀ v₀ pi v = Filling (λ i k. k ≡ unreachedMark (recordTails records) mate dist t i) 0 pi₀ pi v
 
 abbrev μ-loop : tie.MeasureT-loop
 μ-loop t records mate dist pi₀ v₀ pi v = length mate - v
@@ -25,10 +25,10 @@ mark-of-requires : tie.Need-mark-of-requires Inv-loop μ-loop
 mark-of-requires c κs =
     let s = c .before .before .before .before .before .before in
     let a = s .args in
-    let T = tailsOf (a .records .now) in
-    let H = headsOf (a .records .now) in
+    let T = recordTails (a .records .now) in
+    let H = recordHeads (a .records .now) in
     let n = sym (s .pre .1 .len) in (
-      subst (λ (k : ℕ). Bipartite (length (a .dist .now)) k T H (weightsOf (a .records .now))) n (s .pre .0),
+      subst (λ (k : ℕ). Bipartite (length (a .dist .now)) k T H (recordWeights (a .records .now))) n (s .pre .0),
       (subst (λ (k : ℕ). Matching k T H (a .mate .now)) n (s .pre .1), c .loop-test .taken),
     )
 

@@ -6,7 +6,7 @@ use native.Mathlib.Omega.{arith}
 use lib.ListN.{length}
 use borrow.Author.Needs.{needs}
 use borrow.Author.Tests.{not-true, not-false}
-use Rattle.arc_index.specs.Columns.{tailsOf, headsOf, weightsOf}
+use Rattle.arc_index.specs.Columns.{recordTails, recordHeads, recordWeights}
 use Rattle.matching.specs.Serving.{Served}
 use Rattle.matching.proofs.Serving.{state-at, Passing, pass-start, pass-on, pass-stuck, pass-end}
 use Rattle.matching.proofs.serve.pass.Statement.{statement}
@@ -17,7 +17,7 @@ use Rattle.matching.proofs.serve.serve_exposed.Reads as serve-exposed-r
 
 abbrev Inv-loop : tie.InvT-loop
 Inv-loop step records links mate₀ pi₀ dist₀ par₀ order₀ t₀ mate pi dist par order t =
-    Passing (length dist₀) (length pi₀) (tailsOf records) (headsOf records) (weightsOf records) links step dist mate pi t
+    Passing (length dist₀) (length pi₀) (recordTails records) (recordHeads records) (recordWeights records) links step dist mate pi t
     × (length mate ≡ length mate₀) × (length pi ≡ length pi₀) × (length par ≡ length dist₀) × (length order ≡ length dist₀)
 
 abbrev μ-loop : tie.MeasureT-loop

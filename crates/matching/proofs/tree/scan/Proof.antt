@@ -6,7 +6,7 @@ use native.Mathlib.Omega.{arith}
 use lib.ListN.{length}
 use borrow.Author.Needs.{needs}
 use Rattle.matching.specs.Tree.{Lowered}
-use Rattle.arc_index.specs.Columns.{tailsOf, headsOf, weightsOf}
+use Rattle.arc_index.specs.Columns.{recordTails, recordHeads, recordWeights}
 use Rattle.arc_index.proofs.ChainSteps.{in-links, shrinks}
 use Rattle.arc_index.proofs.Columns.{tails-len, heads-len}
 use Rattle.matching.proofs.Scans.{Scanning, ready, here, scan-start, scan-step, scan-found, scan-end}
@@ -19,7 +19,7 @@ use Rattle.matching.proofs.arcs.tail_at.Reads as tail-at-reads
 use Rattle.matching.proofs.tree.relax.Reads as relax-reads
 
 abbrev Inv-loop : tie.InvT-loop
-Inv-loop b k records links mate pi dist₀ par₀ keys₀ low₀ price e₀ dist par keys low e = (length dist₀ ≡ length dist) × Scanning (length dist₀) (length pi) (tailsOf records) (headsOf records) (weightsOf records) mate pi dist₀ par₀ keys₀ low₀ b k dist par keys low e
+Inv-loop b k records links mate pi dist₀ par₀ keys₀ low₀ price e₀ dist par keys low e = (length dist₀ ≡ length dist) × Scanning (length dist₀) (length pi) (recordTails records) (recordHeads records) (recordWeights records) mate pi dist₀ par₀ keys₀ low₀ b k dist par keys low e
 
 abbrev μ-loop : tie.MeasureT-loop
 μ-loop b k records links mate pi dist₀ par₀ keys₀ low₀ price e₀ dist par keys low e = 4096 - e

@@ -6,7 +6,7 @@ use native.Mathlib.Omega.{arith}
 use lib.ListN.{length}
 use borrow.Author.Needs.{needs}
 use Rattle.packed_arcs.specs.Entries.{entry}
-use Rattle.arc_index.specs.Columns.{tailsOf, headsOf, weightsOf}
+use Rattle.arc_index.specs.Columns.{recordTails, recordHeads, recordWeights}
 use Rattle.matching.specs.Matching.{State}
 use Rattle.arc_index.proofs.Columns.{tails-len}
 use Rattle.matching.proofs.SearchSteps.{Growing, growing-start, small, few, met, nobody-left, left, exposed-there, matched-arc, growing-on}
@@ -24,7 +24,7 @@ use Rattle.vertex_queue.proofs.take.Reads as take-reads
 
 abbrev Inv-loop : tie.InvT-loop
 Inv-loop t records links mate pi dist₀ par₀ order₀ h keys₀ low₀ b₀ k₀ nd₀ dist par order keys low b k nd =
-    Growing h (length pi) (tailsOf records) (headsOf records) (weightsOf records) mate pi t dist par order keys low b k nd
+    Growing h (length pi) (recordTails records) (recordHeads records) (recordWeights records) mate pi t dist par order keys low b k nd
 
 abbrev μ-loop : tie.MeasureT-loop
 μ-loop t records links mate pi dist₀ par₀ order₀ h keys₀ low₀ b₀ k₀ nd₀ dist par order keys low b k nd =
@@ -44,7 +44,7 @@ loop-holds c = let p = c .before .before .before .before .before .before .before
 
 -- src/tree.rt:140:13
 scan-requires : tie.Need-scan-requires Inv-loop μ-loop
-scan-requires c κs = let l = c .before .before .before .before .loop in let p = c .before .before .before .before .before .before .before .before .before .before .before .before .before .before .before .before .before .before .before .before .before .before .pre in (subst (λ (h : ℕ). State h (length (c .before .before .before .before .before .before .before .before .before .before .before .before .before .before .before .before .before .before .before .before .before .before .args .pi .now)) (tailsOf (c .before .before .before .before .before .before .before .before .before .before .before .before .before .before .before .before .before .before .before .before .before .before .args .records .now)) (headsOf (c .before .before .before .before .before .before .before .before .before .before .before .before .before .before .before .before .before .before .before .before .before .before .args .records .now)) (weightsOf (c .before .before .before .before .before .before .before .before .before .before .before .before .before .before .before .before .before .before .before .before .before .before .args .records .now)) (c .before .before .before .before .before .before .before .before .before .before .before .before .before .before .before .before .before .before .before .before .before .before .args .links .now) (c .before .before .before .before .before .before .before .before .before .before .before .before .before .before .before .before .before .before .before .before .before .before .args .mate .now) (c .before .before .before .before .before .before .before .before .before .before .before .before .before .before .before .before .before .before .before .before .before .before .args .pi .now)) (sym (l .inv .tree .dist-len)) (p .0), (l .inv .below, small (p .0) (l .inv), omega (arith, l .inv .tree .par-len, l .inv .tree .dist-len)))
+scan-requires c κs = let l = c .before .before .before .before .loop in let p = c .before .before .before .before .before .before .before .before .before .before .before .before .before .before .before .before .before .before .before .before .before .before .pre in (subst (λ (h : ℕ). State h (length (c .before .before .before .before .before .before .before .before .before .before .before .before .before .before .before .before .before .before .before .before .before .before .args .pi .now)) (recordTails (c .before .before .before .before .before .before .before .before .before .before .before .before .before .before .before .before .before .before .before .before .before .before .args .records .now)) (recordHeads (c .before .before .before .before .before .before .before .before .before .before .before .before .before .before .before .before .before .before .before .before .before .before .args .records .now)) (recordWeights (c .before .before .before .before .before .before .before .before .before .before .before .before .before .before .before .before .before .before .before .before .before .before .args .records .now)) (c .before .before .before .before .before .before .before .before .before .before .before .before .before .before .before .before .before .before .before .before .before .before .args .links .now) (c .before .before .before .before .before .before .before .before .before .before .before .before .before .before .before .before .before .before .before .before .before .before .args .mate .now) (c .before .before .before .before .before .before .before .before .before .before .before .before .before .before .before .before .before .before .before .before .before .before .args .pi .now)) (sym (l .inv .tree .dist-len)) (p .0), (l .inv .below, small (p .0) (l .inv), omega (arith, l .inv .tree .par-len, l .inv .tree .dist-len)))
 
 -- src/tree.rt:142:13
 same-length : tie.Need-same-length Inv-loop μ-loop
