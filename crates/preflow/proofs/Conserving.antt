@@ -1,6 +1,7 @@
 -- What moves over residual arcs is conserved: one step, and steps in a row.
 -- Assumes nothing.
 use mathlib.Core.Path.{_≡_, refl, sym, ap, _∙_}
+use mathlib.Core.Bool.{Bool, true, false}
 use mathlib.Core.List.{List}
 use mathlib.Core.Logic.{⊎-elim}
 use Prim.Native.Nat.{ℕ, _+_, _*_, _-_, _<_, _≤_, min}
@@ -10,7 +11,7 @@ use borrow.Author.Tests.{eq-eqb, ne-eqb}
 use lib.ListN.{length, set, length-set, length-map}
 use mir.Syntax.{w32}
 use mir.Val.{Fits}
-use Rattle.prelude.specs.Choice.{indicator}
+use Rattle.prelude.specs.Choice.{pick, indicator}
 use Rattle.packed_arcs.specs.Entries.{entry, sum, flowAt}
 use Rattle.packed_arcs.specs.PackedArcs.{tailOf, headOf, capacityOf, tailsOf, headsOf, capacitiesOf}
 use Rattle.packed_arcs.proofs.ArcColumns.{columns, listed, tail-at, head-at, capacity-at}
@@ -152,6 +153,11 @@ arc-facts arcs x left e h r =
       within = omega (arith, c .within e (listed arcs e h), capacity-at arcs e);
       bounded = omega (arith, c .bounded, c .total);
     }
+
+-- the end of a residual arc, back or forward
+pub end-inside : {arcs x left : List ℕ} {e : ℕ} → ArcFacts arcs x left e → (back : Bool) → pick back (tailOf (entry arcs e)) (headOf (entry arcs e)) < length left
+end-inside F true = F .tail
+end-inside F false = F .head
 
 -- one step over a packed arc, from its tail a to its head b
 pub forward-moves : (arcs x left left' : List ℕ) (e a b k room g : ℕ) → e < length arcs → Ready arcs x left → a ≡ tailOf (entry arcs e) → b ≡ headOf (entry arcs e) → k ≡ capacityOf (entry arcs e)

@@ -3,7 +3,9 @@
 ghost use mathlib.Core.Path.{_≡_};
 ghost use Prim.Native.Nat.{_+_, _<_, _≤_};
 ghost use lib.ListN.{length};
+ghost use Rattle.prelude.specs.Choice.{pick};
 ghost use Rattle.packed_arcs.specs.Entries.{entry};
+ghost use Rattle.packed_arcs.specs.PackedArcs.{tailOf, headOf};
 ghost use Rattle.preflow.specs.Preflow.{Links};
 use packed_arcs::arcs::capacity_of;
 use packed_arcs::arcs::head_of;
@@ -36,6 +38,26 @@ pub(crate) fn next_arc(e: usize, links: &[u16]) -> usize
     ensures { λ r. ⌜ r ≡ entry (now (links .entry)) (256 + e) ⌝ }
 {
     place(links[256 + e])
+}
+
+// ---- residual arcs, forward or back
+
+// Does the residual network have the arc, which carries the amount: forward where there is room, back where it carries something?
+pub(crate) fn is_residual(back: bool, arc: u64, amount: u16) -> bool {
+    if back {
+        return 0 < amount;
+    }
+    amount < capacity_of(arc)
+}
+
+// The vertex that the residual arc leads to.
+pub(crate) fn end_of(back: bool, arc: u64) -> usize
+    ensures { λ r. ⌜ (r ≡ pick back (tailOf arc) (headOf arc)) × (r < 256) ⌝ }
+{
+    if back {
+        return tail_of(arc);
+    }
+    head_of(arc)
 }
 
 // ---- the search
@@ -73,8 +95,9 @@ fn reach(v: usize, l: u8, found: usize, label: &mut [u8; 256], order: &mut [u8; 
     found + 1
 }
 
-// The tail of the arc e is reached, where the arc has room.
-fn reach_tail(
+// The start of the residual arc e, forward or back, is reached, where there is such an arc.
+fn reach_start(
+    back: bool,
     e: usize,
     l: u8,
     found: usize,
@@ -87,75 +110,33 @@ fn reach_tail(
     ensures { λ r. ⌜ r ≤ 256 ⌝ }
 {
     let arc = arcs[e];
-    if x[e] < capacity_of(arc) {
-        return reach(tail_of(arc), l, found, label, order);
+    if is_residual(back, arc, x[e]) {
+        return reach(end_of(!back, arc), l, found, label, order);
     }
     found
 }
 
-// The head of the arc e is reached, where the arc carries something.
-fn reach_head(
-    e: usize,
-    l: u8,
-    found: usize,
-    arcs: &[u64],
-    x: &[u16],
-    label: &mut [u8; 256],
-    order: &mut [u8; 256],
-) -> usize
-    requires { ⌜ (e < length (now arcs)) × (length (now x) ≡ length (now arcs)) × (found ≤ 256) ⌝ }
-    ensures { λ r. ⌜ r ≤ 256 ⌝ }
-{
-    if 0 < x[e] {
-        return reach(head_of(arcs[e]), l, found, label, order);
-    }
-    found
-}
-
-// The tails of the arcs into v that have room are reached, with the label l: how many are in the order.
-fn reach_tails(
+// The starts of the residual arcs to v, forward along the arcs into it or back along those out of it, are reached with the label l: how many are in the order.
+fn reach_starts(
+    back: bool,
     v: usize,
     l: u8,
     found: usize,
     arcs: &[u64],
-    into: &[u16],
+    links: &[u16],
     x: &[u16],
     label: &mut [u8; 256],
     order: &mut [u8; 256],
 ) -> usize
     requires { ⌜ (v < 256) × (length (now x) ≡ length (now arcs)) × (found ≤ 256) ⌝ }
-    requires { ⌜ Links (now arcs) (now into) ⌝ }
+    requires { ⌜ Links (now arcs) (now links) ⌝ }
     ensures { λ r. ⌜ r ≤ 256 ⌝ }
 {
     let mut many = found;
-    let mut e = first_arc(v, into);
+    let mut e = first_arc(v, links);
     while e < arcs.len() {
-        many = reach_tail(e, l, many, arcs, x, label, order);
-        e = next_arc(e, into);
-    }
-    many
-}
-
-// The heads of the arcs out of v that carry something are reached, with the label l: how many are in the order.
-fn reach_heads(
-    v: usize,
-    l: u8,
-    found: usize,
-    arcs: &[u64],
-    out: &[u16],
-    x: &[u16],
-    label: &mut [u8; 256],
-    order: &mut [u8; 256],
-) -> usize
-    requires { ⌜ (v < 256) × (length (now x) ≡ length (now arcs)) × (found ≤ 256) ⌝ }
-    requires { ⌜ Links (now arcs) (now out) ⌝ }
-    ensures { λ r. ⌜ r ≤ 256 ⌝ }
-{
-    let mut many = found;
-    let mut e = first_arc(v, out);
-    while e < arcs.len() {
-        many = reach_head(e, l, many, arcs, x, label, order);
-        e = next_arc(e, out);
+        many = reach_start(back, e, l, many, arcs, x, label, order);
+        e = next_arc(e, links);
     }
     many
 }
@@ -181,8 +162,8 @@ pub(crate) fn label_from(
     while done < found {
         let v = index_of(order[done]);
         let l = above(label[v]);
-        let many = reach_tails(v, l, found, arcs, into, x, label, order);
-        found = reach_heads(v, l, many, arcs, out, x, label, order);
+        let many = reach_starts(false, v, l, found, arcs, into, x, label, order);
+        found = reach_starts(true, v, l, many, arcs, out, x, label, order);
         done += 1;
     }
     found
@@ -197,49 +178,26 @@ fn lower(a: u8, b: u8) -> u8 {
     b
 }
 
-// The lower of low and the label of the head of the arc e, where the arc has room.
-fn lower_head(e: usize, low: u8, arcs: &[u64], x: &[u16], label: &[u8; 256]) -> u8
+// The lower of low and the label of the end of the residual arc e, forward or back, where there is such an arc.
+fn lower_end(back: bool, e: usize, low: u8, arcs: &[u64], x: &[u16], label: &[u8; 256]) -> u8
     requires { ⌜ (e < length (now arcs)) × (length (now x) ≡ length (now arcs)) ⌝ }
 {
     let arc = arcs[e];
-    if x[e] < capacity_of(arc) {
-        return lower(low, label[head_of(arc)]);
+    if is_residual(back, arc, x[e]) {
+        return lower(low, label[end_of(back, arc)]);
     }
     low
 }
 
-// The lower of low and the label of the tail of the arc e, where the arc carries something.
-fn lower_tail(e: usize, low: u8, arcs: &[u64], x: &[u16], label: &[u8; 256]) -> u8
-    requires { ⌜ (e < length (now arcs)) × (length (now x) ≡ length (now arcs)) ⌝ }
-{
-    if 0 < x[e] {
-        return lower(low, label[tail_of(arcs[e])]);
-    }
-    low
-}
-
-// The lowest label at the heads of the arcs out of v that have room.
-fn lowest_head(v: usize, arcs: &[u64], out: &[u16], x: &[u16], label: &[u8; 256]) -> u8
-    requires { ⌜ (v < 256) × (length (now x) ≡ length (now arcs)) × Links (now arcs) (now out) ⌝ }
+// The lowest label at the ends of the residual arcs from v, forward along the arcs out of it or back along those into it.
+fn lowest_end(back: bool, v: usize, arcs: &[u64], links: &[u16], x: &[u16], label: &[u8; 256]) -> u8
+    requires { ⌜ (v < 256) × (length (now x) ≡ length (now arcs)) × Links (now arcs) (now links) ⌝ }
 {
     let mut low = 255;
-    let mut e = first_arc(v, out);
+    let mut e = first_arc(v, links);
     while e < arcs.len() {
-        low = lower_head(e, low, arcs, x, label);
-        e = next_arc(e, out);
-    }
-    low
-}
-
-// The lowest label at the tails of the arcs into v that carry something.
-fn lowest_tail(v: usize, arcs: &[u64], into: &[u16], x: &[u16], label: &[u8; 256]) -> u8
-    requires { ⌜ (v < 256) × (length (now x) ≡ length (now arcs)) × Links (now arcs) (now into) ⌝ }
-{
-    let mut low = 255;
-    let mut e = first_arc(v, into);
-    while e < arcs.len() {
-        low = lower_tail(e, low, arcs, x, label);
-        e = next_arc(e, into);
+        low = lower_end(back, e, low, arcs, x, label);
+        e = next_arc(e, links);
     }
     low
 }
@@ -257,8 +215,8 @@ pub(crate) fn raised(
     requires { ⌜ (v < 256) × (length (now x) ≡ length (now arcs)) × Links (now arcs) (now out) × Links (now arcs) (now into) ⌝ }
 {
     let low = lower(
-        lowest_head(v, arcs, out, x, label),
-        lowest_tail(v, arcs, into, x, label),
+        lowest_end(false, v, arcs, out, x, label),
+        lowest_end(true, v, arcs, into, x, label),
     );
     if 253 < low {
         return 255;

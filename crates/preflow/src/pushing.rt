@@ -2,15 +2,13 @@
 ghost use Prim.Native.Nat.{_<_};
 ghost use lib.ListN.{length};
 ghost use Rattle.preflow.specs.Preflow.{Links, Ready, Moves};
+use super::labels::end_of;
 use super::labels::first_arc;
 use super::labels::index_of;
+use super::labels::is_residual;
 use super::labels::next_arc;
 use super::labels::place;
-use super::shifting::shift_backward;
-use super::shifting::shift_forward;
-use packed_arcs::arcs::capacity_of;
-use packed_arcs::arcs::head_of;
-use packed_arcs::arcs::tail_of;
+use super::shifting::shift;
 
 // Puts v first into the bucket of the label l, where nothing stood at v: else it is in one already.
 // A bucket is a list: its first vertex stands at l, the next one after v at 256 + v, and 255 is none.
@@ -25,8 +23,9 @@ pub(crate) fn activate(v: usize, l: u8, stood: u32, bucket: &mut [u8; 512])
     bucket[i] = v as u8;
 }
 
-// Pushes along the arc e, where it has room and its head has the label l: is nothing left at its tail?
-fn give_forward(
+// Pushes along the residual arc e, forward or back, where there is such an arc and its end has the label l: is nothing left at its start?
+fn give(
+    back: bool,
     e: usize,
     l: u8,
     arcs: &[u64],
@@ -39,85 +38,38 @@ fn give_forward(
     ensures { λ _. ⌜ Moves (now (arcs .entry)) (now (x .entry)) (now (left .entry)) (now (x .exit)) (now (left .exit)) ⌝ }
 {
     let arc = arcs[e];
-    let b = head_of(arc);
+    let b = end_of(back, arc);
     if label[b] != l {
         return false;
     }
-    if capacity_of(arc) <= x[e] {
+    if !is_residual(back, arc, x[e]) {
         return false;
     }
     activate(b, l, left[b], bucket);
-    shift_forward(e, arcs, x, left) == 0
+    shift(back, e, arcs, x, left) == 0
 }
 
-// Pushes back along the arc e, where it carries something and its tail has the label l: is nothing left at its head?
-fn give_backward(
-    e: usize,
-    l: u8,
-    arcs: &[u64],
-    label: &[u8; 256],
-    bucket: &mut [u8; 512],
-    x: &mut [u16],
-    left: &mut [u32],
-) -> bool
-    requires { ⌜ (e < length (now arcs)) × Ready (now arcs) (now x) (now left) ⌝ }
-    ensures { λ _. ⌜ Moves (now (arcs .entry)) (now (x .entry)) (now (left .entry)) (now (x .exit)) (now (left .exit)) ⌝ }
-{
-    let a = tail_of(arcs[e]);
-    if label[a] != l {
-        return false;
-    }
-    if x[e] == 0 {
-        return false;
-    }
-    activate(a, l, left[a], bucket);
-    shift_backward(e, arcs, x, left) == 0
-}
-
-// Pushes along the arcs with the tail of e, from e on, to vertices with the label l: the arc where nothing was left, or 4096.
-fn push_out(
+// Pushes along the residual arcs at the start of e, forward or back, from e on, to vertices with the label l: the arc where nothing was left, or 4096.
+fn give_all(
+    back: bool,
     first: usize,
     l: u8,
     arcs: &[u64],
-    out: &[u16],
+    links: &[u16],
     label: &[u8; 256],
     bucket: &mut [u8; 512],
     x: &mut [u16],
     left: &mut [u32],
 ) -> usize
-    requires { ⌜ Links (now arcs) (now out) × Ready (now arcs) (now x) (now left) ⌝ }
+    requires { ⌜ Links (now arcs) (now links) × Ready (now arcs) (now x) (now left) ⌝ }
     ensures { λ _. ⌜ Moves (now (arcs .entry)) (now (x .entry)) (now (left .entry)) (now (x .exit)) (now (left .exit)) ⌝ }
 {
     let mut e = first;
     while e < arcs.len() {
-        if give_forward(e, l, arcs, label, bucket, x, left) {
+        if give(back, e, l, arcs, label, bucket, x, left) {
             return e;
         }
-        e = next_arc(e, out);
-    }
-    4096
-}
-
-// Pushes back along the arcs with the head of e, from e on, to vertices with the label l: the arc where nothing was left, or 4096.
-fn push_into(
-    first: usize,
-    l: u8,
-    arcs: &[u64],
-    into: &[u16],
-    label: &[u8; 256],
-    bucket: &mut [u8; 512],
-    x: &mut [u16],
-    left: &mut [u32],
-) -> usize
-    requires { ⌜ Links (now arcs) (now into) × Ready (now arcs) (now x) (now left) ⌝ }
-    ensures { λ _. ⌜ Moves (now (arcs .entry)) (now (x .entry)) (now (left .entry)) (now (x .exit)) (now (left .exit)) ⌝ }
-{
-    let mut e = first;
-    while e < arcs.len() {
-        if give_backward(e, l, arcs, label, bucket, x, left) {
-            return e;
-        }
-        e = next_arc(e, into);
+        e = next_arc(e, links);
     }
     4096
 }
@@ -173,9 +125,19 @@ pub(crate) fn push_from(
     ensures { λ _. ⌜ Moves (now (arcs .entry)) (now (x .entry)) (now (left .entry)) (now (x .exit)) (now (left .exit)) ⌝ }
 {
     let l = below(label[v]);
-    let e = push_out(place(c), l, arcs, out, label, bucket, x, left);
+    let e = give_all(false, place(c), l, arcs, out, label, bucket, x, left);
     if e < 4096 {
         return forward_code(e);
     }
-    backward_code(push_into(resumed(v, c, into), l, arcs, into, label, bucket, x, left))
+    backward_code(give_all(
+        true,
+        resumed(v, c, into),
+        l,
+        arcs,
+        into,
+        label,
+        bucket,
+        x,
+        left,
+    ))
 }

@@ -51,7 +51,7 @@ pub(crate) fn shift_forward(e: usize, arcs: &[u64], x: &mut [u16], left: &mut [u
 }
 
 // Moves as much as the arc e carries back, from its head to its tail: how much of what stood at the head did not.
-pub(crate) fn shift_backward(e: usize, arcs: &[u64], x: &mut [u16], left: &mut [u32]) -> u32
+fn shift_backward(e: usize, arcs: &[u64], x: &mut [u16], left: &mut [u32]) -> u32
     requires { ⌜ (e < length (now arcs)) × Ready (now arcs) (now x) (now left) ⌝ }
     ensures { λ _. ⌜ Moves (now (arcs .entry)) (now (x .entry)) (now (left .entry)) (now (x .exit)) (now (left .exit)) ⌝ }
 {
@@ -63,4 +63,15 @@ pub(crate) fn shift_backward(e: usize, arcs: &[u64], x: &mut [u16], left: &mut [
     x[e] = amount - (got as u16);
     transfer(b, tail_of(arc), got, left);
     have - got
+}
+
+// Moves as much as goes along the residual arc e, forward or back: how much of what stood at its start did not.
+pub(crate) fn shift(back: bool, e: usize, arcs: &[u64], x: &mut [u16], left: &mut [u32]) -> u32
+    requires { ⌜ (e < length (now arcs)) × Ready (now arcs) (now x) (now left) ⌝ }
+    ensures { λ _. ⌜ Moves (now (arcs .entry)) (now (x .entry)) (now (left .entry)) (now (x .exit)) (now (left .exit)) ⌝ }
+{
+    if back {
+        return shift_backward(e, arcs, x, left);
+    }
+    shift_forward(e, arcs, x, left)
 }
