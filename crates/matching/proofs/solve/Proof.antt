@@ -12,81 +12,49 @@ use Rattle.matching.specs.Outcome.{MatchOutcome}
 use Rattle.matching.proofs.Finding.{matchable-facts, same-part, bipartite-at, outcome-at}
 use Rattle.matching.proofs.solve.Statement.{statement}
 use Rattle.matching.proofs.solve.Tie as tie
-use Rattle.matching.proofs.solve.Reads as reads
-use Rattle.matching.proofs.solve.Lts as lts
-use Rattle.matching.proofs.find.Reads as find-reads
-use Rattle.matching.proofs.limits.is_matchable.Reads as is-matchable-reads
-use Rattle.packed_arcs.proofs.clearing.clear_potentials.Reads as clear-potentials-reads
 
--- src/lib.rt:73:9
-is-matchable-requires : tie.Need-is-matchable-requires
-is-matchable-requires c κs = search needs
-
--- src/lib.rt:74:9
 returns : tie.Need-returns
 returns c = MatchOutcome.refused (sym (c .before .is-matchable .ensures) ∙ not-true _ (c .if1 .taken)) refl refl
 
--- src/lib.rt:76:5
-clear-potentials-requires : tie.Need-clear-potentials-requires
-clear-potentials-requires c κs = search needs
-
--- src/lib.rt:84:22
-add-links : tie.Need-add-links
-add-links c = search needs
-
--- src/lib.rt:84:9
 array-borrow-prefix-links : tie.Need-array-borrow-prefix-links
 array-borrow-prefix-links c = let a = c .before .before .before .before .before .before .before .before .before .args in let F = matchable-facts (a .records .now) (a .h) (length (a .pi .now)) (length (a .x .now)) (sym (c .before .before .before .before .before .is-matchable .ensures) ∙ not-false _ (c .before .before .before .before .if1 .left)) in omega (arith, F .few)
 
--- src/lib.rt:84:9
 slice-aggregate-find : tie.Need-slice-aggregate-find
 slice-aggregate-find c = let a = c .before .before .before .before .before .before .before .before .before .before .args in let F = matchable-facts (a .records .now) (a .h) (length (a .pi .now)) (length (a .x .now)) (sym (c .before .before .before .before .before .before .is-matchable .ensures) ∙ not-false _ (c .before .before .before .before .before .if1 .left)) in sym (zero-list-length (256 + length (a .records .now)) 4352 (omega (arith, F .few)))
 
--- src/lib.rt:85:9
 array-borrow-prefix-mate : tie.Need-array-borrow-prefix-mate
 array-borrow-prefix-mate c = let a = c .before .before .before .before .before .before .before .before .before .before .args in let F = matchable-facts (a .records .now) (a .h) (length (a .pi .now)) (length (a .x .now)) (sym (c .before .before .before .before .before .before .is-matchable .ensures) ∙ not-false _ (c .before .before .before .before .before .if1 .left)) in omega (arith, F .double, F .half)
 
--- src/lib.rt:85:9
 slice-aggregate-find-2 : tie.Need-slice-aggregate-find-2
 slice-aggregate-find-2 c = let a = c .before .before .before .before .before .before .before .before .before .before .before .args in let F = matchable-facts (a .records .now) (a .h) (length (a .pi .now)) (length (a .x .now)) (sym (c .before .before .before .before .before .before .before .is-matchable .ensures) ∙ not-false _ (c .before .before .before .before .before .before .if1 .left)) in sym (ap length (same-part (length (a .pi .now)) 254 4096 (omega (arith, F .double, F .half))) ∙ length-replicate (length (a .pi .now)) 4096)
 
--- src/lib.rt:87:9
 array-borrow-prefix-dist : tie.Need-array-borrow-prefix-dist
 array-borrow-prefix-dist c = let a = c .before .before .before .before .before .before .before .before .before .before .before .before .args in let F = matchable-facts (a .records .now) (a .h) (length (a .pi .now)) (length (a .x .now)) (sym (c .before .before .before .before .before .before .before .before .is-matchable .ensures) ∙ not-false _ (c .before .before .before .before .before .before .before .if1 .left)) in omega (arith, F .half)
 
--- src/lib.rt:87:9
 slice-aggregate-find-3 : tie.Need-slice-aggregate-find-3
 slice-aggregate-find-3 c = let a = c .before .before .before .before .before .before .before .before .before .before .before .before .before .args in let F = matchable-facts (a .records .now) (a .h) (length (a .pi .now)) (length (a .x .now)) (sym (c .before .before .before .before .before .before .before .before .before .is-matchable .ensures) ∙ not-false _ (c .before .before .before .before .before .before .before .before .if1 .left)) in sym (zero-list-length (a .h) 127 (F .half))
 
--- src/lib.rt:88:9
 array-borrow-prefix-par : tie.Need-array-borrow-prefix-par
 array-borrow-prefix-par c = let a = c .before .before .before .before .before .before .before .before .before .before .before .before .before .args in let F = matchable-facts (a .records .now) (a .h) (length (a .pi .now)) (length (a .x .now)) (sym (c .before .before .before .before .before .before .before .before .before .is-matchable .ensures) ∙ not-false _ (c .before .before .before .before .before .before .before .before .if1 .left)) in omega (arith, F .half)
 
--- src/lib.rt:88:9
 slice-aggregate-find-4 : tie.Need-slice-aggregate-find-4
 slice-aggregate-find-4 c = let a = c .before .before .before .before .before .before .before .before .before .before .before .before .before .before .args in let F = matchable-facts (a .records .now) (a .h) (length (a .pi .now)) (length (a .x .now)) (sym (c .before .before .before .before .before .before .before .before .before .before .is-matchable .ensures) ∙ not-false _ (c .before .before .before .before .before .before .before .before .before .if1 .left)) in sym (zero-list-length (a .h) 127 (F .half))
 
--- src/lib.rt:89:9
 array-borrow-prefix-order : tie.Need-array-borrow-prefix-order
 array-borrow-prefix-order c = let a = c .before .before .before .before .before .before .before .before .before .before .before .before .before .before .args in let F = matchable-facts (a .records .now) (a .h) (length (a .pi .now)) (length (a .x .now)) (sym (c .before .before .before .before .before .before .before .before .before .before .is-matchable .ensures) ∙ not-false _ (c .before .before .before .before .before .before .before .before .before .if1 .left)) in omega (arith, F .half)
 
--- src/lib.rt:89:9
 slice-aggregate-find-5 : tie.Need-slice-aggregate-find-5
 slice-aggregate-find-5 c = let a = c .before .before .before .before .before .before .before .before .before .before .before .before .before .before .before .args in let F = matchable-facts (a .records .now) (a .h) (length (a .pi .now)) (length (a .x .now)) (sym (c .before .before .before .before .before .before .before .before .before .before .before .is-matchable .ensures) ∙ not-false _ (c .before .before .before .before .before .before .before .before .before .before .if1 .left)) in sym (zero-list-length (a .h) 127 (F .half))
 
--- src/lib.rt:82:5
 find-requires : tie.Need-find-requires
 find-requires c κs = let a = c .before .before .before .before .before .before .before .before .before .before .before .before .before .before .before .before .args in let F = matchable-facts (a .records .now) (a .h) (length (a .pi .now)) (length (a .x .now)) (sym (c .before .before .before .before .before .before .before .before .before .before .before .before .is-matchable .ensures) ∙ not-false _ (c .before .before .before .before .before .before .before .before .before .before .before .if1 .left)) in let same = c .before .before .before .before .before .before .before .before .before .clear-potentials .kept .0 in ((bipartite-at (zero-list-length (a .h) 127 (F .half)) same (F .graph), omega (arith, same, F .double, zero-list-length (a .h) 127 (F .half))), ((zero-list-length (256 + length (a .records .now)) 4352 (omega (arith, F .few)), refl, refl, F .one-each), (same-part (length (a .pi .now)) 254 4096 (omega (arith, F .double, F .half)) ∙ ap (λ (k : ℕ). replicate k 4096) (sym same), c .before .before .before .before .before .before .before .before .before .clear-potentials .ensures ∙ ap zeroList (sym same))))
 
--- src/lib.rt:68:1
 same-length : tie.Need-same-length
 same-length c = c .before .before .before .before .before .before .before .before .before .find .kept .1 .1 .1 .0 ∙ c .before .before .before .before .before .before .before .before .before .before .before .before .before .before .before .before .before .before .before .clear-potentials .kept .0
 
--- src/lib.rt:68:1
 same-length-2 : tie.Need-same-length-2
 same-length-2 c = c .before .before .before .before .before .before .before .before .before .find .kept .1 .1 .1 .1 .1 .1 .1 .0
 
--- src/lib.rt:68:1
 returns-2 : tie.Need-returns-2
 returns-2 c = let a = c .before .before .before .before .before .before .before .before .before .before .before .before .before .before .before .before .before .before .before .before .before .before .before .before .before .before .args in let F = matchable-facts (a .records .now) (a .h) (length (a .pi .now)) (length (a .x .now)) (sym (c .before .before .before .before .before .before .before .before .before .before .before .before .before .before .before .before .before .before .before .before .before .before .is-matchable .ensures) ∙ not-false _ (c .before .before .before .before .before .before .before .before .before .before .before .before .before .before .before .before .before .before .before .before .before .if1 .left)) in MatchOutcome.found (sym (c .before .before .before .before .before .before .before .before .before .before .before .before .before .before .before .before .before .before .before .before .before .before .is-matchable .ensures) ∙ not-false _ (c .before .before .before .before .before .before .before .before .before .before .before .before .before .before .before .before .before .before .before .before .before .if1 .left)) (outcome-at (zero-list-length (a .h) 127 (F .half)) (c .before .before .before .before .before .before .before .before .before .before .before .before .before .before .before .before .before .before .before .clear-potentials .kept .0) (c .before .before .before .before .before .before .before .before .before .find .ensures))
 
@@ -94,10 +62,10 @@ pub solve-spec : {M : Type 1} → statement M
 solve-spec =
     tie.close
     (tie.spec
-    is-matchable-requires
+    (λ c κs. search needs)
     returns
-    clear-potentials-requires
-    add-links
+    (λ c κs. search needs)
+    (λ c. search needs)
     array-borrow-prefix-links
     slice-aggregate-find
     array-borrow-prefix-mate

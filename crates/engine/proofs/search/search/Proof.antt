@@ -1,14 +1,5 @@
 -- `engine::search::search` meets its contract.
 -- Assumes nothing.
-use Rattle.engine.proofs.search.search.Statement.{statement}
-use Rattle.engine.proofs.search.search.Tie as tie
-use Rattle.engine.proofs.search.search.Reads as reads
-use Rattle.engine.proofs.search.search.Lts as lts
-use Rattle.engine.proofs.search.look.Reads as look-reads
-use Rattle.engine.proofs.search.start.Reads as start-reads
-use Rattle.vertex_queue.proofs.begin.Reads as begin-reads
-use Rattle.vertex_queue.proofs.least.Reads as least-reads
-use Rattle.vertex_queue.proofs.take.Reads as take-reads
 use mathlib.Core.Path.{_∙_, sym}
 use native.Mathlib.Omega.{arith}
 use borrow.Author.Needs.{needs}
@@ -18,6 +9,8 @@ use Rattle.engine.specs.Search.{work}
 use Rattle.engine.proofs.FallingKeys.{lower-refl, lower-trans}
 use Rattle.engine.proofs.PhaseLaws.{found}
 use Rattle.engine.proofs.SearchLaws.{Between, between-start, between-on, take-looking, take-falls, all-relaxed, ready-since}
+use Rattle.engine.proofs.search.search.Statement.{statement}
+use Rattle.engine.proofs.search.search.Tie as tie
 
 abbrev Inv-loop : tie.InvT-loop
 Inv-loop arcs out into x pi left key₀ par₀ keys₀ low₀ key par keys low =
@@ -27,51 +20,27 @@ abbrev μ-loop : tie.MeasureT-loop
 μ-loop arcs out into x pi left key₀ par₀ keys₀ low₀ key par keys low =
     work key keys
 
--- src/search.rt:216:5
-begin-requires : tie.Need-begin-requires Inv-loop μ-loop
-begin-requires c κs = tt
-
--- src/search.rt:217:5
 start-requires : tie.Need-start-requires Inv-loop μ-loop
 start-requires c κs = (c .before .before .before .before .before .before .before .before .before .before .before .before .before .before .pre .0 .0, c .before .before .before .before .before .before .before .before .before .before .before .before .before .before .pre .0 .2 .small, c .before .before .before .begin .ensures)
 
--- src/search.rt:218:5
 loop-holds : tie.Need-loop-holds Inv-loop μ-loop
 loop-holds c = (lower-refl _ _ _, between-start (c .before .before .before .before .before .before .before .before .before .before .before .before .before .before .before .before .before .pre .0 .2) (c .before .before .start .ensures))
 
--- src/search.rt:219:13
-least-requires : tie.Need-least-requires Inv-loop μ-loop
-least-requires c κs = tt
-
--- src/search.rt:221:13
 same-length : tie.Need-same-length Inv-loop μ-loop
 same-length c = c .before .before .before .loop .inv .0 .key-len ∙ c .before .before .before .before .before .before .start .kept .1 .0
 
--- src/search.rt:221:13
 same-length-2 : tie.Need-same-length-2 Inv-loop μ-loop
 same-length-2 c = c .before .before .before .loop .inv .0 .par-len
 
--- src/search.rt:221:13
 returns : tie.Need-returns Inv-loop μ-loop
 returns c = let i = c .before .before .before .loop .inv in found _ _ _ _ _ _ (c .before .before .before .before .before .before .start .ensures .started) (c .before .before .before .before .before .before .before .before .before .before .before .before .before .before .before .before .before .before .before .before .before .pre .0 .1) (record { keeps = i .0; relaxed = all-relaxed (ready-since (c .before .before .before .before .before .before .before .before .before .before .before .before .before .before .before .before .before .before .before .before .before .pre .0 .2) (c .before .before .before .before .before .before .start .ensures .started) (i .0)) (i .1) (omega (arith, c .if1 .taken, c .before .least .ensures)) })
 
--- src/search.rt:223:17
-take-requires : tie.Need-take-requires Inv-loop μ-loop
-take-requires c κs = tt
-
--- src/search.rt:223:17
-cast-u : tie.Need-cast-u Inv-loop μ-loop
-cast-u c = search needs
-
--- src/search.rt:224:9
 look-requires : tie.Need-look-requires Inv-loop μ-loop
 look-requires c κs = let i = c .before .before .before .before .before .before .before .before .before .before .loop .inv in let R = ready-since (c .before .before .before .before .before .before .before .before .before .before .before .before .before .before .before .before .before .before .before .before .before .before .before .before .before .before .before .before .pre .0 .2) (c .before .before .before .before .before .before .before .before .before .before .before .before .before .start .ensures .started) (i .0) in ((c .before .before .before .before .before .before .before .before .before .before .before .before .before .before .before .before .before .before .before .before .before .before .before .before .before .before .before .before .pre .1 .0, c .before .before .before .before .before .before .before .before .before .before .before .before .before .before .before .before .before .before .before .before .before .before .before .before .before .before .before .before .pre .1 .1, i .0 .par-len ∙ c .before .before .before .before .before .before .before .before .before .before .before .before .before .before .before .before .before .before .before .before .before .before .before .before .before .before .before .before .pre .0 .1 ∙ sym (c .before .before .before .before .before .before .before .before .before .before .before .before .before .start .ensures .started .len) ∙ sym (i .0 .key-len), R), rw (c .before .before .before .before .take .ensures .0, c .before .before .before .before .before .before .before .before .least .ensures) (take-looking R (i .1) (omega (arith, c .before .before .before .before .before .before .before .if1 .left, c .before .before .before .before .before .before .before .before .least .ensures)) (c .before .before .before .before .take .ensures .1)))
 
--- src/search.rt:218:5
 loop-less : tie.Need-loop-less Inv-loop μ-loop
 loop-less c = let i = c .before .before .before .before .before .before .before .before .before .before .before .before .before .before .before .loop .inv in let R = ready-since (c .before .before .before .before .before .before .before .before .before .before .before .before .before .before .before .before .before .before .before .before .before .before .before .before .before .before .before .before .before .before .before .before .before .pre .0 .2) (c .before .before .before .before .before .before .before .before .before .before .before .before .before .before .before .before .before .before .start .ensures .started) (i .0) in omega (arith, c .before .before .before .before .look .ensures .falls, take-falls R (i .1) (omega (arith, c .before .before .before .before .before .before .before .before .before .before .before .before .if1 .left, c .before .before .before .before .before .before .before .before .before .before .before .before .before .least .ensures)) (c .before .before .before .before .before .before .before .before .before .take .ensures .1))
 
--- src/search.rt:218:5
 loop-again : tie.Need-loop-again Inv-loop μ-loop
 loop-again c = let i = c .before .before .before .before .before .before .before .before .before .before .before .before .before .before .before .loop .inv in let k = lower-trans (i .0) (c .before .before .before .before .look .ensures .keeps) in (k, between-on (ready-since (c .before .before .before .before .before .before .before .before .before .before .before .before .before .before .before .before .before .before .before .before .before .before .before .before .before .before .before .before .before .before .before .before .before .pre .0 .2) (c .before .before .before .before .before .before .before .before .before .before .before .before .before .before .before .before .before .before .start .ensures .started) k) (c .before .before .before .before .look .ensures .looking))
 
@@ -81,15 +50,15 @@ search-spec =
     (tie.spec
     Inv-loop
     μ-loop
-    begin-requires
+    (λ c κs. tt)
     start-requires
     loop-holds
-    least-requires
+    (λ c κs. tt)
     same-length
     same-length-2
     returns
-    take-requires
-    cast-u
+    (λ c κs. tt)
+    (λ c. search needs)
     look-requires
     loop-less
     loop-again)

@@ -1,11 +1,5 @@
 -- `engine::search::start` meets its contract.
 -- Assumes nothing.
-use Rattle.engine.proofs.search.start.Statement.{statement}
-use Rattle.engine.proofs.search.start.Tie as tie
-use Rattle.engine.proofs.search.start.Reads as reads
-use Rattle.engine.proofs.search.start.Lts as lts
-use Rattle.engine.proofs.search.first_key.Reads as first-key-reads
-use Rattle.vertex_queue.proofs.put.Reads as put-reads
 use mathlib.Core.Path.{refl, _∙_, sym}
 use Prim.Native.Nat.{_-_}
 use native.Mathlib.Omega.{arith}
@@ -14,6 +8,8 @@ use Rattle.packed_arcs.specs.Entries.{entry}
 use borrow.Author.Needs.{needs}
 use Rattle.engine.proofs.PhaseLaws.{Starting, start-turn}
 use Rattle.engine.proofs.SearchLaws.{Queued, queued-none, queued-more, first-most}
+use Rattle.engine.proofs.search.start.Statement.{statement}
+use Rattle.engine.proofs.search.start.Tie as tie
 
 abbrev Inv-loop : tie.InvT-loop
 Inv-loop left key₀ keys₀ low₀ v₀ key keys low v =
@@ -23,55 +19,21 @@ abbrev μ-loop : tie.MeasureT-loop
 μ-loop left key₀ keys₀ low₀ v₀ key keys low v =
     length left - v
 
--- src/search.rt:191:5
 loop-holds : tie.Need-loop-holds Inv-loop μ-loop
 loop-holds c = (record { within = omega arith; len = refl; below = λ j h. absurd (omega arith) }, queued-none _ _ _ (c .before .before .pre .2))
 
--- src/search.rt:192:27
-mul-first-key : tie.Need-mul-first-key Inv-loop μ-loop
-mul-first-key c = search needs
-
--- src/search.rt:192:27
-shared-slice-read-first-key : tie.Need-shared-slice-read-first-key Inv-loop μ-loop
-shared-slice-read-first-key c = search needs
-
--- src/search.rt:192:13
-first-key-requires : tie.Need-first-key-requires Inv-loop μ-loop
-first-key-requires c κs = tt
-
--- src/search.rt:193:9
-mul-key : tie.Need-mul-key Inv-loop μ-loop
-mul-key c = search needs
-
--- src/search.rt:193:9
 slice-write-key : tie.Need-slice-write-key Inv-loop μ-loop
 slice-write-key c = omega (arith, c .before .before .before .loop .inv .0 .len, c .before .before .loop-test .taken, c .before .before .before .before .before .before .pre .0)
 
--- src/search.rt:194:13
 cast-put : tie.Need-cast-put Inv-loop μ-loop
 cast-put c = record { fits = omega (arith, c .before .before .loop-test .taken, c .before .before .before .before .before .before .pre .1) }
 
--- src/search.rt:194:9
-put-requires : tie.Need-put-requires Inv-loop μ-loop
-put-requires c κs = tt
-
--- src/search.rt:195:9
-add-v : tie.Need-add-v Inv-loop μ-loop
-add-v c = search needs
-
--- src/search.rt:191:5
-loop-less : tie.Need-loop-less Inv-loop μ-loop
-loop-less c = search needs
-
--- src/search.rt:191:5
 loop-again : tie.Need-loop-again Inv-loop μ-loop
 loop-again c = let l = c .before .before .before .before .before .before .loop in let s = c .before .before .before .before .before .before .before .before .before in (start-turn (s .args .left .now) (s .args .key .now) (l .key) (l .v) (c .before .before .before .first-key .result) (s .pre .0) (c .before .before .before .before .before .loop-test .taken) (c .before .before .before .first-key .ensures) (l .inv .0), queued-more (l .v) (c .before .before .before .first-key .result) (omega (arith, l .inv .0 .len, c .before .before .before .before .before .loop-test .taken, s .pre .0)) (omega (arith, c .before .before .before .before .before .loop-test .taken, s .pre .1)) (omega (arith, c .before .before .before .first-key .ensures, first-most (entry (s .args .left .now) (l .v)))) (c .put .ensures) (l .inv .1))
 
--- src/search.rt:186:1
 same-length : tie.Need-same-length Inv-loop μ-loop
 same-length c = c .before .loop .inv .0 .len
 
--- src/search.rt:186:1
 returns : tie.Need-returns Inv-loop μ-loop
 returns c = let l = c .before .loop in let s = c .before .before .before .before in let len = l .inv .0 .len ∙ s .pre .0 in record { started = record { len = len; keys = λ v h. l .inv .0 .below v (omega (arith, c .loop-test .left)) }; queue = l .inv .1 .queue; same = λ v h. l .inv .1 .same v (omega (arith, c .loop-test .left)); nobody = λ v h q. omega (arith, l .inv .1 .rest v (omega (arith, l .inv .0 .within)) q) }
 
@@ -82,15 +44,15 @@ start-spec =
     Inv-loop
     μ-loop
     loop-holds
-    mul-first-key
-    shared-slice-read-first-key
-    first-key-requires
-    mul-key
+    (λ c. search needs)
+    (λ c. search needs)
+    (λ c κs. tt)
+    (λ c. search needs)
     slice-write-key
     cast-put
-    put-requires
-    add-v
-    loop-less
+    (λ c κs. tt)
+    (λ c. search needs)
+    (λ c. search needs)
     loop-again
     same-length
     returns)

@@ -13,11 +13,6 @@ use Rattle.arc_index.proofs.Columns.{tails-len}
 use Rattle.matching.proofs.Augmentation.{next, b-below, augmented, freed-arc, a'-left, shorter, alternates, still}
 use Rattle.matching.proofs.augment.augment.Statement.{statement}
 use Rattle.matching.proofs.augment.augment.Tie as tie
-use Rattle.matching.proofs.augment.augment.Reads as reads
-use Rattle.matching.proofs.augment.augment.Lts as lts
-use Rattle.matching.proofs.arcs.head_at.Reads as head-at-reads
-use Rattle.matching.proofs.arcs.place.Reads as place-reads
-use Rattle.matching.proofs.arcs.tail_at.Reads as tail-at-reads
 
 abbrev Inv-loop : tie.InvT-loop
 Inv-loop r t records links pi par order mate₀ a₀ mate a =
@@ -27,79 +22,54 @@ Inv-loop r t records links pi par order mate₀ a₀ mate a =
 abbrev μ-loop : tie.MeasureT-loop
 μ-loop r t records links pi par order mate₀ a₀ mate a = entry order a
 
--- src/augment.rt:27:5
 loop-holds : tie.Need-loop-holds Inv-loop μ-loop
 loop-holds c = (c .before .before .before .before .before .before .pre, λ v g l m. m)
 
--- src/augment.rt:28:17
 mul-e : tie.Need-mul-e Inv-loop μ-loop
 mul-e c = let A = c .loop .inv .0 in record { fits = omega (arith, A .left, A .graph .half) }
 
--- src/augment.rt:28:17
 shared-slice-read-e : tie.Need-shared-slice-read-e Inv-loop μ-loop
 shared-slice-read-e c = let A = c .before .loop .inv .0 in omega (arith, A .left, A .par-len)
 
--- src/augment.rt:29:25
-place-requires : tie.Need-place-requires Inv-loop μ-loop
-place-requires c κs = search needs
-
--- src/augment.rt:29:13
 head-at-requires : tie.Need-head-at-requires Inv-loop μ-loop
 head-at-requires c κs = let A = c .before .before .loop .inv .0 in omega (arith, next A .arc, c .place .ensures, tails-len (c .before .before .before .before .before .before .before .before .before .args .records .now))
 
--- src/augment.rt:30:17
 mul-f : tie.Need-mul-f Inv-loop μ-loop
 mul-f c = let A = c .before .before .before .loop .inv .0 in record { fits = omega (arith, ap (entry (recordHeads (c .before .before .before .before .before .before .before .before .before .before .args .records .now))) (c .before .place .ensures), c .head-at .ensures, b-below A, A .graph .small) }
 
--- src/augment.rt:30:17
 slice-read-f : tie.Need-slice-read-f Inv-loop μ-loop
 slice-read-f c = let A = c .before .before .before .before .loop .inv .0 in omega (arith, ap (entry (recordHeads (c .before .before .before .before .before .before .before .before .before .before .before .args .records .now))) (c .before .before .place .ensures), c .before .head-at .ensures, b-below A, A .pairs .len)
 
--- src/augment.rt:31:9
 mul-mate : tie.Need-mul-mate Inv-loop μ-loop
 mul-mate c = let A = c .before .before .before .before .loop .inv .0 in record { fits = omega (arith, A .left, A .graph .half) }
 
--- src/augment.rt:31:9
 slice-write-mate : tie.Need-slice-write-mate Inv-loop μ-loop
 slice-write-mate c = let A = c .before .before .before .before .loop .inv .0 in omega (arith, A .left, A .graph .within, A .pairs .len)
 
--- src/augment.rt:32:9
 mul-mate-2 : tie.Need-mul-mate-2 Inv-loop μ-loop
 mul-mate-2 c = let A = c .before .before .before .before .loop .inv .0 in record { fits = omega (arith, ap (entry (recordHeads (c .before .before .before .before .before .before .before .before .before .before .before .args .records .now))) (c .before .before .place .ensures), c .before .head-at .ensures, b-below A, A .graph .small) }
 
--- src/augment.rt:32:9
 slice-write-mate-2 : tie.Need-slice-write-mate-2 Inv-loop μ-loop
 slice-write-mate-2 c = let A = c .before .before .before .before .loop .inv .0 in omega (arith, ap (entry (recordHeads (c .before .before .before .before .before .before .before .before .before .before .before .args .records .now))) (c .before .before .place .ensures), c .before .head-at .ensures, b-below A, A .pairs .len, length-set (c .before .before .before .before .loop .mate) (c .before .before .before .before .loop .a) (entry (c .before .before .before .before .before .before .before .before .before .before .before .args .par .now) (c .before .before .before .before .loop .a)))
 
--- src/augment.rt:34:13
 same-length : tie.Need-same-length Inv-loop μ-loop
 same-length c = let A = c .before .before .before .before .before .loop .inv .0 in omega (arith, length-set (set (c .before .before .before .before .before .loop .mate) (c .before .before .before .before .before .loop .a) (entry (c .before .before .before .before .before .before .before .before .before .before .before .before .args .par .now) (c .before .before .before .before .before .loop .a))) (c .before .before .head-at .result) (entry (c .before .before .before .before .before .before .before .before .before .before .before .before .args .par .now) (c .before .before .before .before .before .loop .a)), length-set (c .before .before .before .before .before .loop .mate) (c .before .before .before .before .before .loop .a) (entry (c .before .before .before .before .before .before .before .before .before .before .before .before .args .par .now) (c .before .before .before .before .before .loop .a)), A .pairs .len, c .before .before .before .before .before .before .before .before .before .before .before .before .pre .pairs .len)
 
--- src/augment.rt:34:13
 returns : tie.Need-returns Inv-loop μ-loop
 returns c = let A = c .before .before .before .before .before .loop .inv .0 in rw (c .before .before .head-at .ensures, c .before .before .before .place .ensures) (augmented A (omega (arith, c .if1 .taken, ap (entry (c .before .before .before .before .before .loop .mate)) (c .before .before .head-at .ensures), ap (λ (z : ℕ). entry (c .before .before .before .before .before .loop .mate) (entry (recordHeads (c .before .before .before .before .before .before .before .before .before .before .before .before .args .records .now)) z)) (c .before .before .before .place .ensures))) _ (c .before .before .before .before .before .loop .inv .1))
 
--- src/augment.rt:36:21
-place-requires-2 : tie.Need-place-requires-2 Inv-loop μ-loop
-place-requires-2 c κs = search needs
-
--- src/augment.rt:36:9
 tail-at-requires : tie.Need-tail-at-requires Inv-loop μ-loop
 tail-at-requires c κs = let A = c .before .before .before .before .before .before .loop .inv .0 in omega (arith, freed-arc A (omega (arith, c .before .if1 .left, ap (entry (c .before .before .before .before .before .before .loop .mate)) (c .before .before .before .head-at .ensures), ap (λ (z : ℕ). entry (c .before .before .before .before .before .before .loop .mate) (entry (recordHeads (c .before .before .before .before .before .before .before .before .before .before .before .before .before .args .records .now)) z)) (c .before .before .before .before .place .ensures))), c .place2 .ensures, ap (entry (c .before .before .before .before .before .before .loop .mate)) (c .before .before .before .head-at .ensures), ap (λ (z : ℕ). entry (c .before .before .before .before .before .before .loop .mate) (entry (recordHeads (c .before .before .before .before .before .before .before .before .before .before .before .before .before .args .records .now)) z)) (c .before .before .before .before .place .ensures), tails-len (c .before .before .before .before .before .before .before .before .before .before .before .before .before .args .records .now))
 
--- src/augment.rt:37:9
 mul-mate-3 : tie.Need-mul-mate-3 Inv-loop μ-loop
 mul-mate-3 c = let A = c .before .before .before .before .before .before .before .loop .inv .0 in record { fits = omega (arith, c .tail-at .ensures, ap (entry (recordTails (c .before .before .before .before .before .before .before .before .before .before .before .before .before .before .args .records .now))) (c .before .place2 .ensures), ap (λ (z : ℕ). entry (recordTails (c .before .before .before .before .before .before .before .before .before .before .before .before .before .before .args .records .now)) (entry (c .before .before .before .before .before .before .before .loop .mate) z)) (c .before .before .before .before .head-at .ensures), ap (λ (z : ℕ). entry (recordTails (c .before .before .before .before .before .before .before .before .before .before .before .before .before .before .args .records .now)) (entry (c .before .before .before .before .before .before .before .loop .mate) (entry (recordHeads (c .before .before .before .before .before .before .before .before .before .before .before .before .before .before .args .records .now)) z))) (c .before .before .before .before .before .place .ensures), a'-left A (omega (arith, c .before .before .if1 .left, ap (entry (c .before .before .before .before .before .before .before .loop .mate)) (c .before .before .before .before .head-at .ensures), ap (λ (z : ℕ). entry (c .before .before .before .before .before .before .before .loop .mate) (entry (recordHeads (c .before .before .before .before .before .before .before .before .before .before .before .before .before .before .args .records .now)) z)) (c .before .before .before .before .before .place .ensures))), A .graph .half) }
 
--- src/augment.rt:37:9
 slice-write-mate-3 : tie.Need-slice-write-mate-3 Inv-loop μ-loop
 slice-write-mate-3 c = let A = c .before .before .before .before .before .before .before .loop .inv .0 in omega (arith, c .tail-at .ensures, ap (entry (recordTails (c .before .before .before .before .before .before .before .before .before .before .before .before .before .before .args .records .now))) (c .before .place2 .ensures), ap (λ (z : ℕ). entry (recordTails (c .before .before .before .before .before .before .before .before .before .before .before .before .before .before .args .records .now)) (entry (c .before .before .before .before .before .before .before .loop .mate) z)) (c .before .before .before .before .head-at .ensures), ap (λ (z : ℕ). entry (recordTails (c .before .before .before .before .before .before .before .before .before .before .before .before .before .before .args .records .now)) (entry (c .before .before .before .before .before .before .before .loop .mate) (entry (recordHeads (c .before .before .before .before .before .before .before .before .before .before .before .before .before .before .args .records .now)) z))) (c .before .before .before .before .before .place .ensures), a'-left A (omega (arith, c .before .before .if1 .left, ap (entry (c .before .before .before .before .before .before .before .loop .mate)) (c .before .before .before .before .head-at .ensures), ap (λ (z : ℕ). entry (c .before .before .before .before .before .before .before .loop .mate) (entry (recordHeads (c .before .before .before .before .before .before .before .before .before .before .before .before .before .before .args .records .now)) z)) (c .before .before .before .before .before .place .ensures))), A .graph .within, A .pairs .len, length-set (set (c .before .before .before .before .before .before .before .loop .mate) (c .before .before .before .before .before .before .before .loop .a) (entry (c .before .before .before .before .before .before .before .before .before .before .before .before .before .before .args .par .now) (c .before .before .before .before .before .before .before .loop .a))) (c .before .before .before .before .head-at .result) (entry (c .before .before .before .before .before .before .before .before .before .before .before .before .before .before .args .par .now) (c .before .before .before .before .before .before .before .loop .a)), length-set (c .before .before .before .before .before .before .before .loop .mate) (c .before .before .before .before .before .before .before .loop .a) (entry (c .before .before .before .before .before .before .before .before .before .before .before .before .before .before .args .par .now) (c .before .before .before .before .before .before .before .loop .a)))
 
--- src/augment.rt:27:5
 loop-less : tie.Need-loop-less Inv-loop μ-loop
 loop-less c = let A = c .before .before .before .before .before .before .before .loop .inv .0 in rw (c .tail-at .ensures, c .before .place2 .ensures, c .before .before .before .before .head-at .ensures, c .before .before .before .before .before .place .ensures) (shorter A (omega (arith, c .before .before .if1 .left, ap (entry (c .before .before .before .before .before .before .before .loop .mate)) (c .before .before .before .before .head-at .ensures), ap (λ (z : ℕ). entry (c .before .before .before .before .before .before .before .loop .mate) (entry (recordHeads (c .before .before .before .before .before .before .before .before .before .before .before .before .before .before .args .records .now)) z)) (c .before .before .before .before .before .place .ensures))))
 
--- src/augment.rt:27:5
 loop-again : tie.Need-loop-again Inv-loop μ-loop
 loop-again c = let A = c .before .before .before .before .before .before .before .loop .inv .0 in rw (c .tail-at .ensures, c .before .place2 .ensures, c .before .before .before .before .head-at .ensures, c .before .before .before .before .before .place .ensures) (alternates A (omega (arith, c .before .before .if1 .left, ap (entry (c .before .before .before .before .before .before .before .loop .mate)) (c .before .before .before .before .head-at .ensures), ap (λ (z : ℕ). entry (c .before .before .before .before .before .before .before .loop .mate) (entry (recordHeads (c .before .before .before .before .before .before .before .before .before .before .before .before .before .before .args .records .now)) z)) (c .before .before .before .before .before .place .ensures))), λ v g l m. still A (omega (arith, c .before .before .if1 .left, ap (entry (c .before .before .before .before .before .before .before .loop .mate)) (c .before .before .before .before .head-at .ensures), ap (λ (z : ℕ). entry (c .before .before .before .before .before .before .before .loop .mate) (entry (recordHeads (c .before .before .before .before .before .before .before .before .before .before .before .before .before .before .args .records .now)) z)) (c .before .before .before .before .before .place .ensures))) v g (c .before .before .before .before .before .before .before .loop .inv .1 v g l m))
 
@@ -112,7 +82,7 @@ augment-spec =
     loop-holds
     mul-e
     shared-slice-read-e
-    place-requires
+    (λ c κs. search needs)
     head-at-requires
     mul-f
     slice-read-f
@@ -122,7 +92,7 @@ augment-spec =
     slice-write-mate-2
     same-length
     returns
-    place-requires-2
+    (λ c κs. search needs)
     tail-at-requires
     mul-mate-3
     slice-write-mate-3

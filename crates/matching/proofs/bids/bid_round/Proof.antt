@@ -23,9 +23,6 @@ loop-holds c = (omega arith, c .before .before .before .before .pre)
 bid-requires : tie.Need-bid-requires Inv-loop μ-loop
 bid-requires c κs = let l = c .before .before .before .loop in (sized (l .inv .1), (l .inv .0, c .before .before .loop-test .taken))
 
-add-t : tie.Need-add-t Inv-loop μ-loop
-add-t c = search needs
-
 loop-less : tie.Need-loop-less Inv-loop μ-loop
 loop-less c = let l = c .before .before .before .before .before .before .before .before .loop in omega (arith, c .before .before .before .before .before .before .before .loop-test .taken, l .inv .1 .priced .len)
 
@@ -49,7 +46,7 @@ bid-round-spec =
     μ-loop
     loop-holds
     bid-requires
-    add-t
+    (λ c. search needs)
     loop-less
     loop-again
     same-length

@@ -9,9 +9,6 @@ use Rattle.packed_arcs.proofs.ListLoops.{Undecided, all-more, all-fails, all-en
 use Rattle.matching.specs.Outcome.{leadsAcross}
 use Rattle.matching.proofs.limits.each_leads_across.Statement.{statement}
 use Rattle.matching.proofs.limits.each_leads_across.Tie as tie
-use Rattle.matching.proofs.limits.each_leads_across.Reads as reads
-use Rattle.matching.proofs.limits.each_leads_across.Lts as lts
-use Rattle.matching.proofs.limits.leads_across.Reads as leads-across-reads
 
 abbrev Inv-loop : tie.InvT-loop
 Inv-loop h n records e₀ e = Undecided (leadsAcross h n) records e
@@ -19,39 +16,15 @@ Inv-loop h n records e₀ e = Undecided (leadsAcross h n) records e
 abbrev μ-loop : tie.MeasureT-loop
 μ-loop h n records e₀ e = length records - e
 
--- src/limits.rt:33:5
 loop-holds : tie.Need-loop-holds Inv-loop μ-loop
 loop-holds c = refl
 
--- src/limits.rt:34:32
-mul-leads-across : tie.Need-mul-leads-across Inv-loop μ-loop
-mul-leads-across c = search needs
-
--- src/limits.rt:34:32
-shared-slice-read-leads-across : tie.Need-shared-slice-read-leads-across Inv-loop μ-loop
-shared-slice-read-leads-across c = search needs
-
--- src/limits.rt:34:13
-leads-across-requires : tie.Need-leads-across-requires Inv-loop μ-loop
-leads-across-requires c κs = search needs
-
--- src/limits.rt:35:13
 returns : tie.Need-returns Inv-loop μ-loop
 returns c = let a = c .before .before .before .before .before .before .args in let l = c .before .before .before .before .loop in all-fails (leadsAcross (a .h) (a .n)) (a .records .now) (l .e) (c .before .before .before .loop-test .taken) (sym (c .before .leads-across .ensures) ∙ not-true _ (c .if1 .taken)) (l .inv)
 
--- src/limits.rt:37:9
-add-e : tie.Need-add-e Inv-loop μ-loop
-add-e c = search needs
-
--- src/limits.rt:33:5
-loop-less : tie.Need-loop-less Inv-loop μ-loop
-loop-less c = search needs
-
--- src/limits.rt:33:5
 loop-again : tie.Need-loop-again Inv-loop μ-loop
 loop-again c = let a = c .before .before .before .before .before .before .args in let l = c .before .before .before .before .loop in all-more (leadsAcross (a .h) (a .n)) (a .records .now) (l .e) (c .before .before .before .loop-test .taken) (sym (c .before .leads-across .ensures) ∙ not-false _ (c .if1 .left)) (l .inv)
 
--- src/limits.rt:29:1
 returns-2 : tie.Need-returns-2 Inv-loop μ-loop
 returns-2 c = let a = c .before .before .before .args in let l = c .before .loop in all-end (leadsAcross (a .h) (a .n)) (a .records .now) (l .e) (c .loop-test .left) (l .inv)
 
@@ -62,11 +35,11 @@ each-leads-across-spec =
     Inv-loop
     μ-loop
     loop-holds
-    mul-leads-across
-    shared-slice-read-leads-across
-    leads-across-requires
+    (λ c. search needs)
+    (λ c. search needs)
+    (λ c κs. search needs)
     returns
-    add-e
-    loop-less
+    (λ c. search needs)
+    (λ c. search needs)
     loop-again
     returns-2)

@@ -9,39 +9,28 @@ use borrow.Author.Tests.{lt-ltb, le-ltb, le-leb, lt-leb}
 use Rattle.network.specs.Network.{Arc, wordArc}
 use Rattle.matching.proofs.limits.leads_across.Statement.{statement}
 use Rattle.matching.proofs.limits.leads_across.Tie as tie
-use Rattle.matching.proofs.limits.leads_across.Reads as reads
-use Rattle.matching.proofs.limits.leads_across.Lts as lts
-use Rattle.network.proofs.arc_in.Reads as arc-in-reads
 
--- src/limits.rt:16:9
 arc-in-requires : tie.Need-arc-in-requires
 arc-in-requires c κs = search needs
 
--- src/limits.rt:17:14
 cast-if1 : tie.Need-cast-if1
 cast-if1 c = search needs
 
--- src/limits.rt:18:9
 returns : tie.Need-returns
 returns c = rw (le-ltb (wordArc (c .before .before .before .args .word) .tail) (c .before .before .before .args .h) (omega (arith, ap (λ (arc : Arc). arc .tail) (c .before .before .arc-in .ensures), c .if1 .taken)))
 
--- src/limits.rt:20:9
 cast-if2 : tie.Need-cast-if2
 cast-if2 c = search needs
 
--- src/limits.rt:21:9
 returns-2 : tie.Need-returns-2
 returns-2 c = rw (lt-ltb (wordArc (c .before .before .before .before .before .args .word) .tail) (c .before .before .before .before .before .args .h) (omega (arith, ap (λ (arc : Arc). arc .tail) (c .before .before .before .before .arc-in .ensures), c .before .before .if1 .left)), lt-leb (c .before .before .before .before .before .args .h) (wordArc (c .before .before .before .before .before .args .word) .head) (omega (arith, ap (λ (arc : Arc). arc .head) (c .before .before .before .before .arc-in .ensures), c .if2 .taken)))
 
--- src/limits.rt:23:14
 cast-if3 : tie.Need-cast-if3
 cast-if3 c = search needs
 
--- src/limits.rt:24:9
 returns-3 : tie.Need-returns-3
 returns-3 c = rw (lt-ltb (wordArc (c .before .before .before .before .before .before .before .args .word) .tail) (c .before .before .before .before .before .before .before .args .h) (omega (arith, ap (λ (arc : Arc). arc .tail) (c .before .before .before .before .before .before .arc-in .ensures), c .before .before .before .before .if1 .left)), le-leb (c .before .before .before .before .before .before .before .args .h) (wordArc (c .before .before .before .before .before .before .before .args .word) .head) (omega (arith, ap (λ (arc : Arc). arc .head) (c .before .before .before .before .before .before .arc-in .ensures), c .before .before .if2 .left)), le-ltb (wordArc (c .before .before .before .before .before .before .before .args .word) .head) (c .before .before .before .before .before .before .before .args .n) (omega (arith, ap (λ (arc : Arc). arc .head) (c .before .before .before .before .before .before .arc-in .ensures), c .if3 .taken)))
 
--- src/limits.rt:13:1
 returns-4 : tie.Need-returns-4
 returns-4 c = rw (lt-ltb (wordArc (c .before .before .before .before .before .before .before .before .args .word) .tail) (c .before .before .before .before .before .before .before .before .args .h) (omega (arith, ap (λ (arc : Arc). arc .tail) (c .before .before .before .before .before .before .before .arc-in .ensures), c .before .before .before .before .before .if1 .left)), le-leb (c .before .before .before .before .before .before .before .before .args .h) (wordArc (c .before .before .before .before .before .before .before .before .args .word) .head) (omega (arith, ap (λ (arc : Arc). arc .head) (c .before .before .before .before .before .before .before .arc-in .ensures), c .before .before .before .if2 .left)), lt-ltb (wordArc (c .before .before .before .before .before .before .before .before .args .word) .head) (c .before .before .before .before .before .before .before .before .args .n) (omega (arith, ap (λ (arc : Arc). arc .head) (c .before .before .before .before .before .before .before .arc-in .ensures), c .before .if3 .left))) (ap (λ (u : ℕ). leb u 32767) (ap (λ (arc : Arc). arc .weight) (c .before .before .before .before .before .before .before .arc-in .ensures)))
 

@@ -14,9 +14,6 @@ use Rattle.matching.proofs.Raising.{rise-most}
 use Rattle.matching.proofs.RaiseLoop.{Rising, rising-start, rising-turn}
 use Rattle.matching.proofs.raise.raise.Statement.{statement}
 use Rattle.matching.proofs.raise.raise.Tie as tie
-use Rattle.matching.proofs.raise.raise.Reads as reads
-use Rattle.matching.proofs.raise.raise.Lts as lts
-use Rattle.matching.proofs.raise.rise.Reads as rise-reads
 
 abbrev Inv-loop : tie.InvT-loop
 Inv-loop t d records links mate dist pi₀ v₀ pi v = Rising (riseOf (length dist) (recordTails records) mate dist t d) pi₀ pi v
@@ -24,51 +21,21 @@ Inv-loop t d records links mate dist pi₀ v₀ pi v = Rising (riseOf (length di
 abbrev μ-loop : tie.MeasureT-loop
 μ-loop t d records links mate dist pi₀ v₀ pi v = length pi₀ - v
 
--- src/raise.rt:50:5
 loop-holds : tie.Need-loop-holds Inv-loop μ-loop
 loop-holds c = rising-start _ _
 
--- src/raise.rt:51:13
 rise-requires : tie.Need-rise-requires Inv-loop μ-loop
 rise-requires c κs = let S = c .before .before .before .before .before .before .before .pre .0 in let l = c .before .loop in (omega (arith, c .loop-test .taken, l .inv .len, S .pairs .len), λ m. (omega (arith, noted (S .pairs) (l .v) (omega (arith, c .loop-test .taken, l .inv .len)) m .arc, tails-len (c .before .before .before .before .before .before .before .args .records .now)), S .graph .from-left _ (noted (S .pairs) (l .v) (omega (arith, c .loop-test .taken, l .inv .len)) m .arc)))
 
--- src/raise.rt:52:17
-mul-pi : tie.Need-mul-pi Inv-loop μ-loop
-mul-pi c = search needs
-
--- src/raise.rt:52:17
-slice-read-pi : tie.Need-slice-read-pi Inv-loop μ-loop
-slice-read-pi c = search needs
-
--- src/raise.rt:52:17
 add-pi : tie.Need-add-pi Inv-loop μ-loop
 add-pi c = let a = c .before .before .before .before .before .before .before .before .before .args in let l = c .before .before .before .loop in record { fits = omega (arith, l .inv .above (l .v) (omega arith), c .before .before .before .before .before .before .before .before .before .pre .0 .range (l .v) (omega (arith, c .before .before .loop-test .taken, l .inv .len)), c .before .rise .ensures, rise-most (length (a .dist .now)) (recordTails (a .records .now)) (a .mate .now) (a .dist .now) (a .t) (a .d) (l .v), c .before .before .before .before .before .before .before .before .before .pre .1) }
 
--- src/raise.rt:52:9
-mul-pi-2 : tie.Need-mul-pi-2 Inv-loop μ-loop
-mul-pi-2 c = search needs
-
--- src/raise.rt:52:9
-slice-write-pi : tie.Need-slice-write-pi Inv-loop μ-loop
-slice-write-pi c = search needs
-
--- src/raise.rt:53:9
-add-v : tie.Need-add-v Inv-loop μ-loop
-add-v c = search needs
-
--- src/raise.rt:50:5
 loop-less : tie.Need-loop-less Inv-loop μ-loop
 loop-less c = let l = c .before .before .before .loop in omega (arith, l .inv .len, c .before .before .loop-test .taken)
 
--- src/raise.rt:50:5
 loop-again : tie.Need-loop-again Inv-loop μ-loop
 loop-again c = let l = c .before .before .before .loop in rising-turn _ _ (l .pi) (l .v) (c .before .rise .result) (c .before .before .loop-test .taken) (c .before .rise .ensures) (l .inv)
 
--- src/raise.rt:44:1
-same-length : tie.Need-same-length Inv-loop μ-loop
-same-length c = search needs
-
--- src/raise.rt:44:1
 returns : tie.Need-returns Inv-loop μ-loop
 returns c = let l = c .before .loop in record { len = l .inv .len; each = λ v h. l .inv .below v (omega (arith, c .loop-test .left, l .inv .len)) }
 
@@ -80,13 +47,13 @@ raise-spec =
     μ-loop
     loop-holds
     rise-requires
-    mul-pi
-    slice-read-pi
+    (λ c. search needs)
+    (λ c. search needs)
     add-pi
-    mul-pi-2
-    slice-write-pi
-    add-v
+    (λ c. search needs)
+    (λ c. search needs)
+    (λ c. search needs)
     loop-less
     loop-again
-    same-length
+    (λ c. search needs)
     returns)

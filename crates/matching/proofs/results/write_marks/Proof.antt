@@ -32,9 +32,6 @@ mark-of-requires c κs =
       (subst (λ (k : ℕ). Matching k T H (a .mate .now)) n (s .pre .1), c .loop-test .taken),
     )
 
-mul-pi : tie.Need-mul-pi Inv-loop μ-loop
-mul-pi c = search needs
-
 slice-write-pi : tie.Need-slice-write-pi Inv-loop μ-loop
 slice-write-pi c = omega (arith, c .before .before .loop .inv .len, c .before .before .before .before .before .before .before .pre .1 .len)
 
@@ -55,7 +52,7 @@ write-marks-spec =
     μ-loop
     loop-holds
     mark-of-requires
-    mul-pi
+    (λ c. search needs)
     slice-write-pi
     (λ c. search needs)
     (λ c. search needs)

@@ -11,9 +11,6 @@ use Rattle.matching.specs.Serving.{Served}
 use Rattle.matching.proofs.Serving.{state-at, Passing, pass-start, pass-on, pass-stuck, pass-end}
 use Rattle.matching.proofs.serve.pass.Statement.{statement}
 use Rattle.matching.proofs.serve.pass.Tie as tie
-use Rattle.matching.proofs.serve.pass.Reads as reads
-use Rattle.matching.proofs.serve.pass.Lts as lts
-use Rattle.matching.proofs.serve.serve_exposed.Reads as serve-exposed-reads
 
 abbrev Inv-loop : tie.InvT-loop
 Inv-loop step records links mate₀ pi₀ dist₀ par₀ order₀ t₀ mate pi dist par order t =
@@ -23,71 +20,21 @@ Inv-loop step records links mate₀ pi₀ dist₀ par₀ order₀ t₀ mate pi d
 abbrev μ-loop : tie.MeasureT-loop
 μ-loop step records links mate₀ pi₀ dist₀ par₀ order₀ t₀ mate pi dist par order t = length pi₀ - t
 
--- src/serve.rt:81:5
 loop-holds : tie.Need-loop-holds Inv-loop μ-loop
 loop-holds c = (pass-start refl (c .before .before .before .before .before .before .before .pre .0), refl, refl, c .before .before .before .before .before .before .before .pre .1 .2, c .before .before .before .before .before .before .before .pre .1 .3)
 
--- src/serve.rt:82:13
 serve-exposed-requires : tie.Need-serve-exposed-requires Inv-loop μ-loop
 serve-exposed-requires c κs = let l = c .before .before .before .before .before .before .loop in let P = l .inv .0 in (state-at (P .dist-len) (P .state .priced .len) (P .state), (omega (arith, P .from, P .dist-len), omega (arith, c .before .before .before .before .before .loop-test .taken, P .state .priced .len, P .state .pairs .len), omega (arith, l .inv .3, P .dist-len), omega (arith, l .inv .4, P .dist-len)))
 
--- src/serve.rt:83:13
-same-length : tie.Need-same-length Inv-loop μ-loop
-same-length c = search needs
-
--- src/serve.rt:83:13
-same-length-2 : tie.Need-same-length-2 Inv-loop μ-loop
-same-length-2 c = search needs
-
--- src/serve.rt:83:13
-same-length-3 : tie.Need-same-length-3 Inv-loop μ-loop
-same-length-3 c = search needs
-
--- src/serve.rt:83:13
-same-length-4 : tie.Need-same-length-4 Inv-loop μ-loop
-same-length-4 c = search needs
-
--- src/serve.rt:83:13
-same-length-5 : tie.Need-same-length-5 Inv-loop μ-loop
-same-length-5 c = search needs
-
--- src/serve.rt:83:13
 returns : tie.Need-returns Inv-loop μ-loop
 returns c = let l = c .before .before .before .before .before .before .before .before .before .before .before .before .before .before .before .before .before .before .loop in let P = l .inv .0 in pass-stuck (P .dist-len) (P .state .priced .len) P (omega (arith, c .before .before .before .before .before .before .before .before .before .before .before .before .before .before .before .before .before .loop-test .taken, P .state .pairs .len)) (subst (Served _ _ _ _ _ _ _ _ _ _ _) (not-true _ (c .if1 .taken)) (c .before .before .before .before .before .before .before .before .before .before .before .serve-exposed .ensures))
 
--- src/serve.rt:85:9
-add-t : tie.Need-add-t Inv-loop μ-loop
-add-t c = search needs
-
--- src/serve.rt:81:5
 loop-less : tie.Need-loop-less Inv-loop μ-loop
 loop-less c = let l = c .before .before .before .before .before .before .before .before .before .before .before .before .before .before .before .before .before .before .loop in let P = l .inv .0 in omega (arith, c .before .before .before .before .before .before .before .before .before .before .before .before .before .before .before .before .before .loop-test .taken, P .state .pairs .len, c .before .before .before .before .before .before .before .before .before .before .before .before .before .before .before .before .before .before .before .before .before .before .before .before .before .before .pre .1 .0)
 
--- src/serve.rt:81:5
 loop-again : tie.Need-loop-again Inv-loop μ-loop
 loop-again c = let l = c .before .before .before .before .before .before .before .before .before .before .before .before .before .before .before .before .before .before .loop in let P = l .inv .0 in (pass-on (P .dist-len) (P .state .priced .len) P (omega (arith, c .before .before .before .before .before .before .before .before .before .before .before .before .before .before .before .before .before .loop-test .taken, P .state .pairs .len)) (c .before .before .before .before .before .before .before .before .before .before .before .before .before .before .before .before .before .before .before .before .before .before .before .before .before .before .pre .1 .1) (subst (Served _ _ _ _ _ _ _ _ _ _ _) (not-false _ (c .if1 .left)) (c .before .before .before .before .before .before .before .before .before .before .before .serve-exposed .ensures)), c .before .before .before .before .before .before .before .before .before .before .before .serve-exposed .kept .1 .1 .1 .0 ∙ l .inv .1, c .before .before .before .before .before .before .before .before .before .before .before .serve-exposed .kept .1 .1 .1 .1 .0 ∙ l .inv .2, c .before .before .before .before .before .before .before .before .before .before .before .serve-exposed .kept .1 .1 .1 .1 .1 .1 .0 ∙ l .inv .3, c .before .before .before .before .before .before .before .before .before .before .before .serve-exposed .kept .1 .1 .1 .1 .1 .1 .1 .0 ∙ l .inv .4)
 
--- src/serve.rt:66:1
-same-length-6 : tie.Need-same-length-6 Inv-loop μ-loop
-same-length-6 c = search needs
-
--- src/serve.rt:66:1
-same-length-7 : tie.Need-same-length-7 Inv-loop μ-loop
-same-length-7 c = search needs
-
--- src/serve.rt:66:1
-same-length-8 : tie.Need-same-length-8 Inv-loop μ-loop
-same-length-8 c = search needs
-
--- src/serve.rt:66:1
-same-length-9 : tie.Need-same-length-9 Inv-loop μ-loop
-same-length-9 c = search needs
-
--- src/serve.rt:66:1
-same-length-10 : tie.Need-same-length-10 Inv-loop μ-loop
-same-length-10 c = search needs
-
--- src/serve.rt:66:1
 returns-2 : tie.Need-returns-2 Inv-loop μ-loop
 returns-2 c = let l = c .before .loop in let P = l .inv .0 in let e : length (l .mate) ≡ length (c .before .before .before .before .before .before .before .before .before .args .pi .now) = P .state .pairs .len in rw e (pass-end P (omega (arith, c .loop-test .left, P .state .pairs .len)))
 
@@ -99,18 +46,18 @@ pass-spec =
     μ-loop
     loop-holds
     serve-exposed-requires
-    same-length
-    same-length-2
-    same-length-3
-    same-length-4
-    same-length-5
+    (λ c. search needs)
+    (λ c. search needs)
+    (λ c. search needs)
+    (λ c. search needs)
+    (λ c. search needs)
     returns
-    add-t
+    (λ c. search needs)
     loop-less
     loop-again
-    same-length-6
-    same-length-7
-    same-length-8
-    same-length-9
-    same-length-10
+    (λ c. search needs)
+    (λ c. search needs)
+    (λ c. search needs)
+    (λ c. search needs)
+    (λ c. search needs)
     returns-2)

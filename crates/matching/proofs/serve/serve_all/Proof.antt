@@ -6,91 +6,37 @@ use borrow.Author.Needs.{needs}
 use Rattle.matching.proofs.Serving.{state-at, pass-state, pass-failed, pass-at}
 use Rattle.matching.proofs.serve.serve_all.Statement.{statement}
 use Rattle.matching.proofs.serve.serve_all.Tie as tie
-use Rattle.matching.proofs.serve.serve_all.Reads as reads
-use Rattle.matching.proofs.serve.serve_all.Lts as lts
-use Rattle.matching.proofs.serve.pass.Reads as pass-reads
 
--- src/serve.rt:104:9
 pass-requires : tie.Need-pass-requires
 pass-requires c κs = let p = c .before .before .before .before .before .before .before .before .before .before .before .before .pre in (p .0, (omega arith, omega arith, p .1 .0, p .1 .1))
 
--- src/serve.rt:106:9
-same-length : tie.Need-same-length
-same-length c = search needs
-
--- src/serve.rt:106:9
-same-length-2 : tie.Need-same-length-2
-same-length-2 c = search needs
-
--- src/serve.rt:106:9
-same-length-3 : tie.Need-same-length-3
-same-length-3 c = search needs
-
--- src/serve.rt:106:9
-same-length-4 : tie.Need-same-length-4
-same-length-4 c = search needs
-
--- src/serve.rt:106:9
-same-length-5 : tie.Need-same-length-5
-same-length-5 c = search needs
-
--- src/serve.rt:106:9
 returns : tie.Need-returns
 returns c = pass-failed (c .before .before .before .before .before .before .before .before .before .before .before .pass .ensures) (omega (arith, c .if1 .taken, pass-state (c .before .before .before .before .before .before .before .before .before .before .before .pass .ensures) .0 .pairs .len))
 
--- src/serve.rt:108:9
 pass-requires-2 : tie.Need-pass-requires-2
 pass-requires-2 c κs = let p = c .before .before .before .before .before .before .before .before .before .before .before .before .before .before .before .before .before .before .before .before .before .before .before .before .before .before .before .before .before .pre in (state-at (pass-state (c .before .before .before .before .before .before .before .before .before .before .before .before .before .before .before .before .pass .ensures) .1) (c .before .before .before .before .before .before .before .before .before .before .before .before .before .before .before .before .pass .kept .1 .1 .1 .1 .0) (pass-state (c .before .before .before .before .before .before .before .before .before .before .before .before .before .before .before .before .pass .ensures) .0), (omega arith, omega arith, omega (arith, c .before .before .before .before .before .before .before .before .before .before .before .before .before .before .before .before .pass .kept .1 .1 .1 .1 .1 .1 .0, p .1 .0, (pass-state (c .before .before .before .before .before .before .before .before .before .before .before .before .before .before .before .before .pass .ensures) .1)), omega (arith, c .before .before .before .before .before .before .before .before .before .before .before .before .before .before .before .before .pass .kept .1 .1 .1 .1 .1 .1 .1 .0, p .1 .1, (pass-state (c .before .before .before .before .before .before .before .before .before .before .before .before .before .before .before .before .pass .ensures) .1))))
 
--- src/serve.rt:110:9
-same-length-6 : tie.Need-same-length-6
-same-length-6 c = search needs
-
--- src/serve.rt:110:9
-same-length-7 : tie.Need-same-length-7
-same-length-7 c = search needs
-
--- src/serve.rt:110:9
-same-length-8 : tie.Need-same-length-8
-same-length-8 c = search needs
-
--- src/serve.rt:110:9
-same-length-9 : tie.Need-same-length-9
-same-length-9 c = search needs
-
--- src/serve.rt:110:9
-same-length-10 : tie.Need-same-length-10
-same-length-10 c = search needs
-
--- src/serve.rt:110:9
 returns-2 : tie.Need-returns-2
 returns-2 c = pass-failed (pass-at (pass-state (c .before .before .before .before .before .before .before .before .before .before .before .before .before .before .before .before .before .before .before .before .before .before .before .before .before .before .before .before .pass .ensures) .1) (c .before .before .before .before .before .before .before .before .before .before .before .before .before .before .before .before .before .before .before .before .before .before .before .before .before .before .before .before .pass .kept .1 .1 .1 .1 .0) (c .before .before .before .before .before .before .before .before .before .before .before .pass2 .ensures)) (omega (arith, c .if2 .taken, pass-state (pass-at (pass-state (c .before .before .before .before .before .before .before .before .before .before .before .before .before .before .before .before .before .before .before .before .before .before .before .before .before .before .before .before .pass .ensures) .1) (c .before .before .before .before .before .before .before .before .before .before .before .before .before .before .before .before .before .before .before .before .before .before .before .before .before .before .before .before .pass .kept .1 .1 .1 .1 .0) (c .before .before .before .before .before .before .before .before .before .before .before .pass2 .ensures)) .0 .pairs .len))
 
--- src/serve.rt:112:5
 pass-requires-3 : tie.Need-pass-requires-3
 pass-requires-3 c κs = let p = c .before .before .before .before .before .before .before .before .before .before .before .before .before .before .before .before .before .before .before .before .before .before .before .before .before .before .before .before .before .before .before .before .before .before .before .before .before .before .before .before .before .before .before .before .before .before .pre in let q = pass-state (pass-at (pass-state (c .before .before .before .before .before .before .before .before .before .before .before .before .before .before .before .before .before .before .before .before .before .before .before .before .before .before .before .before .before .before .before .before .before .pass .ensures) .1) (c .before .before .before .before .before .before .before .before .before .before .before .before .before .before .before .before .before .before .before .before .before .before .before .before .before .before .before .before .before .before .before .before .before .pass .kept .1 .1 .1 .1 .0) (c .before .before .before .before .before .before .before .before .before .before .before .before .before .before .before .before .pass2 .ensures)) in (state-at (q .1) (c .before .before .before .before .before .before .before .before .before .before .before .before .before .before .before .before .pass2 .kept .1 .1 .1 .1 .0 ∙ c .before .before .before .before .before .before .before .before .before .before .before .before .before .before .before .before .before .before .before .before .before .before .before .before .before .before .before .before .before .before .before .before .before .pass .kept .1 .1 .1 .1 .0) (q .0), (omega arith, omega arith, omega (arith, c .before .before .before .before .before .before .before .before .before .before .before .before .before .before .before .before .pass2 .kept .1 .1 .1 .1 .1 .1 .0, c .before .before .before .before .before .before .before .before .before .before .before .before .before .before .before .before .before .before .before .before .before .before .before .before .before .before .before .before .before .before .before .before .before .pass .kept .1 .1 .1 .1 .1 .1 .0, p .1 .0, q .1), omega (arith, c .before .before .before .before .before .before .before .before .before .before .before .before .before .before .before .before .pass2 .kept .1 .1 .1 .1 .1 .1 .1 .0, c .before .before .before .before .before .before .before .before .before .before .before .before .before .before .before .before .before .before .before .before .before .before .before .before .before .before .before .before .before .before .before .before .before .pass .kept .1 .1 .1 .1 .1 .1 .1 .0, p .1 .1, q .1)))
 
--- src/serve.rt:91:1
 same-length-11 : tie.Need-same-length-11
 same-length-11 c = c .before .before .before .before .before .before .before .before .before .before .pass3 .kept .1 .1 .1 .0 ∙ c .before .before .before .before .before .before .before .before .before .before .before .before .before .before .before .before .before .before .before .before .before .before .before .before .before .before .before .pass2 .kept .1 .1 .1 .0 ∙ c .before .before .before .before .before .before .before .before .before .before .before .before .before .before .before .before .before .before .before .before .before .before .before .before .before .before .before .before .before .before .before .before .before .before .before .before .before .before .before .before .before .before .before .before .pass .kept .1 .1 .1 .0
 
--- src/serve.rt:91:1
 same-length-12 : tie.Need-same-length-12
 same-length-12 c = c .before .before .before .before .before .before .before .before .before .before .pass3 .kept .1 .1 .1 .1 .0 ∙ c .before .before .before .before .before .before .before .before .before .before .before .before .before .before .before .before .before .before .before .before .before .before .before .before .before .before .before .pass2 .kept .1 .1 .1 .1 .0 ∙ c .before .before .before .before .before .before .before .before .before .before .before .before .before .before .before .before .before .before .before .before .before .before .before .before .before .before .before .before .before .before .before .before .before .before .before .before .before .before .before .before .before .before .before .before .pass .kept .1 .1 .1 .1 .0
 
--- src/serve.rt:91:1
 same-length-13 : tie.Need-same-length-13
 same-length-13 c = c .before .before .before .before .before .before .before .before .before .before .pass3 .kept .1 .1 .1 .1 .1 .0 ∙ c .before .before .before .before .before .before .before .before .before .before .before .before .before .before .before .before .before .before .before .before .before .before .before .before .before .before .before .pass2 .kept .1 .1 .1 .1 .1 .0 ∙ c .before .before .before .before .before .before .before .before .before .before .before .before .before .before .before .before .before .before .before .before .before .before .before .before .before .before .before .before .before .before .before .before .before .before .before .before .before .before .before .before .before .before .before .before .pass .kept .1 .1 .1 .1 .1 .0
 
--- src/serve.rt:91:1
 same-length-14 : tie.Need-same-length-14
 same-length-14 c = c .before .before .before .before .before .before .before .before .before .before .pass3 .kept .1 .1 .1 .1 .1 .1 .0 ∙ c .before .before .before .before .before .before .before .before .before .before .before .before .before .before .before .before .before .before .before .before .before .before .before .before .before .before .before .pass2 .kept .1 .1 .1 .1 .1 .1 .0 ∙ c .before .before .before .before .before .before .before .before .before .before .before .before .before .before .before .before .before .before .before .before .before .before .before .before .before .before .before .before .before .before .before .before .before .before .before .before .before .before .before .before .before .before .before .before .pass .kept .1 .1 .1 .1 .1 .1 .0
 
--- src/serve.rt:91:1
 same-length-15 : tie.Need-same-length-15
 same-length-15 c = c .before .before .before .before .before .before .before .before .before .before .pass3 .kept .1 .1 .1 .1 .1 .1 .1 .0 ∙ c .before .before .before .before .before .before .before .before .before .before .before .before .before .before .before .before .before .before .before .before .before .before .before .before .before .before .before .pass2 .kept .1 .1 .1 .1 .1 .1 .1 .0 ∙ c .before .before .before .before .before .before .before .before .before .before .before .before .before .before .before .before .before .before .before .before .before .before .before .before .before .before .before .before .before .before .before .before .before .before .before .before .before .before .before .before .before .before .before .before .pass .kept .1 .1 .1 .1 .1 .1 .1 .0
 
--- src/serve.rt:91:1
 returns-3 : tie.Need-returns-3
 returns-3 c = let q = pass-state (pass-at (pass-state (c .before .before .before .before .before .before .before .before .before .before .before .before .before .before .before .before .before .before .before .before .before .before .before .before .before .before .before .before .before .before .before .before .before .before .before .before .before .before .before .before .before .before .before .before .pass .ensures) .1) (c .before .before .before .before .before .before .before .before .before .before .before .before .before .before .before .before .before .before .before .before .before .before .before .before .before .before .before .before .before .before .before .before .before .before .before .before .before .before .before .before .before .before .before .before .pass .kept .1 .1 .1 .1 .0) (c .before .before .before .before .before .before .before .before .before .before .before .before .before .before .before .before .before .before .before .before .before .before .before .before .before .before .before .pass2 .ensures)) in pass-at (q .1) (c .before .before .before .before .before .before .before .before .before .before .before .before .before .before .before .before .before .before .before .before .before .before .before .before .before .before .before .pass2 .kept .1 .1 .1 .1 .0 ∙ c .before .before .before .before .before .before .before .before .before .before .before .before .before .before .before .before .before .before .before .before .before .before .before .before .before .before .before .before .before .before .before .before .before .before .before .before .before .before .before .before .before .before .before .before .pass .kept .1 .1 .1 .1 .0) (c .before .before .before .before .before .before .before .before .before .before .pass3 .ensures)
 
@@ -99,18 +45,18 @@ serve-all-spec =
     tie.close
     (tie.spec
     pass-requires
-    same-length
-    same-length-2
-    same-length-3
-    same-length-4
-    same-length-5
+    (λ c. search needs)
+    (λ c. search needs)
+    (λ c. search needs)
+    (λ c. search needs)
+    (λ c. search needs)
     returns
     pass-requires-2
-    same-length-6
-    same-length-7
-    same-length-8
-    same-length-9
-    same-length-10
+    (λ c. search needs)
+    (λ c. search needs)
+    (λ c. search needs)
+    (λ c. search needs)
+    (λ c. search needs)
     returns-2
     pass-requires-3
     same-length-11

@@ -10,8 +10,6 @@ use Rattle.vertex_queue.specs.VertexQueue.{waitsNot}
 use borrow.Author.Needs.{needs}
 use Rattle.matching.proofs.tree.clear.Statement.{statement}
 use Rattle.matching.proofs.tree.clear.Tie as tie
-use Rattle.matching.proofs.tree.clear.Reads as reads
-use Rattle.matching.proofs.tree.clear.Lts as lts
 
 abbrev Inv-loop : tie.InvT-loop
 Inv-loop dist₀ order₀ a₀ dist order a = Filling (λ i x. x ≡ waitsNot) 0 dist₀ dist a × Clearing order₀ order a
@@ -19,43 +17,15 @@ Inv-loop dist₀ order₀ a₀ dist order a = Filling (λ i x. x ≡ waitsNot) 0
 abbrev μ-loop : tie.MeasureT-loop
 μ-loop dist₀ order₀ a₀ dist order a = length dist₀ - a
 
--- src/tree.rt:31:5
 loop-holds : tie.Need-loop-holds Inv-loop μ-loop
 loop-holds c = (fill-start (λ i x. x ≡ waitsNot) 0 _, clear-start _)
 
--- src/tree.rt:32:9
-mul-dist : tie.Need-mul-dist Inv-loop μ-loop
-mul-dist c = search needs
-
--- src/tree.rt:32:9
-slice-write-dist : tie.Need-slice-write-dist Inv-loop μ-loop
-slice-write-dist c = search needs
-
--- src/tree.rt:33:9
-slice-write-order : tie.Need-slice-write-order Inv-loop μ-loop
-slice-write-order c = search needs
-
--- src/tree.rt:34:9
-add-a : tie.Need-add-a Inv-loop μ-loop
-add-a c = search needs
-
--- src/tree.rt:31:5
 loop-less : tie.Need-loop-less Inv-loop μ-loop
 loop-less c = let l = c .before .loop in omega (arith, l .inv .0 .len, c .loop-test .taken)
 
--- src/tree.rt:31:5
 loop-again : tie.Need-loop-again Inv-loop μ-loop
 loop-again c = let l = c .before .loop in (fill-turn (λ i x. x ≡ waitsNot) 0 _ (l .dist) (l .a) waitsNot (omega (arith, l .inv .0 .len, c .loop-test .taken)) refl (l .inv .0), clear-turn _ (l .order) (l .a) (omega (arith, l .inv .0 .len, l .inv .1 .len, c .loop-test .taken, c .before .before .pre)) (l .inv .1))
 
--- src/tree.rt:26:1
-same-length : tie.Need-same-length Inv-loop μ-loop
-same-length c = search needs
-
--- src/tree.rt:26:1
-same-length-2 : tie.Need-same-length-2 Inv-loop μ-loop
-same-length-2 c = search needs
-
--- src/tree.rt:26:1
 returns : tie.Need-returns Inv-loop μ-loop
 returns c = let l = c .before .loop in (
   filled-as (λ i. waitsNot) 0 _ (l .dist) _ (l .a) (omega (arith, l .inv .0 .len, c .loop-test .left)) (length-replicate _ waitsNot) (λ i b. getD-replicate _ i waitsNot 0 b) (l .inv .0),
@@ -69,12 +39,12 @@ clear-spec =
     Inv-loop
     μ-loop
     loop-holds
-    mul-dist
-    slice-write-dist
-    slice-write-order
-    add-a
+    (λ c. search needs)
+    (λ c. search needs)
+    (λ c. search needs)
+    (λ c. search needs)
     loop-less
     loop-again
-    same-length
-    same-length-2
+    (λ c. search needs)
+    (λ c. search needs)
     returns)

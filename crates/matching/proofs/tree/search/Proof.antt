@@ -12,15 +12,6 @@ use Rattle.arc_index.proofs.Columns.{tails-len}
 use Rattle.matching.proofs.SearchSteps.{Growing, growing-start, small, few, met, nobody-left, left, exposed-there, matched-arc, growing-on}
 use Rattle.matching.proofs.tree.search.Statement.{statement}
 use Rattle.matching.proofs.tree.search.Tie as tie
-use Rattle.matching.proofs.tree.search.Reads as reads
-use Rattle.matching.proofs.tree.search.Lts as lts
-use Rattle.matching.proofs.arcs.head_at.Reads as head-at-reads
-use Rattle.matching.proofs.arcs.place.Reads as place-reads
-use Rattle.matching.proofs.tree.clear.Reads as clear-reads
-use Rattle.matching.proofs.tree.scan.Reads as scan-reads
-use Rattle.vertex_queue.proofs.begin.Reads as begin-reads
-use Rattle.vertex_queue.proofs.least.Reads as least-reads
-use Rattle.vertex_queue.proofs.take.Reads as take-reads
 
 abbrev Inv-loop : tie.InvT-loop
 Inv-loop t records links mate pi dist₀ par₀ order₀ h keys₀ low₀ b₀ k₀ nd₀ dist par order keys low b k nd =
@@ -30,115 +21,66 @@ abbrev μ-loop : tie.MeasureT-loop
 μ-loop t records links mate pi dist₀ par₀ order₀ h keys₀ low₀ b₀ k₀ nd₀ dist par order keys low b k nd =
     255 - nd
 
--- src/tree.rt:134:5
 clear-requires : tie.Need-clear-requires Inv-loop μ-loop
 clear-requires c κs = c .before .before .before .before .before .before .before .before .before .pre .1 .4
 
--- src/tree.rt:135:5
-begin-requires : tie.Need-begin-requires Inv-loop μ-loop
-begin-requires c κs = search needs
-
--- src/tree.rt:139:5
 loop-holds : tie.Need-loop-holds Inv-loop μ-loop
 loop-holds c = let p = c .before .before .before .before .before .before .before .before .before .before .before .before .before .before .before .before .before .pre in growing-start (p .0) (c .before .before .before .before .before .before .before .before .before .before .before .before .before .before .before .before .before .args .t) (p .1 .0) (p .1 .1) (p .1 .2) (p .1 .3) (c .before .before .before .before .before .before .before .clear .ensures .0) (c .before .before .before .before .before .before .before .clear .ensures .1) (c .begin .ensures)
 
--- src/tree.rt:140:13
 scan-requires : tie.Need-scan-requires Inv-loop μ-loop
 scan-requires c κs = let l = c .before .before .before .before .loop in let p = c .before .before .before .before .before .before .before .before .before .before .before .before .before .before .before .before .before .before .before .before .before .before .pre in (subst (λ (h : ℕ). State h (length (c .before .before .before .before .before .before .before .before .before .before .before .before .before .before .before .before .before .before .before .before .before .before .args .pi .now)) (recordTails (c .before .before .before .before .before .before .before .before .before .before .before .before .before .before .before .before .before .before .before .before .before .before .args .records .now)) (recordHeads (c .before .before .before .before .before .before .before .before .before .before .before .before .before .before .before .before .before .before .before .before .before .before .args .records .now)) (recordWeights (c .before .before .before .before .before .before .before .before .before .before .before .before .before .before .before .before .before .before .before .before .before .before .args .records .now)) (c .before .before .before .before .before .before .before .before .before .before .before .before .before .before .before .before .before .before .before .before .before .before .args .links .now) (c .before .before .before .before .before .before .before .before .before .before .before .before .before .before .before .before .before .before .before .before .before .before .args .mate .now) (c .before .before .before .before .before .before .before .before .before .before .before .before .before .before .before .before .before .before .before .before .before .before .args .pi .now)) (sym (l .inv .tree .dist-len)) (p .0), (l .inv .below, small (p .0) (l .inv), omega (arith, l .inv .tree .par-len, l .inv .tree .dist-len)))
 
--- src/tree.rt:142:13
 same-length : tie.Need-same-length Inv-loop μ-loop
 same-length c = let l = c .before .before .before .before .before .before .before .before .before .before .loop in let p = c .before .before .before .before .before .before .before .before .before .before .before .before .before .before .before .before .before .before .before .before .before .before .before .before .before .before .before .before .pre in omega (arith, l .inv .tree .dist-len, c .before .before .before .before .before .scan .ensures .dist-len)
 
--- src/tree.rt:142:13
 same-length-2 : tie.Need-same-length-2 Inv-loop μ-loop
 same-length-2 c = let l = c .before .before .before .before .before .before .before .before .before .before .loop in let p = c .before .before .before .before .before .before .before .before .before .before .before .before .before .before .before .before .before .before .before .before .before .before .before .before .before .before .before .before .pre in omega (arith, l .inv .tree .par-len, c .before .before .before .before .before .scan .ensures .par-len, p .1 .3)
 
--- src/tree.rt:142:13
 same-length-3 : tie.Need-same-length-3 Inv-loop μ-loop
 same-length-3 c = let l = c .before .before .before .before .before .before .before .before .before .before .loop in let p = c .before .before .before .before .before .before .before .before .before .before .before .before .before .before .before .before .before .before .before .before .before .before .before .before .before .before .before .before .pre in omega (arith, l .inv .tree .order-len, p .1 .4)
 
--- src/tree.rt:142:13
 returns : tie.Need-returns Inv-loop μ-loop
 returns c = let l = c .before .before .before .before .before .before .before .before .before .before .loop in let p = c .before .before .before .before .before .before .before .before .before .before .before .before .before .before .before .before .before .before .before .before .before .before .before .before .before .before .before .before .pre in met (p .0) (l .inv) (l .inv .tree .dist-len) (c .before .before .before .before .before .scan .ensures) (c .if1 .taken)
 
--- src/tree.rt:144:9
-least-requires : tie.Need-least-requires Inv-loop μ-loop
-least-requires c κs = search needs
-
--- src/tree.rt:146:13
 same-length-4 : tie.Need-same-length-4 Inv-loop μ-loop
 same-length-4 c = let l = c .before .before .before .before .before .before .before .before .before .before .before .before .before .loop in let p = c .before .before .before .before .before .before .before .before .before .before .before .before .before .before .before .before .before .before .before .before .before .before .before .before .before .before .before .before .before .before .before .pre in omega (arith, l .inv .tree .dist-len, c .before .before .before .before .before .before .before .before .scan .ensures .dist-len)
 
--- src/tree.rt:146:13
 same-length-5 : tie.Need-same-length-5 Inv-loop μ-loop
 same-length-5 c = let l = c .before .before .before .before .before .before .before .before .before .before .before .before .before .loop in let p = c .before .before .before .before .before .before .before .before .before .before .before .before .before .before .before .before .before .before .before .before .before .before .before .before .before .before .before .before .before .before .before .pre in omega (arith, l .inv .tree .par-len, c .before .before .before .before .before .before .before .before .scan .ensures .par-len, p .1 .3)
 
--- src/tree.rt:146:13
 same-length-6 : tie.Need-same-length-6 Inv-loop μ-loop
 same-length-6 c = let l = c .before .before .before .before .before .before .before .before .before .before .before .before .before .loop in let p = c .before .before .before .before .before .before .before .before .before .before .before .before .before .before .before .before .before .before .before .before .before .before .before .before .before .before .before .before .before .before .before .pre in omega (arith, l .inv .tree .order-len, p .1 .4)
 
--- src/tree.rt:146:13
 returns-2 : tie.Need-returns-2 Inv-loop μ-loop
 returns-2 c = let l = c .before .before .before .before .before .before .before .before .before .before .before .before .before .loop in let p = c .before .before .before .before .before .before .before .before .before .before .before .before .before .before .before .before .before .before .before .before .before .before .before .before .before .before .before .before .before .before .before .pre in nobody-left (p .0) (l .inv) (l .inv .tree .dist-len) (c .before .before .before .before .before .before .before .before .scan .ensures) (omega (arith, c .before .before .before .if1 .left)) (omega (arith, c .if2 .taken, c .before .least .ensures))
 
--- src/tree.rt:148:17
-take-requires : tie.Need-take-requires Inv-loop μ-loop
-take-requires c κs = search needs
-
--- src/tree.rt:148:17
-cast-a : tie.Need-cast-a Inv-loop μ-loop
-cast-a c = search needs
-
--- src/tree.rt:149:23
-mul-place : tie.Need-mul-place Inv-loop μ-loop
-mul-place c = search needs
-
--- src/tree.rt:149:23
 shared-slice-read-place : tie.Need-shared-slice-read-place Inv-loop μ-loop
 shared-slice-read-place c = let l = c .before .before .before .before .before .before .before .before .before .before .before .before .before .before .before .before .before .loop in let p = c .before .before .before .before .before .before .before .before .before .before .before .before .before .before .before .before .before .before .before .before .before .before .before .before .before .before .before .before .before .before .before .before .before .before .before .pre in omega (arith, c .before .take .ensures .0, left (p .0) (l .inv) (l .inv .tree .dist-len) (c .before .before .before .before .before .before .before .before .before .before .before .before .scan .ensures) (omega (arith, c .before .before .before .before .before .before .before .if1 .left)) (omega (arith, c .before .before .before .before .if2 .left, c .before .before .before .before .before .least .ensures)), p .0 .graph .within, p .0 .pairs .len)
 
--- src/tree.rt:149:13
-place-requires : tie.Need-place-requires Inv-loop μ-loop
-place-requires c κs = search needs
-
--- src/tree.rt:150:12
-cast-if3 : tie.Need-cast-if3 Inv-loop μ-loop
-cast-if3 c = search needs
-
--- src/tree.rt:151:13
 same-length-7 : tie.Need-same-length-7 Inv-loop μ-loop
 same-length-7 c = let l = c .before .before .before .before .before .before .before .before .before .before .before .before .before .before .before .before .before .before .before .loop in let p = c .before .before .before .before .before .before .before .before .before .before .before .before .before .before .before .before .before .before .before .before .before .before .before .before .before .before .before .before .before .before .before .before .before .before .before .before .before .pre in omega (arith, l .inv .tree .dist-len, c .before .before .before .before .before .before .before .before .before .before .before .before .before .before .scan .ensures .dist-len)
 
--- src/tree.rt:151:13
 same-length-8 : tie.Need-same-length-8 Inv-loop μ-loop
 same-length-8 c = let l = c .before .before .before .before .before .before .before .before .before .before .before .before .before .before .before .before .before .before .before .loop in let p = c .before .before .before .before .before .before .before .before .before .before .before .before .before .before .before .before .before .before .before .before .before .before .before .before .before .before .before .before .before .before .before .before .before .before .before .before .before .pre in omega (arith, l .inv .tree .par-len, c .before .before .before .before .before .before .before .before .before .before .before .before .before .before .scan .ensures .par-len, p .1 .3)
 
--- src/tree.rt:151:13
 same-length-9 : tie.Need-same-length-9 Inv-loop μ-loop
 same-length-9 c = let l = c .before .before .before .before .before .before .before .before .before .before .before .before .before .before .before .before .before .before .before .loop in let p = c .before .before .before .before .before .before .before .before .before .before .before .before .before .before .before .before .before .before .before .before .before .before .before .before .before .before .before .before .before .before .before .before .before .before .before .before .before .pre in omega (arith, l .inv .tree .order-len, p .1 .4)
 
--- src/tree.rt:151:13
 returns-3 : tie.Need-returns-3 Inv-loop μ-loop
 returns-3 c = let l = c .before .before .before .before .before .before .before .before .before .before .before .before .before .before .before .before .before .before .before .loop in let p = c .before .before .before .before .before .before .before .before .before .before .before .before .before .before .before .before .before .before .before .before .before .before .before .before .before .before .before .before .before .before .before .before .before .before .before .before .before .pre in rw (c .before .before .before .take .ensures .0) (exposed-there (p .0) (l .inv) (l .inv .tree .dist-len) (c .before .before .before .before .before .before .before .before .before .before .before .before .before .before .scan .ensures) (omega (arith, c .before .before .before .before .before .before .before .before .before .if1 .left)) (omega (arith, c .before .before .before .before .before .before .if2 .left, c .before .before .before .before .before .before .before .least .ensures)) (omega (arith, c .if3 .taken, c .before .place .ensures, ap (entry (c .before .before .before .before .before .before .before .before .before .before .before .before .before .before .before .before .before .before .before .before .before .before .before .before .before .before .before .before .before .before .before .before .before .before .before .before .before .args .mate .now)) (c .before .before .before .take .ensures .0))))
 
--- src/tree.rt:153:9
 add-nd : tie.Need-add-nd Inv-loop μ-loop
 add-nd c = let l = c .before .before .before .before .before .before .before .before .before .before .before .before .before .before .before .before .before .before .before .loop in let p = c .before .before .before .before .before .before .before .before .before .before .before .before .before .before .before .before .before .before .before .before .before .before .before .before .before .before .before .before .before .before .before .before .before .before .before .before .before .pre in record { fits = omega (arith, few (p .0) (l .inv)) }
 
--- src/tree.rt:154:9
 slice-write-order : tie.Need-slice-write-order Inv-loop μ-loop
 slice-write-order c = let l = c .before .before .before .before .before .before .before .before .before .before .before .before .before .before .before .before .before .before .before .loop in let p = c .before .before .before .before .before .before .before .before .before .before .before .before .before .before .before .before .before .before .before .before .before .before .before .before .before .before .before .before .before .before .before .before .before .before .before .before .before .pre in omega (arith, c .before .before .before .take .ensures .0, left (p .0) (l .inv) (l .inv .tree .dist-len) (c .before .before .before .before .before .before .before .before .before .before .before .before .before .before .scan .ensures) (omega (arith, c .before .before .before .before .before .before .before .before .before .if1 .left)) (omega (arith, c .before .before .before .before .before .before .if2 .left, c .before .before .before .before .before .before .before .least .ensures)), l .inv .tree .order-len)
 
--- src/tree.rt:155:9
 head-at-requires : tie.Need-head-at-requires Inv-loop μ-loop
 head-at-requires c κs = let l = c .before .before .before .before .before .before .before .before .before .before .before .before .before .before .before .before .before .before .before .loop in let p = c .before .before .before .before .before .before .before .before .before .before .before .before .before .before .before .before .before .before .before .before .before .before .before .before .before .before .before .before .before .before .before .before .before .before .before .before .before .pre in omega (arith, matched-arc (p .0) (l .inv) (l .inv .tree .dist-len) (c .before .before .before .before .before .before .before .before .before .before .before .before .before .before .scan .ensures) (omega (arith, c .before .before .before .before .before .before .before .before .before .if1 .left)) (omega (arith, c .before .before .before .before .before .before .if2 .left, c .before .before .before .before .before .before .before .least .ensures)) (omega (arith, c .if3 .left, c .before .place .ensures, ap (entry (c .before .before .before .before .before .before .before .before .before .before .before .before .before .before .before .before .before .before .before .before .before .before .before .before .before .before .before .before .before .before .before .before .before .before .before .before .before .args .mate .now)) (c .before .before .before .take .ensures .0))), c .before .place .ensures, ap (entry (c .before .before .before .before .before .before .before .before .before .before .before .before .before .before .before .before .before .before .before .before .before .before .before .before .before .before .before .before .before .before .before .before .before .before .before .before .before .args .mate .now)) (c .before .before .before .take .ensures .0), tails-len (c .before .before .before .before .before .before .before .before .before .before .before .before .before .before .before .before .before .before .before .before .before .before .before .before .before .before .before .before .before .before .before .before .before .before .before .before .before .args .records .now))
 
--- src/tree.rt:139:5
 loop-less : tie.Need-loop-less Inv-loop μ-loop
 loop-less c = let l = c .before .before .before .before .before .before .before .before .before .before .before .before .before .before .before .before .before .before .before .before .loop in let p = c .before .before .before .before .before .before .before .before .before .before .before .before .before .before .before .before .before .before .before .before .before .before .before .before .before .before .before .before .before .before .before .before .before .before .before .before .before .before .pre in omega (arith, few (p .0) (l .inv))
 
--- src/tree.rt:139:5
 loop-again : tie.Need-loop-again Inv-loop μ-loop
 loop-again c = let l = c .before .before .before .before .before .before .before .before .before .before .before .before .before .before .before .before .before .before .before .before .loop in let p = c .before .before .before .before .before .before .before .before .before .before .before .before .before .before .before .before .before .before .before .before .before .before .before .before .before .before .before .before .before .before .before .before .before .before .before .before .before .before .pre in rw (c .head-at .ensures, c .before .before .place .ensures, c .before .before .before .before .take .ensures .0, c .before .before .before .before .before .before .before .before .least .ensures) (growing-on (p .0) (l .inv) (l .inv .tree .dist-len) (c .before .before .before .before .before .before .before .before .before .before .before .before .before .before .before .scan .ensures) (omega (arith, c .before .before .before .before .before .before .before .before .before .before .if1 .left)) (omega (arith, c .before .before .before .before .before .before .before .if2 .left, c .before .before .before .before .before .before .before .before .least .ensures)) (omega (arith, c .before .if3 .left, c .before .before .place .ensures, ap (entry (c .before .before .before .before .before .before .before .before .before .before .before .before .before .before .before .before .before .before .before .before .before .before .before .before .before .before .before .before .before .before .before .before .before .before .before .before .before .before .args .mate .now)) (c .before .before .before .before .take .ensures .0))) (c .before .before .before .before .take .ensures .1))
 
@@ -149,24 +91,24 @@ search-spec =
     Inv-loop
     μ-loop
     clear-requires
-    begin-requires
+    (λ c κs. search needs)
     loop-holds
     scan-requires
     same-length
     same-length-2
     same-length-3
     returns
-    least-requires
+    (λ c κs. search needs)
     same-length-4
     same-length-5
     same-length-6
     returns-2
-    take-requires
-    cast-a
-    mul-place
+    (λ c κs. search needs)
+    (λ c. search needs)
+    (λ c. search needs)
     shared-slice-read-place
-    place-requires
-    cast-if3
+    (λ c κs. search needs)
+    (λ c. search needs)
     same-length-7
     same-length-8
     same-length-9

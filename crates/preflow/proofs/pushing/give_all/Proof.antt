@@ -1,15 +1,11 @@
 -- `preflow::pushing::give_all` meets its contract.
 -- Assumes nothing.
-use Rattle.preflow.proofs.pushing.give_all.Statement.{statement}
-use Rattle.preflow.proofs.pushing.give_all.Tie as tie
-use Rattle.preflow.proofs.pushing.give_all.Reads as reads
-use Rattle.preflow.proofs.pushing.give_all.Lts as lts
-use Rattle.preflow.proofs.labels.next_arc.Reads as next-arc-reads
-use Rattle.preflow.proofs.pushing.give.Reads as give-reads
 use Prim.Native.Nat.{_-_}
 use native.Mathlib.Omega.{arith}
 use Rattle.preflow.specs.Preflow.{Moves}
 use Rattle.preflow.proofs.Conserving.{moves-none, moves-then, ready-then}
+use Rattle.preflow.proofs.pushing.give_all.Statement.{statement}
+use Rattle.preflow.proofs.pushing.give_all.Tie as tie
 
 abbrev Inv-loop : tie.InvT-loop
 Inv-loop back first l arcs links label bucket₀ x₀ left₀ e₀ bucket x left e =
@@ -19,47 +15,36 @@ abbrev μ-loop : tie.MeasureT-loop
 μ-loop back first l arcs links label bucket₀ x₀ left₀ e₀ bucket x left e =
     4096 - e
 
--- src/pushing.rt:68:5
 loop-holds : tie.Need-loop-holds Inv-loop μ-loop
 loop-holds c = let a = c .before .before .before .before .args in moves-none (a .arcs .now) (a .x .now) (a .left .now)
 
--- src/pushing.rt:69:12
 give-requires : tie.Need-give-requires Inv-loop μ-loop
 give-requires c κs = (c .before .before .before .loop-test .taken, ready-then (c .before .before .before .before .before .before .before .before .before .pre .1) (c .before .before .before .before .loop .inv))
 
--- src/pushing.rt:70:13
 same-length : tie.Need-same-length Inv-loop μ-loop
 same-length c = moves-then (c .before .before .before .before .before .before .before .before .before .before .loop .inv) (c .before .before .before .before .before .give .ensures) .x-len
 
--- src/pushing.rt:70:13
 same-length-2 : tie.Need-same-length-2 Inv-loop μ-loop
 same-length-2 c = moves-then (c .before .before .before .before .before .before .before .before .before .before .loop .inv) (c .before .before .before .before .before .give .ensures) .left-len
 
--- src/pushing.rt:70:13
 returns : tie.Need-returns Inv-loop μ-loop
 returns c = moves-then (c .before .before .before .before .before .before .before .before .before .before .loop .inv) (c .before .before .before .before .before .give .ensures)
 
--- src/pushing.rt:72:9
 next-arc-requires : tie.Need-next-arc-requires Inv-loop μ-loop
 next-arc-requires c κs = omega (arith, c .before .before .before .before .before .before .before .before .before .before .before .before .before .before .before .pre .0 .len, c .before .before .before .before .before .before .before .before .before .loop-test .taken)
 
--- src/pushing.rt:68:5
 loop-less : tie.Need-loop-less Inv-loop μ-loop
 loop-less c = omega (arith, c .before .before .before .before .before .before .before .before .before .before .before .before .before .before .before .before .pre .0 .few, c .before .before .before .before .before .before .before .before .before .before .before .before .before .before .before .before .pre .0 .later (c .before .before .before .before .before .before .before .before .before .before .before .loop .e) (c .before .before .before .before .before .before .before .before .before .before .loop-test .taken), c .next-arc .ensures, c .before .before .before .before .before .before .before .before .before .before .loop-test .taken)
 
--- src/pushing.rt:68:5
 loop-again : tie.Need-loop-again Inv-loop μ-loop
 loop-again c = moves-then (c .before .before .before .before .before .before .before .before .before .before .before .loop .inv) (c .before .before .before .before .before .before .give .ensures)
 
--- src/pushing.rt:53:1
 same-length-3 : tie.Need-same-length-3 Inv-loop μ-loop
 same-length-3 c = c .before .loop .inv .x-len
 
--- src/pushing.rt:53:1
 same-length-4 : tie.Need-same-length-4 Inv-loop μ-loop
 same-length-4 c = c .before .loop .inv .left-len
 
--- src/pushing.rt:53:1
 returns-2 : tie.Need-returns-2 Inv-loop μ-loop
 returns-2 c = c .before .loop .inv
 

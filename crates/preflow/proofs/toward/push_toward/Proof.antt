@@ -1,14 +1,11 @@
 -- `preflow::toward::push_toward` meets its contract.
 -- Assumes nothing.
-use Rattle.preflow.proofs.toward.push_toward.Statement.{statement}
-use Rattle.preflow.proofs.toward.push_toward.Tie as tie
-use Rattle.preflow.proofs.toward.push_toward.Reads as reads
-use Rattle.preflow.proofs.toward.push_toward.Lts as lts
-use Rattle.preflow.proofs.toward.round.Reads as round-reads
 use native.Mathlib.Omega.{arith}
 use Rattle.preflow.specs.Preflow.{Moves}
 use Rattle.preflow.proofs.Conserving.{moves-none, moves-then, ready-then}
 use borrow.Author.Needs.{needs}
+use Rattle.preflow.proofs.toward.push_toward.Statement.{statement}
+use Rattle.preflow.proofs.toward.push_toward.Tie as tie
 
 abbrev Inv-loop : tie.InvT-loop
 Inv-loop root shut arcs out into label₀ order₀ x₀ left₀ fuel₀ label order x left fuel =
@@ -18,47 +15,30 @@ abbrev μ-loop : tie.MeasureT-loop
 μ-loop root shut arcs out into label₀ order₀ x₀ left₀ fuel₀ label order x left fuel =
     fuel
 
--- src/toward.rt:50:5
 loop-holds : tie.Need-loop-holds Inv-loop μ-loop
 loop-holds c = let a = c .before .before .before .before .before .args in moves-none (a .arcs .now) (a .x .now) (a .left .now)
 
--- src/toward.rt:51:12
 round-requires : tie.Need-round-requires Inv-loop μ-loop
 round-requires c κs = let i = c .before .before .before .before .before .loop .inv in ((omega (arith, i .left-len, c .before .before .before .before .before .before .before .before .before .before .before .pre .0 .0), omega (arith, i .left-len, c .before .before .before .before .before .before .before .before .before .before .before .pre .0 .1)), (c .before .before .before .before .before .before .before .before .before .before .before .pre .1 .0, c .before .before .before .before .before .before .before .before .before .before .before .pre .1 .1, ready-then (c .before .before .before .before .before .before .before .before .before .before .before .pre .1 .2) i))
 
--- src/toward.rt:52:13
 same-length : tie.Need-same-length Inv-loop μ-loop
 same-length c = moves-then (c .before .before .before .before .before .before .before .before .before .before .before .loop .inv) (c .before .before .before .before .before .round .ensures) .x-len
 
--- src/toward.rt:52:13
 same-length-2 : tie.Need-same-length-2 Inv-loop μ-loop
 same-length-2 c = moves-then (c .before .before .before .before .before .before .before .before .before .before .before .loop .inv) (c .before .before .before .before .before .round .ensures) .left-len
 
--- src/toward.rt:52:13
 returns : tie.Need-returns Inv-loop μ-loop
 returns c = moves-then (c .before .before .before .before .before .before .before .before .before .before .before .loop .inv) (c .before .before .before .before .before .round .ensures)
 
--- src/toward.rt:54:9
-sub-fuel : tie.Need-sub-fuel Inv-loop μ-loop
-sub-fuel c = search needs
-
--- src/toward.rt:50:5
-loop-less : tie.Need-loop-less Inv-loop μ-loop
-loop-less c = search needs
-
--- src/toward.rt:50:5
 loop-again : tie.Need-loop-again Inv-loop μ-loop
 loop-again c = moves-then (c .before .before .before .before .before .before .before .before .before .before .before .loop .inv) (c .before .before .before .before .before .round .ensures)
 
--- src/toward.rt:34:1
 same-length-3 : tie.Need-same-length-3 Inv-loop μ-loop
 same-length-3 c = c .before .loop .inv .x-len
 
--- src/toward.rt:34:1
 same-length-4 : tie.Need-same-length-4 Inv-loop μ-loop
 same-length-4 c = c .before .loop .inv .left-len
 
--- src/toward.rt:34:1
 returns-2 : tie.Need-returns-2 Inv-loop μ-loop
 returns-2 c = c .before .loop .inv
 
@@ -73,8 +53,8 @@ push-toward-spec =
     same-length
     same-length-2
     returns
-    sub-fuel
-    loop-less
+    (λ c. search needs)
+    (λ c. search needs)
     loop-again
     same-length-3
     same-length-4

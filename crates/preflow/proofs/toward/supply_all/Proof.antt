@@ -1,15 +1,11 @@
 -- `preflow::toward::supply_all` meets its contract.
 -- Assumes nothing.
-use Rattle.preflow.proofs.toward.supply_all.Statement.{statement}
-use Rattle.preflow.proofs.toward.supply_all.Tie as tie
-use Rattle.preflow.proofs.toward.supply_all.Reads as reads
-use Rattle.preflow.proofs.toward.supply_all.Lts as lts
-use Rattle.preflow.proofs.labels.next_arc.Reads as next-arc-reads
-use Rattle.preflow.proofs.toward.supply.Reads as supply-reads
 use Prim.Native.Nat.{_-_}
 use native.Mathlib.Omega.{arith}
 use Rattle.preflow.specs.Preflow.{Moves}
 use Rattle.preflow.proofs.Conserving.{moves-none, moves-then, ready-then}
+use Rattle.preflow.proofs.toward.supply_all.Statement.{statement}
+use Rattle.preflow.proofs.toward.supply_all.Tie as tie
 
 abbrev Inv-loop : tie.InvT-loop
 Inv-loop first arcs out label x₀ left₀ e₀ x left e =
@@ -19,35 +15,27 @@ abbrev μ-loop : tie.MeasureT-loop
 μ-loop first arcs out label x₀ left₀ e₀ x left e =
     4096 - e
 
--- src/toward.rt:85:5
 loop-holds : tie.Need-loop-holds Inv-loop μ-loop
 loop-holds c = let a = c .before .before .before .before .args in moves-none (a .arcs .now) (a .x .now) (a .left .now)
 
--- src/toward.rt:86:9
 supply-requires : tie.Need-supply-requires Inv-loop μ-loop
 supply-requires c κs = (c .before .before .loop-test .taken, ready-then (c .before .before .before .before .before .before .before .before .pre .1) (c .before .before .before .loop .inv))
 
--- src/toward.rt:87:9
 next-arc-requires : tie.Need-next-arc-requires Inv-loop μ-loop
 next-arc-requires c κs = omega (arith, c .before .before .before .before .before .before .before .before .before .before .before .before .before .pre .0 .len, c .before .before .before .before .before .before .before .loop-test .taken)
 
--- src/toward.rt:85:5
 loop-less : tie.Need-loop-less Inv-loop μ-loop
 loop-less c = omega (arith, c .before .before .before .before .before .before .before .before .before .before .before .before .before .before .pre .0 .few, c .before .before .before .before .before .before .before .before .before .before .before .before .before .before .pre .0 .later (c .before .before .before .before .before .before .before .before .before .loop .e) (c .before .before .before .before .before .before .before .before .loop-test .taken), c .next-arc .ensures, c .before .before .before .before .before .before .before .before .loop-test .taken)
 
--- src/toward.rt:85:5
 loop-again : tie.Need-loop-again Inv-loop μ-loop
 loop-again c = moves-then (c .before .before .before .before .before .before .before .before .before .loop .inv) (c .before .before .before .before .before .supply .ensures)
 
--- src/toward.rt:73:1
 same-length : tie.Need-same-length Inv-loop μ-loop
 same-length c = c .before .loop .inv .x-len
 
--- src/toward.rt:73:1
 same-length-2 : tie.Need-same-length-2 Inv-loop μ-loop
 same-length-2 c = c .before .loop .inv .left-len
 
--- src/toward.rt:73:1
 returns : tie.Need-returns Inv-loop μ-loop
 returns c = c .before .loop .inv
 

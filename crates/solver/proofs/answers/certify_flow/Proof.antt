@@ -1,49 +1,26 @@
 -- `solver::answers::certify_flow` meets its contract.
 -- Assumes nothing.
 use borrow.Author.Needs.{needs}
-use Rattle.solver.proofs.answers.certify_flow.Statement.{statement}
-use Rattle.solver.proofs.answers.certify_flow.Tie as tie
-use Rattle.solver.proofs.answers.certify_flow.Reads as reads
-use Rattle.solver.proofs.answers.certify_flow.Lts as lts
-use Rattle.solver.proofs.answers.answer_flow.Reads as answer-flow-reads
 use mathlib.Core.Path.{sym}
 use lib.ListN.{length}
 use Rattle.network.specs.Limits.{mostArcs}
 use Rattle.packed_arcs.proofs.LentParts.{zero-list-length}
 use Rattle.solver.proofs.CertifyCases.{one-each, lent}
 use Rattle.solver.proofs.EngineInputs.{few-records}
+use Rattle.solver.proofs.answers.certify_flow.Statement.{statement}
+use Rattle.solver.proofs.answers.certify_flow.Tie as tie
 
--- src/answers.rt:60:9
 array-borrow-prefix-arcs : tie.Need-array-borrow-prefix-arcs
 array-borrow-prefix-arcs c = few-records (c .before .before .args .records .now) (c .before .before .pre .0 .0)
 
--- src/answers.rt:60:9
 slice-aggregate-answer-flow : tie.Need-slice-aggregate-answer-flow
 slice-aggregate-answer-flow c = sym (zero-list-length (length (c .before .before .before .args .records .now)) mostArcs (few-records (c .before .before .before .args .records .now) (c .before .before .before .pre .0 .0)))
 
--- src/answers.rt:61:9
-array-borrow-prefix-key : tie.Need-array-borrow-prefix-key
-array-borrow-prefix-key c = search needs
-
--- src/answers.rt:61:9
 slice-aggregate-answer-flow-2 : tie.Need-slice-aggregate-answer-flow-2
 slice-aggregate-answer-flow-2 c = lent (c .before .before .before .before .pre .0 .0) _ (c .before .before .before .before .pre .1 .1)
 
--- src/answers.rt:57:5
 answer-flow-requires : tie.Need-answer-flow-requires
 answer-flow-requires c κs = let s = c .before .before .before .before .before .before in (s .pre .0, (s .pre .1, (zero-list-length (length (s .args .records .now)) mostArcs (few-records (s .args .records .now) (s .pre .0 .0)), one-each (s .pre .0 .0) _ (s .pre .1 .1))))
-
--- src/answers.rt:43:1
-same-length : tie.Need-same-length
-same-length c = search needs
-
--- src/answers.rt:43:1
-same-length-2 : tie.Need-same-length-2
-same-length-2 c = search needs
-
--- src/answers.rt:43:1
-returns : tie.Need-returns
-returns c = search needs
 
 pub certify-flow-spec : {M : Type 1} → statement M
 certify-flow-spec =
@@ -51,9 +28,9 @@ certify-flow-spec =
     (tie.spec
     array-borrow-prefix-arcs
     slice-aggregate-answer-flow
-    array-borrow-prefix-key
+    (λ c. search needs)
     slice-aggregate-answer-flow-2
     answer-flow-requires
-    same-length
-    same-length-2
-    returns)
+    (λ c. search needs)
+    (λ c. search needs)
+    (λ c. search needs))
