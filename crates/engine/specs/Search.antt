@@ -98,10 +98,11 @@ pub record Looking (N : ResidualNetwork) (key keys low : List ℕ) (u k lo : ℕ
   pub reached : k < unreached
   pub gone : waitsNot ≤ entry keys u
 
--- The code of the first residual arc, forward or back, and the one after the last.
+-- The code of the first residual arc, forward or back.
 abbrev pub firstCode : Bool → ℕ
 firstCode back = codeOf back 0
 
+-- The code after that of the last.
 abbrev pub endCode : Bool → ℕ
 endCode back = codeOf back 4096
 
