@@ -17,7 +17,7 @@ use Rattle.arc_index.proofs.Building.{Built, links-built}
 use Rattle.arc_index.proofs.Ends.{packed-chains}
 use Rattle.preflow.specs.Preflow.{PackedConserved}
 use Rattle.preflow.specs.Outcome.{preflowable, standingAt, PreflowOutcome}
-use Rattle.preflow.proofs.Outcomes.{Preflowable, preflowable-facts}
+use Rattle.preflow.proofs.Outcomes.{Preflowable, preflowable-facts, standing-len}
 use Rattle.engine.specs.PackedNetwork.{PackedPhaseState}
 use Rattle.engine.specs.Calls.{solvable, SolveReady, Finished, SolveOutcome, SearchAndPush, SendOutcome}
 use Rattle.engine.specs.declared.Sent.{Sent}
@@ -26,7 +26,6 @@ use Rattle.packed_arcs.proofs.LentParts.{zero-list-part}
 use Rattle.prelude.proofs.Tested.{passed, refused as failed}
 use Rattle.prelude.proofs.Booleans.{and-right, true→T, T→true, fails}
 use Rattle.packed_arcs.proofs.LimitTests.{Fitting, Sendable, sendable-facts}
-use Rattle.engine.proofs.Settled.{standing-len}
 use Rattle.engine.proofs.StartState.{start-state}
 
 -- lists that were cleared, as long as there are arcs and vertices
@@ -71,7 +70,7 @@ module _ (arcs : List ℕ) (s t supply : ℕ) (x key : List ℕ) where
       facts = solve-facts (moved .0)
 
       pub left-size : length left' ≡ length key
-      left-size = moved .3 .left-len ∙ standing-len (length key) s supply (facts .source)
+      left-size = moved .3 .left-len ∙ standing-len (length key) s supply
 
       pub solve-ready : SolveReady arcs s t (length left') × PackedConserved arcs (standingAt (length left') s supply) x' left'
       solve-ready = (

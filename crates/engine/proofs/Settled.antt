@@ -23,6 +23,7 @@ use Rattle.packed_arcs.proofs.ListLoops.{set-cases}
 use Rattle.packed_arcs.proofs.Sums.{sum-none, sum-at, entry-sum}
 use Rattle.preflow.specs.Preflow.{PackedConserved}
 use Rattle.preflow.specs.Outcome.{standingAt}
+use Rattle.preflow.proofs.Outcomes.{standing-len}
 use Rattle.engine.specs.PackedNetwork.{PackedPhaseState, PackedSolved}
 use Rattle.engine.specs.Calls.{settled, SolveReady, Prepared, Finished}
 use Rattle.engine.proofs.StartState.{costless-state}
@@ -32,9 +33,6 @@ use Rattle.engine.proofs.StartState.{costless-state}
 module _ (n k supply : ℕ) (inside : k < n) where
   in-zeros : k < length (zeroList n)
   in-zeros = omega (arith, length-replicate {A = ℕ} n 0)
-
-  pub standing-len : length (standingAt n k supply) ≡ n
-  standing-len = length-set (zeroList n) k supply ∙ length-replicate n 0
 
   pub standing-sum : sum (standingAt n k supply) ≡ supply
   standing-sum = omega (arith, sum-at (zeroList n) k supply in-zeros, sum-none n, zero-at n k)
@@ -69,7 +67,7 @@ module _ {arcs : List ℕ} {s t n : ℕ} (supply : ℕ) (R : SolveReady arcs s t
     total = C .total ∙ standing-sum n s supply (R .source)
 
     size : length left ≡ n
-    size = C .left-len ∙ standing-len n s supply (R .source)
+    size = C .left-len ∙ standing-len n s supply
 
     pub at-most : (v : ℕ) → entry left v ≤ supply
     at-most v = omega (arith, entry-sum left v, total)
@@ -160,8 +158,8 @@ module _ {arcs : List ℕ} {s t n : ℕ} (supply : ℕ) (R : SolveReady arcs s t
   pub prepared-anew : Prepared arcs s t supply n (zeroList (length arcs)) (standingAt n s supply) (standingAt n t supply)
   prepared-anew = record {
     x-len = length-replicate (length arcs) 0;
-    left-len = standing-len n s supply (R .source);
-    need-len = standing-len n t supply (R .sink);
+    left-len = standing-len n s supply;
+    need-len = standing-len n t supply;
     within = λ e h. omega (arith, zero-at (length arcs) e);
     free = λ e h r. absurd (omega (arith, zero-at (length arcs) e));
     left-less = λ w. omega arith;
@@ -186,7 +184,7 @@ module _ {arcs : List ℕ} {s t n : ℕ} (supply : ℕ) (R : SolveReady arcs s t
         state = S .state;
         found = S .found;
         none = S .none;
-        left-len = S .left-len ∙ P .left-len ∙ sym (standing-len n s supply (R .source));
+        left-len = S .left-len ∙ P .left-len ∙ sym (standing-len n s supply);
         left-less = λ w. omega (arith, S .left-less w, P .left-less w);
         need-less = λ w. omega (arith, S .need-less w, P .need-less w);
         balance = λ w. omega (arith, S .balance w, P .balance w, flow-none (tailsOf arcs) (length arcs) w, flow-none (headsOf arcs) (length arcs) w);

@@ -22,7 +22,8 @@ use Rattle.preflow.specs.Outcome.{standingAt}
 use Rattle.engine.specs.Phase.{Solved}
 use Rattle.engine.specs.PackedNetwork.{PackedSolved}
 use Rattle.engine.specs.Calls.{solvable, Finished, SolveOutcome}
-use Rattle.engine.proofs.Settled.{standing-len, standing-here, standing-other}
+use Rattle.engine.proofs.Settled.{standing-here, standing-other}
+use Rattle.preflow.proofs.Outcomes.{standing-len}
 use Rattle.prelude.proofs.Tested.{both-on}
 use Rattle.solver.specs.declared.vertices.NumberKind.the-variants.{Mark}
 use Rattle.solver.specs.Instance.{Fits, tails, heads, constant, VertexList, single, plenty, reached, numberOf}
@@ -70,7 +71,7 @@ packed-fit q n m rs arcs F p e =
 
 -- a supply at one vertex
 standing-list : (n k supply : ℕ) → k < n → VertexList n (single k supply) (standingAt n k supply)
-standing-list n k supply h = record { len = standing-len n k supply h; entries = λ v l. here v (ℕ-discrete v k) }
+standing-list n k supply h = record { len = standing-len n k supply; entries = λ v l. here v (ℕ-discrete v k) }
   where
     here : (v : ℕ) → Dec (v ≡ k) → entry (standingAt n k supply) v ≡ single k supply v
     here v (yes q) = ap (entry (standingAt n k supply)) q ∙ standing-here n k supply h ∙ omega (arith, ap (λ (d : ℕ). supply * d) (delta-same k v (sym q)))
