@@ -20,11 +20,11 @@ use Rattle.arc_index.specs.declared.End.the-variants.{Head}
 use Rattle.arc_index.proofs.Building.{Built, links-built}
 use Rattle.arc_index.proofs.Ends.{record-chains}
 use Rattle.arc_index.specs.Columns.{recordTails, recordHeads}
-use Rattle.acyclicity.specs.Search.{joinsBelow, searchable, SearchOutcome}
-use Rattle.acyclicity.specs.Steps.{Arcs, Chained, ClosedPath, OrderOrCycle}
-use Rattle.acyclicity.specs.Steps.OrderOrCycle.{ordered, cyclic}
-use Rattle.acyclicity.specs.declared.Found.{Found}
-use Rattle.acyclicity.specs.declared.Found.the-variants.{Refused}
+use Rattle.unranked_path.specs.Search.{joinsBelow, searchable, SearchOutcome}
+use Rattle.unranked_path.specs.Steps.{Arcs, Chained, ClosedPath, OrderOrCycle}
+use Rattle.unranked_path.specs.Steps.OrderOrCycle.{ordered, cyclic}
+use Rattle.unranked_path.specs.declared.Found.{Found}
+use Rattle.unranked_path.specs.declared.Found.the-variants.{Refused}
 use Rattle.arc_index.proofs.Columns.{tails-len, heads-len, tail-is, head-is}
 
 -- ---- lists of zeros, and as many vertices

@@ -4,31 +4,21 @@ ghost use Prim.Native.Nat.{_+_};
 ghost use lib.ListN.{length};
 ghost use Rattle.packed_arcs.specs.Entries.{zeroList};
 ghost use Rattle.arc_index.specs.Columns.{recordTails, recordHeads};
-ghost use Rattle.acyclicity.specs.Search.{SearchOutcome};
-ghost use Rattle.acyclicity.specs.Steps.{Arcs, OrderOrCycle};
+ghost use Rattle.unranked_path.specs.Search.{SearchOutcome};
+ghost use Rattle.unranked_path.specs.Steps.{Arcs, OrderOrCycle};
 use arc_index::End;
 use arc_index::index;
-use cycle::mark;
-use index::first_arcs;
+use cycle_marks::mark;
 use limits::is_searchable;
 use network::MOST_ARCS;
 use network::MOST_VERTICES;
 use packed_arcs::clearing::clear_amounts;
 use packed_arcs::clearing::clear_potentials;
 use ranking::rank_all;
+use unranked_path::Found;
+use unranked_path::index::first_arcs;
 
-mod cycle;
-mod index;
 mod limits;
-mod path;
-mod ranking;
-
-// What the search found: an order, a cycle, or that the input is not within the limits.
-pub enum Found {
-    Order,
-    Cycle,
-    Refused,
-}
 
 // The search on arrays that are 0: an order, or a cycle.
 fn decide(

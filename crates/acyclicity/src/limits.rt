@@ -1,7 +1,7 @@
 // What the search takes for granted, tested: few enough vertices and records, a mark for each record, and arcs that join vertices.
 ghost use mathlib.Core.Path.{_≡_};
 ghost use Rattle.prelude.specs.Lists.{all};
-ghost use Rattle.acyclicity.specs.Search.{joinsBelow, searchable};
+ghost use Rattle.unranked_path.specs.Search.{joinsBelow, searchable};
 use network::MOST_ARCS;
 use network::MOST_VERTICES;
 use network::arc_in;

@@ -15,10 +15,10 @@ use Rattle.arc_index.specs.Chains.{Chains}
 use Rattle.arc_index.specs.declared.End.the-variants.{Tail}
 use Rattle.arc_index.proofs.Building.{Built, links-built}
 use Rattle.arc_index.proofs.Ends.{packed-chains}
-use Rattle.preflow.specs.Preflow.{PackedConserved}
+use Rattle.residual_moves.specs.Preflow.{PackedConserved}
 use Rattle.preflow.specs.Outcome.{preflowable, standingAt, PreflowOutcome}
 use Rattle.preflow.proofs.Outcomes.{Preflowable, preflowable-facts, standing-len}
-use Rattle.engine.specs.PackedNetwork.{PackedPhaseState}
+use Rattle.residual_network.specs.PackedNetwork.{PackedPhaseState}
 use Rattle.engine.specs.Calls.{solvable, SolveReady, Finished, SolveOutcome, SearchAndPush, SendOutcome}
 use Rattle.engine.specs.declared.Sent.{Sent}
 use Rattle.engine.specs.declared.Sent.the-variants.{Refused}
@@ -26,7 +26,7 @@ use Rattle.packed_arcs.proofs.LentParts.{zero-list-part}
 use Rattle.prelude.proofs.Tested.{passed, refused as failed}
 use Rattle.prelude.proofs.Booleans.{and-right, true→T, T→true, fails}
 use Rattle.packed_arcs.proofs.LimitTests.{Fitting, Sendable, sendable-facts}
-use Rattle.engine.proofs.StartState.{start-state}
+use Rattle.residual_network.proofs.StartState.{start-state}
 
 -- lists that were cleared, as long as there are arcs and vertices
 cleared : {x₁ : List ℕ} {k m : ℕ} → x₁ ≡ zeroList k → k ≡ m → x₁ ≡ zeroList m

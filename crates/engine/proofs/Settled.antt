@@ -21,12 +21,12 @@ use Rattle.packed_arcs.proofs.LentParts.{zero-at}
 use Rattle.packed_arcs.proofs.LimitTests.{Fitting, fitting, no-cost}
 use Rattle.packed_arcs.proofs.ListLoops.{set-cases}
 use Rattle.packed_arcs.proofs.Sums.{sum-none, sum-at, entry-sum}
-use Rattle.preflow.specs.Preflow.{PackedConserved}
+use Rattle.residual_moves.specs.Preflow.{PackedConserved}
 use Rattle.preflow.specs.Outcome.{standingAt}
 use Rattle.preflow.proofs.Outcomes.{standing-len}
-use Rattle.engine.specs.PackedNetwork.{PackedPhaseState, PackedSolved}
+use Rattle.residual_network.specs.PackedNetwork.{PackedPhaseState, PackedSolved}
 use Rattle.engine.specs.Calls.{settled, SolveReady, Prepared, Finished}
-use Rattle.engine.proofs.StartState.{costless-state}
+use Rattle.residual_network.proofs.StartState.{costless-state}
 
 -- ---- a supply at one vertex
 

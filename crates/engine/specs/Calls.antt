@@ -11,9 +11,9 @@ use Rattle.packed_arcs.specs.PackedArcs.{tailsOf, headsOf, costsOf, capacitiesO
 use Rattle.prelude.specs.Lists.{all}
 use Rattle.packed_arcs.specs.Limits.{arcsFit, isFree, sendable}
 use Rattle.preflow.specs.Outcome.{preflowable, standingAt}
-use Rattle.engine.specs.Residual.{unreached}
-use Rattle.engine.specs.Phase.{SearchResult}
-use Rattle.engine.specs.PackedNetwork.{residualOf, PackedMoved, PackedPhaseState, PackedSolved}
+use Rattle.residual_network.specs.Residual.{unreached}
+use Rattle.residual_network.specs.Phase.{SearchResult}
+use Rattle.residual_network.specs.PackedNetwork.{residualOf, PackedMoved, PackedPhaseState, PackedSolved}
 use Rattle.engine.specs.declared.Sent.{Sent}
 use Rattle.engine.specs.declared.Sent.the-variants.{Reached, Unreached, Refused}
 

@@ -10,14 +10,8 @@ use preflow::preflow;
 use sending::index_and_send;
 use settling::finish;
 
-mod phases;
-mod push;
-mod search;
 mod sending;
 mod settling;
-
-// The key of a vertex that is not reached.
-pub const UNREACHED: u32 = 2147483648;
 
 // What came of a call of `send`: how much reached the vertex, that no path leads there, or a refusal.
 pub enum Sent {

@@ -6,13 +6,13 @@ ghost use Rattle.packed_arcs.specs.Entries.{entry};
 ghost use Rattle.packed_arcs.specs.PackedArcs.{tailsOf};
 ghost use Rattle.arc_index.specs.Chains.{Chains};
 ghost use Rattle.engine.specs.Calls.{SearchAndPush};
-ghost use Rattle.engine.specs.PackedNetwork.{PackedPhaseState};
+ghost use Rattle.residual_network.specs.PackedNetwork.{PackedPhaseState};
 use super::Sent;
-use super::UNREACHED;
-use super::push::push;
-use super::search::search;
 use arc_index::End;
 use arc_index::packed::index_packed;
+use residual_search::UNREACHED;
+use residual_search::search;
+use tree_push::push;
 
 // Nothing moves yet, so that no arc leads back, and the index by tail serves.
 pub(crate) fn search_and_push(

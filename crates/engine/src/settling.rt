@@ -5,13 +5,13 @@ ghost use lib.ListN.{length};
 ghost use Rattle.packed_arcs.specs.Entries.{entry, zeroList};
 ghost use Rattle.packed_arcs.specs.PackedArcs.{tailsOf, headsOf};
 ghost use Rattle.arc_index.specs.Chains.{Chains};
-ghost use Rattle.preflow.specs.Preflow.{PackedConserved};
+ghost use Rattle.residual_moves.specs.Preflow.{PackedConserved};
 ghost use Rattle.preflow.specs.Outcome.{standingAt};
 ghost use Rattle.engine.specs.Calls.{settled, SolveReady, Prepared, Finished};
-use super::phases::run;
 use packed_arcs::clearing::clear_amounts;
 use packed_arcs::clearing::clear_potentials;
 use packed_arcs::limits::all_free;
+use phases::run;
 
 // Is nothing left over at any vertex but s and t, and does no arc cost anything?
 fn is_settled(s: usize, t: usize, supply: u32, arcs: &[u64], left: &[u32]) -> bool

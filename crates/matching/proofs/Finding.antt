@@ -21,9 +21,9 @@ use Rattle.arc_index.specs.declared.End.the-variants.{Head}
 use Rattle.arc_index.proofs.Building.{Built, links-built}
 use Rattle.arc_index.proofs.Ends.{record-chains}
 use Rattle.arc_index.specs.Columns.{recordTails, recordHeads, recordWeights}
-use Rattle.matching.specs.Matching.{Bipartite, Noted, State}
+use Rattle.matching_state.specs.Matching.{Bipartite, Noted, State}
 use Rattle.matching.specs.Outcome.{leadsAcross, matchable, Amounts, Marks, Perfect, Deficient, FindOutcome}
-use Rattle.matching.specs.Serving.{PassOutcome}
+use Rattle.matching_rounds.specs.Serving.{PassOutcome}
 use Rattle.matching.specs.declared.Match.{Match}
 use Rattle.matching.specs.declared.Match.the-variants.{Perfect as PerfectMatch, Deficient as NoMatch}
 use Rattle.arc_index.proofs.Columns.{tails-len, heads-len, weights-len, tail-is, head-is, weight-is}

@@ -1,13 +1,3 @@
-pub mod Pairs
-pub mod TreeLaws
-pub mod TakenVertices
-pub mod Scans
-pub mod SearchSteps
-pub mod Raising
-pub mod Augmentation
-pub mod RaiseLoop
 pub mod Flows
 pub mod Outcomes
-pub mod Serving
-pub mod Bidding
 pub mod Finding

@@ -17,10 +17,10 @@ use Rattle.prelude.proofs.Sums.{sumTo-ext, sumTo-none, sumTo-split}
 use Rattle.packed_arcs.specs.Entries.{entry, flowAt}
 use Rattle.arc_index.specs.ArcIndex.{noArc}
 use Rattle.vertex_queue.specs.VertexQueue.{waitsNot}
-use Rattle.matching.specs.Matching.{Bipartite, Noted, Matching, State}
-use Rattle.matching.specs.Tree.{InTree, root, matched, Tree}
+use Rattle.matching_state.specs.Matching.{Bipartite, Noted, Matching, State}
+use Rattle.exposed_search.specs.Tree.{InTree, root, matched, Tree}
 use Rattle.matching.specs.Outcome.{matchedAmount, Amounts, Perfect, farMark, Marks, Deficient}
-use Rattle.matching.proofs.Pairs.{noted, left-end, right-end}
+use Rattle.matching_state.proofs.Pairs.{noted, left-end, right-end}
 use Rattle.matching.proofs.Flows.{flow-none, flow-one, sum-less, sum-strict, sum-full, sum-weighted, weighted-same, sum-ones, listed-at}
 
 -- ---- amounts of a matching

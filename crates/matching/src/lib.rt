@@ -6,27 +6,21 @@ ghost use lib.ListN.{length, replicate};
 ghost use Rattle.packed_arcs.specs.Entries.{zeroList};
 ghost use Rattle.arc_index.specs.ArcIndex.{noArc};
 ghost use Rattle.arc_index.specs.Columns.{recordTails, recordHeads, recordWeights};
-ghost use Rattle.matching.specs.Matching.{Bipartite};
+ghost use Rattle.matching_state.specs.Matching.{Bipartite};
 ghost use Rattle.matching.specs.Outcome.{FindOutcome, MatchOutcome};
 use arc_index::End;
 use arc_index::NO_ARC;
 use arc_index::index;
 use bids::bid_all;
 use limits::is_matchable;
+use matching_rounds::serve_all;
 use packed_arcs::clearing::clear_amounts;
 use packed_arcs::clearing::clear_potentials;
 use results::write_amounts;
 use results::write_marks;
-use serve::serve_all;
 
-mod arcs;
-mod augment;
-mod bids;
 mod limits;
-mod raise;
 mod results;
-mod serve;
-mod tree;
 
 // What was found: a perfect matching, that there is none, or that the input is not within the limits.
 pub enum Match {

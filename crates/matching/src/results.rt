@@ -4,12 +4,12 @@ ghost use Prim.Native.Nat.{ℕ, _<_};
 ghost use lib.ListN.{length};
 ghost use Rattle.packed_arcs.specs.Entries.{entry};
 ghost use Rattle.arc_index.specs.Columns.{recordTails, recordHeads, recordWeights};
-ghost use Rattle.matching.specs.Matching.{Bipartite, Matching};
+ghost use Rattle.matching_state.specs.Matching.{Bipartite, Matching};
 ghost use Rattle.matching.specs.Outcome.{matchedAmount, Amounts, farMark, unreachedMark, Marks};
-use super::arcs::head_at;
-use super::arcs::place;
-use super::arcs::tail_at;
 use arc_index::NO_ARC;
+use matching_state::head_at;
+use matching_state::place;
+use matching_state::tail_at;
 use vertex_queue::WAITS_NOT;
 
 // 1 for an arc that is noted as matched at its head, else 0.

@@ -21,7 +21,7 @@ use Rattle.arc_index.specs.Chains.{Chains}
 use Rattle.arc_index.specs.declared.End.the-variants.{Tail, Head}
 use Rattle.arc_index.proofs.Building.{Built, links-built}
 use Rattle.arc_index.proofs.Ends.{packed-chains}
-use Rattle.preflow.specs.Preflow.{PackedConserved, Ready, Moves}
+use Rattle.residual_moves.specs.Preflow.{PackedConserved, Ready, Moves}
 use Rattle.preflow.specs.Outcome.{preflowable, standingAt, PreflowOutcome}
 
 -- ---- what it is to pass the test

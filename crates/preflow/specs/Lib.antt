@@ -1,2 +1,1 @@
-pub mod Preflow
 pub mod Outcome

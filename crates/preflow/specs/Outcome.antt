@@ -10,7 +10,7 @@ use Rattle.packed_arcs.specs.Entries.{zeroList}
 use Rattle.packed_arcs.specs.PackedArcs.{tailsOf, headsOf}
 use Rattle.packed_arcs.specs.Limits.{arcsFit}
 use Rattle.arc_index.specs.Chains.{Chains}
-use Rattle.preflow.specs.Preflow.{PackedConserved}
+use Rattle.residual_moves.specs.Preflow.{PackedConserved}
 
 -- What the call answers: s and t are vertices, the supply is within the limit, arcs that fit, an amount for each arc, and links for 256 vertices and each arc.
 abbrev pub preflowable : List ℕ → ℕ → ℕ → ℕ → ℕ → ℕ → ℕ → ℕ → Bool

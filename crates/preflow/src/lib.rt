@@ -4,7 +4,7 @@ ghost use Prim.Native.Nat.{_<_};
 ghost use lib.ListN.{length};
 ghost use Rattle.packed_arcs.specs.PackedArcs.{tailsOf, headsOf};
 ghost use Rattle.arc_index.specs.Chains.{Chains};
-ghost use Rattle.preflow.specs.Preflow.{Ready, Moves};
+ghost use Rattle.residual_moves.specs.Preflow.{Ready, Moves};
 ghost use Rattle.preflow.specs.Outcome.{PreflowOutcome};
 use arc_index::End;
 use arc_index::packed::index_packed;
@@ -14,11 +14,7 @@ use packed_arcs::clearing::clear_potentials;
 use toward::push_to_sink;
 use toward::push_to_source;
 
-mod draining;
-mod labels;
 mod limits;
-mod pushing;
-mod shifting;
 mod toward;
 
 // Moves what stands at s as far as it goes to t, and what is left over at other vertices back to s.

@@ -1,13 +1,13 @@
 // The two stages: from the source towards the sink, and what is left over back to the source. Where a stage takes long, labels are made exact again in between.
 ghost use Prim.Native.Nat.{_<_, _≤_};
 ghost use lib.ListN.{length};
-ghost use Rattle.preflow.specs.Preflow.{Links, Ready, Moves};
-use super::draining::drain_all;
-use super::labels::first_arc;
-use super::labels::label_from;
-use super::labels::next_arc;
-use super::shifting::shift_forward;
+ghost use Rattle.residual_moves.specs.Preflow.{Links, Ready, Moves};
+use discharging::draining::drain_all;
+use distance_labels::first_arc;
+use distance_labels::label_from;
+use distance_labels::next_arc;
 use packed_arcs::arcs::head_of;
+use residual_moves::shift_forward;
 
 // Pushes towards the root by exact labels: whether nothing is left that reaches it. The vertex shut has no label, so that nothing is pushed to it or from it.
 fn round(

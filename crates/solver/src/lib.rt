@@ -1,28 +1,16 @@
 // Finds a certificate for every network that a session accepts.
 ghost use mathlib.Core.Path.{_≡_};
 ghost use Rattle.checks.specs.Held.{asked};
-ghost use Rattle.solver.specs.Certify.{findingNumber, CertifyOutcome};
-use answers::certify_flow;
-use answers::certify_path;
-use assignments::certify_assignment;
+ghost use Rattle.certificates.specs.Certify.{findingNumber, CertifyOutcome};
+use assignment_certificates::certify_assignment;
+use certificates::Finding;
+use certificates::records::is_admissible;
 use checks::HeldSetting;
 use checks::rows::Question;
 use checks::rows::question_of;
-use orders::certify_acyclicity;
-use records::is_admissible;
-
-mod answers;
-mod assignments;
-mod orders;
-mod records;
-mod vertices;
-
-// What a network is certified to have: a value, or none; or the input is not admissible.
-pub enum Finding {
-    Value,
-    None,
-    Refused,
-}
+use engine_certificates::certify_flow;
+use engine_certificates::certify_path;
+use order_certificates::certify_acyclicity;
 
 // The number of the claim: 1 for a value, 2 for none; 0 for a refusal.
 pub fn claim_number(finding: Finding) -> u8

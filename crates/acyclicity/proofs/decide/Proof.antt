@@ -6,8 +6,8 @@ use native.Mathlib.Omega.{arith}
 use lib.ListN.{take}
 use borrow.Author.Needs.{needs}
 use Rattle.packed_arcs.specs.Entries.{zeroList}
-use Rattle.acyclicity.specs.Steps.OrderOrCycle.{ordered, cyclic}
-use Rattle.acyclicity.proofs.Rankings.{arcs-as}
+use Rattle.unranked_path.specs.Steps.OrderOrCycle.{ordered, cyclic}
+use Rattle.unranked_path.proofs.Rankings.{arcs-as}
 use Rattle.acyclicity.proofs.Outcomes.{closed-as, chained-built}
 use Rattle.acyclicity.proofs.decide.Statement.{statement}
 use Rattle.acyclicity.proofs.decide.Tie as tie

@@ -8,7 +8,7 @@ use denote.Ref.{now}
 use borrow.Author.Needs.{needs}
 use Rattle.packed_arcs.specs.Entries.{zeroList}
 use Rattle.packed_arcs.proofs.LentParts.{zero-list-length, zero-list-part}
-use Rattle.acyclicity.proofs.Rankings.{arcs-as}
+use Rattle.unranked_path.proofs.Rankings.{arcs-as}
 use Rattle.acyclicity.proofs.Outcomes.{zeros-as, Searchable, search-refused, search-facts, search-decided}
 use Rattle.acyclicity.proofs.search.Statement.{statement}
 use Rattle.acyclicity.proofs.search.Tie as tie

@@ -5,7 +5,7 @@ use native.Mathlib.Omega.{arith}
 use borrow.Author.Needs.{needs}
 use Rattle.packed_arcs.specs.Entries.{zeroList}
 use Rattle.arc_index.proofs.Columns.{tails-len}
-use Rattle.matching.proofs.Serving.{state-at, pass-state, pass-at}
+use Rattle.matching_rounds.proofs.Serving.{state-at, pass-state, pass-at}
 use Rattle.matching.proofs.Finding.{begun, found-perfect, found-none, marks-at}
 use Rattle.matching.proofs.find.Statement.{statement}
 use Rattle.matching.proofs.find.Tie as tie

@@ -2,8 +2,8 @@
 -- Assumes nothing.
 use borrow.Author.Needs.{needs}
 use native.Mathlib.Omega.{arith}
-use Rattle.preflow.specs.Preflow.{Links}
-use Rattle.preflow.proofs.Conserving.{moves-then, ready-then, out-links, into-links}
+use Rattle.residual_moves.specs.Preflow.{Links}
+use Rattle.residual_moves.proofs.Conserving.{moves-then, ready-then, out-links, into-links}
 use Rattle.preflow.proofs.push_all.Statement.{statement}
 use Rattle.preflow.proofs.push_all.Tie as tie
 

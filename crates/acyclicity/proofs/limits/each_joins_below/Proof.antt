@@ -6,7 +6,7 @@ use lib.ListN.{length}
 use borrow.Author.Needs.{needs}
 use borrow.Author.Tests.{not-true, not-false}
 use Rattle.packed_arcs.proofs.ListLoops.{Undecided, all-more, all-fails, all-end}
-use Rattle.acyclicity.specs.Search.{joinsBelow}
+use Rattle.unranked_path.specs.Search.{joinsBelow}
 use Rattle.acyclicity.proofs.limits.each_joins_below.Statement.{statement}
 use Rattle.acyclicity.proofs.limits.each_joins_below.Tie as tie
 

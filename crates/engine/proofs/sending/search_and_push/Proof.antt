@@ -4,8 +4,8 @@ use borrow.Author.Needs.{needs}
 use mathlib.Core.Path.{refl}
 use native.Mathlib.Omega.{arith}
 use Rattle.engine.specs.Calls.SearchAndPush.{away, reached}
-use Rattle.engine.specs.Search.BackwardIndex.{idle}
-use Rattle.engine.proofs.PhaseLaws.{linked, sent-inside}
+use Rattle.residual_search.specs.Search.BackwardIndex.{idle}
+use Rattle.residual_network.proofs.PhaseLaws.{linked, sent-inside}
 use Rattle.engine.proofs.sending.search_and_push.Statement.{statement}
 use Rattle.engine.proofs.sending.search_and_push.Tie as tie
 

@@ -11,7 +11,7 @@ use Rattle.arc_index.specs.ArcIndex.{noArc}
 use Rattle.arc_index.specs.Columns.{recordTails}
 use Rattle.matching.specs.Outcome.{farMark}
 use Rattle.arc_index.proofs.Columns.{tails-len}
-use Rattle.matching.proofs.Pairs.{noted}
+use Rattle.matching_state.proofs.Pairs.{noted}
 use Rattle.matching.proofs.results.mark_of.Statement.{statement}
 use Rattle.matching.proofs.results.mark_of.Tie as tie
 

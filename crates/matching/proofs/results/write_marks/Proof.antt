@@ -7,7 +7,7 @@ use lib.ListN.{length}
 use borrow.Author.Needs.{needs}
 use Rattle.prelude.proofs.Filling.{Filling, fill-start, fill-turn, fill-end}
 use Rattle.arc_index.specs.Columns.{recordTails, recordHeads, recordWeights}
-use Rattle.matching.specs.Matching.{Bipartite, Matching}
+use Rattle.matching_state.specs.Matching.{Bipartite, Matching}
 use Rattle.matching.specs.Outcome.{unreachedMark}
 use Rattle.matching.proofs.results.write_marks.Statement.{statement}
 use Rattle.matching.proofs.results.write_marks.Tie as tie

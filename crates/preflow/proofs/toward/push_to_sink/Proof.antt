@@ -2,7 +2,7 @@
 -- Assumes nothing.
 use borrow.Author.Needs.{needs}
 use native.Mathlib.Omega.{arith}
-use Rattle.preflow.proofs.Conserving.{sizes, moves-then, ready-then}
+use Rattle.residual_moves.proofs.Conserving.{sizes, moves-then, ready-then}
 use Rattle.preflow.proofs.toward.push_to_sink.Statement.{statement}
 use Rattle.preflow.proofs.toward.push_to_sink.Tie as tie
 

@@ -1,8 +1,8 @@
 -- `preflow::toward::push_toward` meets its contract.
 -- Assumes nothing.
 use native.Mathlib.Omega.{arith}
-use Rattle.preflow.specs.Preflow.{Moves}
-use Rattle.preflow.proofs.Conserving.{moves-none, moves-then, ready-then}
+use Rattle.residual_moves.specs.Preflow.{Moves}
+use Rattle.residual_moves.proofs.Conserving.{moves-none, moves-then, ready-then}
 use borrow.Author.Needs.{needs}
 use Rattle.preflow.proofs.toward.push_toward.Statement.{statement}
 use Rattle.preflow.proofs.toward.push_toward.Tie as tie

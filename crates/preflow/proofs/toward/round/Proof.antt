@@ -2,7 +2,7 @@
 -- Assumes nothing.
 use borrow.Author.Needs.{needs}
 use native.Mathlib.Omega.{arith}
-use Rattle.preflow.proofs.Conserving.{sizes}
+use Rattle.residual_moves.proofs.Conserving.{sizes}
 use Rattle.preflow.proofs.toward.round.Statement.{statement}
 use Rattle.preflow.proofs.toward.round.Tie as tie
 

@@ -2,8 +2,8 @@
 -- Assumes nothing.
 use Prim.Native.Nat.{_-_}
 use native.Mathlib.Omega.{arith}
-use Rattle.preflow.specs.Preflow.{Moves}
-use Rattle.preflow.proofs.Conserving.{moves-none, moves-then, ready-then}
+use Rattle.residual_moves.specs.Preflow.{Moves}
+use Rattle.residual_moves.proofs.Conserving.{moves-none, moves-then, ready-then}
 use Rattle.preflow.proofs.toward.supply_all.Statement.{statement}
 use Rattle.preflow.proofs.toward.supply_all.Tie as tie
 

@@ -1,0 +1,3 @@
+// parts
+pub mod augment;
+pub mod raise;

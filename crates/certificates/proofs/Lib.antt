@@ -1,0 +1,7 @@
+pub mod AgreeingMarks
+pub mod ColumnsAndLoads
+pub mod FlowInstance
+pub mod PathInstance
+pub mod Solutions
+pub mod EngineInputs
+pub mod CertifyCases

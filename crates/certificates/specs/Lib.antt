@@ -1,0 +1,2 @@
+pub mod Certify
+pub mod Instance

@@ -1,0 +1,3 @@
+// parts
+pub mod draining;
+pub mod pushing;

@@ -1,0 +1,4 @@
+pub mod TreeLaws
+pub mod TakenVertices
+pub mod Scans
+pub mod SearchSteps

@@ -1,0 +1,4 @@
+pub mod Residual
+pub mod Push
+pub mod Phase
+pub mod PackedNetwork

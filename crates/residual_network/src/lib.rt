@@ -1,0 +1,1 @@
+// The residual network of packed arcs: definitions and laws alone.

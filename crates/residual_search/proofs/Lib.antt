@@ -1,0 +1,2 @@
+pub mod ArcReads
+pub mod SearchLaws

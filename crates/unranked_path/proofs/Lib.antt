@@ -1,0 +1,3 @@
+pub mod CurrentArcs
+pub mod Paths
+pub mod Rankings
