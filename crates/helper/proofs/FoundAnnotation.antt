@@ -29,8 +29,8 @@ use Rattle.acceptance.specs.Acceptance.{AcceptedFile}
 use Rattle.acceptance.proofs.AcceptedFiles.{opening-held, file-opened, file-allowed, file-few}
 use Rattle.packed_arcs.specs.Entries.{zeroList}
 use Rattle.packed_arcs.proofs.LentParts.{zero-list-length, lent-again}
-use Rattle.certificates.specs.Certify.{recordOk, admissible, Solution, CertifyOutcome, refused, solved}
-use Rattle.certificates.proofs.ColumnsAndLoads.{loads-arcs}
+use Rattle.cert_instances.specs.Certify.{recordOk, admissible, Solution, CertifyOutcome, refused, solved}
+use Rattle.cert_instances.proofs.ColumnsAndLoads.{loads-arcs}
 use Rattle.helper.specs.Helper.{sizeFor, AnnotationIn}
 use Rattle.helper.proofs.WrittenParts.{loads-length}
 

@@ -12,7 +12,7 @@ use lib.Seq.{sets, length-sets, take-length}
 use Rattle.prelude.specs.Lists.{at, listTo}
 use Rattle.prelude.proofs.Lists.{listTo-length, listTo-take}
 use Rattle.network.specs.Network.{Arc, Load, wordArc, wordArcs, wordLoad, loadsOf}
-use Rattle.certificates.proofs.ColumnsAndLoads.{loads-arcs}
+use Rattle.cert_instances.proofs.ColumnsAndLoads.{loads-arcs}
 use Rattle.file_fields.specs.Bytes.{byte32, readSigned}
 use Rattle.file_fields.proofs.Writing.{then-sets}
 use Rattle.format.specs.Files.{loadBytes, loadAt}

@@ -15,7 +15,7 @@ use Rattle.network.specs.Tests.{claimNumber}
 use Rattle.format.specs.Files.{settingIn, nIn, countIn, arcsIn, annotationFile, annotationSize}
 use Rattle.format.specs.Replies.{WriterSaid, wrote, declined}
 use Rattle.acceptance.specs.Acceptance.{acceptanceChecks}
-use Rattle.certificates.specs.Certify.{LengthsFor}
+use Rattle.cert_instances.specs.Certify.{LengthsFor}
 
 -- The length of the annotation of a network file (PANEL 7).
 abbrev pub sizeFor : List ℕ → ℕ

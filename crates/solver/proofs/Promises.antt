@@ -11,10 +11,10 @@ use Rattle.prelude.proofs.Permutations.{perm-refl}
 use Rattle.network.specs.Network.{Arc, wordArcs, loadsOf}
 use Rattle.network.specs.Question.{Setting, TrueAnswer, Admissible}
 use Rattle.network.proofs.Promises.{one-answer, certificates-sound}
-use Rattle.certificates.specs.Certify.{Solution, CertifyOutcome}
+use Rattle.cert_instances.specs.Certify.{Solution, CertifyOutcome}
 use Rattle.solver.specs.Promises.{Decided, Decides}
-use Rattle.certificates.proofs.ColumnsAndLoads.{loads-arcs}
-use Rattle.certificates.proofs.Solutions.{accepted}
+use Rattle.cert_instances.proofs.ColumnsAndLoads.{loads-arcs}
+use Rattle.cert_instances.proofs.Solutions.{accepted}
 
 decided : (st : Setting) (net : List Arc) (ys : List ℤ) (xs : List ℕ) (reply : ℕ) → Admissible st net → Solution st net ys xs reply → Decided st net reply
 decided st net ys xs reply a s = record { answer = s .answer; is-true = truth; only = λ b h. one-answer st net b (s .answer) h truth; reply-is = s .reply-is }

@@ -10,7 +10,7 @@ use Rattle.network.specs.Network.{Arc, wordArcs}
 use Rattle.network.specs.Question.{Setting, Answer, TrueAnswer}
 use Rattle.network.specs.Certificate.{claimFor}
 use Rattle.network.specs.Tests.{claimNumber}
-use Rattle.certificates.specs.Certify.{admissible, CertifyOutcome}
+use Rattle.cert_instances.specs.Certify.{admissible, CertifyOutcome}
 
 -- There is a true answer, no other one is true, and the reply is its claim: a value exactly where a value is true.
 pub record Decided (st : Setting) (net : List Arc) (reply : ℕ) : Type 0 where

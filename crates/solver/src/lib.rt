@@ -1,16 +1,16 @@
 // Finds a certificate for every network that a session accepts.
 ghost use mathlib.Core.Path.{_≡_};
 ghost use Rattle.checks.specs.Held.{asked};
-ghost use Rattle.certificates.specs.Certify.{findingNumber, CertifyOutcome};
-use assignment_certificates::certify_assignment;
-use certificates::Finding;
-use certificates::records::is_admissible;
+ghost use Rattle.cert_instances.specs.Certify.{findingNumber, CertifyOutcome};
+use cert_assignment::certify_assignment;
+use cert_instances::Finding;
+use cert_instances::records::is_admissible;
 use checks::HeldSetting;
 use checks::rows::Question;
 use checks::rows::question_of;
-use engine_certificates::certify_flow;
-use engine_certificates::certify_path;
-use order_certificates::certify_acyclicity;
+use cert_flow::certify_flow;
+use cert_flow::certify_path;
+use cert_acyclicity::certify_acyclicity;
 
 // The number of the claim: 1 for a value, 2 for none; 0 for a refusal.
 pub fn claim_number(finding: Finding) -> u8

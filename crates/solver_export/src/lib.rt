@@ -1,5 +1,5 @@
 // The solver for callers in C: each slice is a pointer and a count. The pointer of an empty slice is not null either.
-ghost use Rattle.certificates.specs.Certify.{CertifyOutcome};
+ghost use Rattle.cert_instances.specs.Certify.{CertifyOutcome};
 use checks::HeldSetting;
 
 #[no_mangle]

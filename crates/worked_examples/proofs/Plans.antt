@@ -24,7 +24,7 @@ use Rattle.format.specs.Files.{settingIn, networkFile, nIn, arcsIn}
 use Rattle.acceptance.specs.Acceptance.{acceptanceChecks, AcceptedFile}
 use Rattle.acceptance.proofs.AcceptedFiles.{file-opened, file-allowed}
 use Rattle.judging.specs.Judging.{judged}
-use Rattle.certificates.specs.Certify.{LengthsFor}
+use Rattle.cert_instances.specs.Certify.{LengthsFor}
 use Rattle.helper.specs.Helper.{Annotation}
 use Rattle.demands.proofs.Promises.{annotation-judged}
 use Rattle.worked_examples.specs.Table.{Plan, loads, annotation, AnyAnnotation, PlanYields}

@@ -17,8 +17,8 @@ use Rattle.network.specs.Question.{Question, shortestPath, maximumFlow, assignm
 use Rattle.network.specs.Certificate.{Claim, ofValue, ofNone, marked}
 use Rattle.network.proofs.Paths.{walk-above, no-walk}
 use Rattle.network.proofs.Promises.{one-answer}
-use Rattle.certificates.specs.Instance.{toward}
-use Rattle.certificates.specs.Certify.{toldBy, Told, LengthsFor}
+use Rattle.cert_instances.specs.Instance.{toward}
+use Rattle.cert_instances.specs.Certify.{toldBy, Told, LengthsFor}
 use Rattle.worked_examples.specs.Table.{SameNumbers, R1, R4}
 
 -- ---- the numbers of a route are determined

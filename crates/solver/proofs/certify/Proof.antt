@@ -12,8 +12,8 @@ use Rattle.network.specs.Network.{wordArcs}
 use Rattle.network.specs.Question.{Setting, asks, Asked, Admissible}
 use Rattle.checks.specs.Held.{asked, questionHeld}
 use Rattle.checks.specs.declared.rows.Question.{Question}
-use Rattle.certificates.specs.Certify.{Solution, CertifyOutcome}
-use Rattle.certificates.proofs.CertifyCases.{begun, ended, turned-away}
+use Rattle.cert_instances.specs.Certify.{Solution, CertifyOutcome}
+use Rattle.cert_instances.proofs.CertifyCases.{begun, ended, turned-away}
 use Rattle.solver.proofs.certify.Statement.{statement}
 use Rattle.solver.proofs.certify.Tie as tie
 

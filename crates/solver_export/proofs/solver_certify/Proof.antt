@@ -1,7 +1,7 @@
 -- `solver_export::solver_certify` meets its contract.
 -- Assumes nothing.
 use borrow.Author.Needs.{needs}
-use Rattle.certificates.proofs.CertifyCases.{by-number}
+use Rattle.cert_instances.proofs.CertifyCases.{by-number}
 use Rattle.solver_export.proofs.solver_certify.Statement.{statement}
 use Rattle.solver_export.proofs.solver_certify.Tie as tie
 

@@ -3,7 +3,7 @@
 use mathlib.Core.Path.{sym, _∙_}
 use native.Mathlib.Omega.{arith}
 use Rattle.checks.specs.Held.{asked}
-use Rattle.certificates.proofs.CertifyCases.{by-number}
+use Rattle.cert_instances.proofs.CertifyCases.{by-number}
 use Rattle.helper.proofs.FoundAnnotation.{found, filled, records-many}
 use Rattle.helper.proofs.writing.write_solution.Statement.{statement}
 use Rattle.helper.proofs.writing.write_solution.Tie as tie

@@ -1,0 +1,48 @@
+-- `flow_maximum::solve` meets its contract.
+-- Assumes nothing.
+use borrow.Author.Needs.{needs}
+use mathlib.Core.Path.{sym}
+use mathlib.Core.Logic.{inl, inr}
+use Prim.Native.Nat.{_+_}
+use native.Mathlib.Omega.{arith}
+use lib.ListN.{length}
+use Rattle.packed_arcs.proofs.LentParts.{zero-list-length}
+use Rattle.flow_maximum.proofs.CallOutcomes.{too-large}
+use Rattle.flow_maximum.proofs.solve.Statement.{statement}
+use Rattle.flow_maximum.proofs.solve.Tie as tie
+
+returns : tie.Need-returns
+returns c = let a = c .before .before .before .before .args in too-large (a .arcs .now) (a .s) (a .t) (a .supply) (a .x .now) (a .key .now) (inl (c .if1 .taken))
+
+returns-2 : tie.Need-returns-2
+returns-2 c = let a = c .before .before .before .before .before .args in too-large (a .arcs .now) (a .s) (a .t) (a .supply) (a .x .now) (a .key .now) (inr (c .if2 .taken))
+
+slice-aggregate-solve-by : tie.Need-slice-aggregate-solve-by
+slice-aggregate-solve-by c = sym (zero-list-length (length (c .before .before .before .before .before .before .before .args .key .now)) 255 (c .before .before .before .if1 .left))
+
+slice-aggregate-solve-by-2 : tie.Need-slice-aggregate-solve-by-2
+slice-aggregate-solve-by-2 c = sym (zero-list-length (256 + length (c .before .before .before .before .before .before .before .before .args .arcs .now)) 4352 (omega (arith, c .before .before .before .if2 .left)))
+
+slice-aggregate-solve-by-3 : tie.Need-slice-aggregate-solve-by-3
+slice-aggregate-solve-by-3 c = sym (zero-list-length (256 + length (c .before .before .before .before .before .before .before .before .before .args .arcs .now)) 4352 (omega (arith, c .before .before .before .before .if2 .left)))
+
+solve-by-requires : tie.Need-solve-by-requires
+solve-by-requires c κs = let l = zero-list-length (256 + length (c .before .before .before .before .before .before .before .before .before .before .args .arcs .now)) 4352 (omega (arith, c .before .before .before .before .before .if2 .left)) in (zero-list-length (length (c .before .before .before .before .before .before .before .before .before .before .args .key .now)) 255 (c .before .before .before .before .before .before .if1 .left), l, l)
+
+pub solve-spec : {M : Type 1} → statement M
+solve-spec =
+    tie.close
+    (tie.spec
+    returns
+    returns-2
+    (λ c. search needs)
+    (λ c. search needs)
+    slice-aggregate-solve-by
+    (λ c. search needs)
+    slice-aggregate-solve-by-2
+    (λ c. search needs)
+    slice-aggregate-solve-by-3
+    solve-by-requires
+    (λ c. search needs)
+    (λ c. search needs)
+    (λ c. search needs))

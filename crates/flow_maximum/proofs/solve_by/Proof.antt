@@ -1,0 +1,34 @@
+-- `flow_maximum::solve_by` meets its contract.
+-- Assumes nothing.
+use borrow.Author.Needs.{needs}
+use mathlib.Core.Path.{sym}
+use Rattle.flow_maximum.proofs.CallOutcomes.{solve-refused, solve-ready, left-size, by-tail, by-head, solve-ends}
+use Rattle.flow_maximum.proofs.solve_by.Statement.{statement}
+use Rattle.flow_maximum.proofs.solve_by.Tie as tie
+
+returns : tie.Need-returns
+returns c = let s = c .before .before .before .before .before .before .before .before .before .before .before .before .before .before .before .before .before .before .before .before in let a = s .args in solve-refused (a .arcs .now) (a .s) (a .t) (a .supply) (a .x .now) (a .key .now) (s .pre .0) (s .pre .1) (s .pre .2) (c .before .before .before .before .before .before .before .before .before .preflow .ensures) (c .if1 .taken)
+
+finish-requires : tie.Need-finish-requires
+finish-requires c κs = let s = c .before .before .before .before .before .before .before .before .before .before .before .before .before .before .before .before .before .before .before .before .before .before .before .before .before in let a = s .args in (solve-ready (a .arcs .now) (a .s) (a .t) (a .supply) (a .x .now) (a .key .now) (s .pre .0) (s .pre .1) (s .pre .2) (c .before .before .before .before .before .before .before .before .before .before .before .before .before .before .preflow .ensures) (c .before .before .before .before .before .if1 .left), (by-tail (a .arcs .now) (a .s) (a .t) (a .supply) (a .x .now) (a .key .now) (s .pre .0) (s .pre .1) (s .pre .2) (c .before .before .before .before .before .before .before .before .before .before .before .before .before .before .preflow .ensures) (c .before .before .before .before .before .if1 .left), by-head (a .arcs .now) (a .s) (a .t) (a .supply) (a .x .now) (a .key .now) (s .pre .0) (s .pre .1) (s .pre .2) (c .before .before .before .before .before .before .before .before .before .before .before .before .before .before .preflow .ensures) (c .before .before .before .before .before .if1 .left), sym (left-size (a .arcs .now) (a .s) (a .t) (a .supply) (a .x .now) (a .key .now) (s .pre .0) (s .pre .1) (s .pre .2) (c .before .before .before .before .before .before .before .before .before .before .before .before .before .before .preflow .ensures) (c .before .before .before .before .before .if1 .left))))
+
+returns-2 : tie.Need-returns-2
+returns-2 c = let s = c .before .before .before .before .before .before .before .before .before .before .before .before .before .before .before .before .before .before .before .before .before .before .before .before .before .before .before .before .before .before .before .before in let a = s .args in solve-ends (a .arcs .now) (a .s) (a .t) (a .supply) (a .x .now) (a .key .now) (s .pre .0) (s .pre .1) (s .pre .2) (c .before .before .before .before .before .before .before .before .before .before .before .before .before .before .before .before .before .before .before .before .before .preflow .ensures) (c .before .before .before .before .before .before .before .before .before .before .before .before .if1 .left) (c .before .before .before .before .before .before .finish .ensures)
+
+pub solve-by-spec : {M : Type 1} → statement M
+solve-by-spec =
+    tie.close
+    (tie.spec
+    (λ c κs. search needs)
+    (λ c. search needs)
+    (λ c. search needs)
+    (λ c. search needs)
+    (λ c. search needs)
+    returns
+    finish-requires
+    (λ c. search needs)
+    (λ c. search needs)
+    (λ c. search needs)
+    (λ c. search needs)
+    (λ c. search needs)
+    returns-2)

@@ -1,0 +1,50 @@
+-- `match_least_cost::bids::assign` meets its contract.
+-- Assumes nothing.
+use mathlib.Core.Path.{sym, ap, ap₂, subst, _∙_}
+use Prim.Native.Nat.{ℕ, _<_}
+use native.Mathlib.Omega.{arith}
+use borrow.Author.Needs.{needs}
+use lib.ListN.{length}
+use Rattle.packed_arcs.specs.Entries.{entry}
+use Rattle.arc_index.specs.ArcIndex.{noArc}
+use Rattle.match_bids.specs.Bidding.{assignedMates, assignedPotentials}
+use Rattle.arc_index.specs.Columns.{recordHeads}
+use Rattle.arc_index.proofs.Columns.{tails-len}
+use Rattle.match_bids.proofs.assign.Statement.{statement}
+use Rattle.match_bids.proofs.assign.Tie as tie
+
+note-requires : tie.Need-note-requires
+note-requires c κs =
+    let s = c .before .before .before .before .before in
+    let R = s .pre in
+    let a = s .args in
+    let rs = a .records .now in
+    let mate = a .mate .now in
+    subst
+    (λ (k : ℕ). ((k < length mate) × (entry mate k < noArc → (entry mate k < length rs) × (entry (recordHeads rs) (entry mate k) < length mate))) × ((a .t < length mate) × (a .e < noArc)))
+    (sym (c .before .tail-at .ensures))
+    ((R .tail, λ k. (omega (arith, R .matched k .0, tails-len rs), R .matched k .1)), (R .right, omega (arith, R .arc, R .few)))
+
+price-requires : tie.Need-price-requires
+price-requires c κs =
+    let R = c .before .before .before .before .before .before .before .before .before .before .pre in
+    (omega (arith, c .before .before .before .before .before .before .tail-at .ensures, R .tail, R .same-len), omega (arith, R .right, R .same-len), omega (arith, c .before .weight-at .ensures, R .covers))
+
+returns : tie.Need-returns
+returns c =
+    let a = c .before .before .before .before .before .before .before .before .before .before .before .before .before .args in (
+      c .before .before .before .before .before .before .before .note .ensures ∙ ap (λ (v : ℕ). assignedMates (recordHeads (a .records .now)) (a .mate .now) v (a .t) (a .e)) (c .before .before .before .before .before .before .before .before .before .tail-at .ensures),
+      c .before .before .price .ensures ∙ ap₂ (λ (v w : ℕ). assignedPotentials (a .pi .now) v (a .t) (a .u) w) (c .before .before .before .before .before .before .before .before .before .tail-at .ensures) (c .before .before .before .before .weight-at .ensures),
+    )
+
+pub assign-spec : {M : Type 1} → statement M
+assign-spec =
+    tie.close
+    (tie.spec
+    (λ c κs. omega (arith, c .before .before .before .pre .arc, tails-len (c .before .before .before .args .records .now)))
+    note-requires
+    (λ c κs. omega (arith, c .before .before .before .before .before .before .before .before .pre .arc, tails-len (c .before .before .before .before .before .before .before .before .args .records .now)))
+    price-requires
+    (λ c. search needs)
+    (λ c. search needs)
+    returns)

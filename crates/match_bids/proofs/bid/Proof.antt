@@ -1,0 +1,77 @@
+-- `match_least_cost::bids::bid` meets its contract.
+-- Assumes nothing.
+use mathlib.Core.Path.{_≡_, subst}
+use Prim.Native.Nat.{ℕ}
+use native.Mathlib.Omega.{arith}
+use borrow.Author.Needs.{needs}
+use Rattle.packed_arcs.specs.Entries.{entry}
+use Rattle.arc_index.specs.ArcIndex.{noArc}
+use Rattle.match_bids.specs.Bidding.{Cheapest, Offer}
+use Rattle.arc_index.specs.Columns.{recordTails, recordHeads, recordWeights}
+use Rattle.match_bids.proofs.Bidding.{affordable, offer, room, taken-offer, bare-of}
+use Rattle.arc_index.proofs.Columns.{tails-len}
+use Rattle.match_bids.proofs.bid.Statement.{statement}
+use Rattle.match_bids.proofs.bid.Tie as tie
+
+-- the arc that was chosen is an offer
+here : (c : tie.After-choose)
+    → let a = c .before .before .before .before .before .before .before .before .before .before .before .before .before .before .before .before .before .before .before .args in
+    let rs = a .records .now in
+    Offer (recordTails rs) (recordHeads rs) (recordWeights rs) (a .pi .now) (a .t) (c .choose .result) (c .before .before .before .before .cost-of .result)
+here c =
+    let s = c .before .before .before .before .before .before .before .before .before .before .before .before .before .before .before .before .before .before .before in
+    let rs = s .args .records .now in
+    let e1 = c .before .before .before .before .before .before .before .before .before .before .before .cheapest .result in
+    offer (s .args .t) e1 (c .before .before .before .before .before .before .before .cheapest2 .result) (c .choose .result) (c .before .before .before .before .cost-of .result) (s .pre .0) (c .before .before .before .before .before .before .before .before .before .before .if2 .left) (c .before .before .before .before .before .before .if3 .left) (c .before .before .before .before .before .before .before .before .before .before .before .cheapest .ensures)
+    (subst (λ (k : ℕ). Cheapest (recordTails rs) (recordHeads rs) (recordWeights rs) (s .args .pi .now) (s .args .t) k (c .before .before .before .before .before .before .before .cheapest2 .result)) (c .before .before .before .before .before .before .before .before .before .tail-at .ensures) (c .before .before .before .before .before .before .before .cheapest2 .ensures))
+    (c .before .before .before .before .cost-of .ensures) (c .before .before .before .if4 .left) (c .choose .ensures)
+
+-- before that t was exposed
+exposed : (c : tie.Else1) → entry (c .before .before .before .before .before .before .args .mate .now) (c .before .before .before .before .before .before .args .t) ≡ noArc
+exposed c = let s = c .before .before .before .before .before .before in bare-of (s .args .t) (s .pre .0) (s .pre .1 .1) (c .if1 .left)
+
+cheapest-requires : tie.Need-cheapest-requires
+cheapest-requires c κs = let s = c .before .before .before .before .before .before .before in ((s .pre .0 .index, omega (arith, s .pre .1 .1, s .pre .0 .graph .small)), affordable (s .pre .0))
+
+tail-at-requires : tie.Need-tail-at-requires
+tail-at-requires c κs = let s = c .before .before .before .before .before .before .before .before .before in omega (arith, c .before .cheapest .ensures .arc (c .if2 .left), tails-len (s .args .records .now))
+
+cheapest-requires-2 : tie.Need-cheapest-requires-2
+cheapest-requires-2 c κs = let s = c .before .before .before .before .before .before .before .before .before .before .before in ((s .pre .0 .index, omega (arith, s .pre .1 .1, s .pre .0 .graph .small)), affordable (s .pre .0))
+
+cost-of-requires : tie.Need-cost-of-requires
+cost-of-requires c κs = let s = c .before .before .before .before .before .before .before .before .before .before .before .before .before .before in (affordable (s .pre .0), omega (arith, c .before .before .cheapest2 .ensures .arc (c .before .if3 .left), tails-len (s .args .records .now)))
+
+choose-requires : tie.Need-choose-requires
+choose-requires c κs =
+    let s = c .before .before .before .before .before .before .before .before .before .before .before .before .before .before .before .before .before .before in
+    (affordable (s .pre .0), omega (arith, c .before .before .before .before .before .before .before .before .before .before .cheapest .ensures .arc (c .before .before .before .before .before .before .before .before .before .if2 .left), tails-len (s .args .records .now)), s .pre .0 .pairs .len)
+
+assign-requires : tie.Need-assign-requires
+assign-requires c κs = let s = c .before .before .before .before .before .before .before .before .before .before .before .before .before .before .before .before .before .before .before .before .before in room (s .pre .0) (s .pre .1 .0) (s .pre .1 .1) (exposed (c .before .before .before .before .before .before .before .before .before .before .before .before .before .before .before)) (here (c .before .before))
+
+returns-5 : tie.Need-returns-5
+returns-5 c = let s = c .before .before .before .before .before .before .before .before .before .before .before .before .before .before .before .before .before .before .before .before .before .before .before .before .before .before in taken-offer (s .pre .0) (s .pre .1 .0) (s .pre .1 .1) (exposed (c .before .before .before .before .before .before .before .before .before .before .before .before .before .before .before .before .before .before .before .before)) (here (c .before .before .before .before .before .before .before)) _ _ (c .before .before .before .before .assign .ensures .0) (c .before .before .before .before .assign .ensures .1)
+
+pub bid-spec : {M : Type 1} → statement M
+bid-spec =
+    tie.close
+    (tie.spec
+    (λ c. search needs)
+    (λ c. search needs)
+    (λ c. c .before .before .before .before .before .before .pre .0)
+    cheapest-requires
+    (λ c. search needs)
+    (λ c. c .before .before .before .before .before .before .before .before .before .pre .0)
+    tail-at-requires
+    cheapest-requires-2
+    (λ c. search needs)
+    (λ c. c .before .before .before .before .before .before .before .before .before .before .before .before .before .pre .0)
+    cost-of-requires
+    (λ c. search needs)
+    (λ c. c .before .before .before .before .before .before .before .before .before .before .before .before .before .before .before .before .pre .0)
+    choose-requires
+    assign-requires
+    (λ c. search needs)
+    (λ c. search needs)
+    returns-5)

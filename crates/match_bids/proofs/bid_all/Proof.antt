@@ -1,0 +1,16 @@
+-- `match_least_cost::bids::bid_all` meets its contract.
+-- Assumes nothing.
+use borrow.Author.Needs.{needs}
+use Rattle.match_bids.proofs.Bidding.{sized, resized}
+use Rattle.match_bids.proofs.bid_all.Statement.{statement}
+use Rattle.match_bids.proofs.bid_all.Tie as tie
+
+bid-round-requires-2 : tie.Need-bid-round-requires-2
+bid-round-requires-2 c κs = sized (c .before .before .before .before .before .before .bid-round .ensures)
+
+returns : tie.Need-returns
+returns c = resized (c .before .before .before .before .before .before .before .before .before .before .before .bid-round .ensures .priced .len) (c .before .before .before .before .bid-round2 .ensures)
+
+pub bid-all-spec : {M : Type 1} → statement M
+bid-all-spec =
+    tie.close (tie.spec (λ c κs. search needs) bid-round-requires-2 (λ c. search needs) (λ c. search needs) returns)

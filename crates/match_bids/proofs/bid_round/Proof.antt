@@ -1,0 +1,54 @@
+-- `match_least_cost::bids::bid_round` meets its contract. The loop's invariant: the state.
+-- Assumes nothing.
+use mathlib.Core.Path.{sym, _∙_}
+use Prim.Native.Nat.{_-_, _≤_}
+use native.Mathlib.Omega.{arith}
+use borrow.Author.Needs.{needs}
+use lib.ListN.{length}
+use Rattle.arc_index.specs.Columns.{recordTails, recordHeads, recordWeights}
+use Rattle.match_state.specs.Matching.{State}
+use Rattle.match_bids.proofs.Bidding.{sized, resized}
+use Rattle.match_bids.proofs.bid_round.Statement.{statement}
+use Rattle.match_bids.proofs.bid_round.Tie as tie
+
+abbrev Inv-loop : tie.InvT-loop
+Inv-loop h records links mate₀ pi₀ t₀ mate pi t = (h ≤ t) × State h (length pi₀) (recordTails records) (recordHeads records) (recordWeights records) links mate pi
+
+abbrev μ-loop : tie.MeasureT-loop
+μ-loop h records links mate₀ pi₀ t₀ mate pi t = length pi₀ - t
+
+loop-holds : tie.Need-loop-holds Inv-loop μ-loop
+loop-holds c = (omega arith, c .before .before .before .before .pre)
+
+bid-requires : tie.Need-bid-requires Inv-loop μ-loop
+bid-requires c κs = let l = c .before .before .before .loop in (sized (l .inv .1), (l .inv .0, c .before .before .loop-test .taken))
+
+loop-less : tie.Need-loop-less Inv-loop μ-loop
+loop-less c = let l = c .before .before .before .before .before .before .before .before .loop in omega (arith, c .before .before .before .before .before .before .before .loop-test .taken, l .inv .1 .priced .len)
+
+loop-again : tie.Need-loop-again Inv-loop μ-loop
+loop-again c = let l = c .before .before .before .before .before .before .before .before .loop in (omega (arith, l .inv .0), resized (l .inv .1 .priced .len) (c .before .before .before .before .bid .ensures))
+
+same-length : tie.Need-same-length Inv-loop μ-loop
+same-length c = c .before .loop .inv .1 .pairs .len ∙ sym (c .before .before .before .before .before .before .pre .pairs .len)
+
+same-length-2 : tie.Need-same-length-2 Inv-loop μ-loop
+same-length-2 c = c .before .loop .inv .1 .priced .len
+
+returns : tie.Need-returns Inv-loop μ-loop
+returns c = c .before .loop .inv .1
+
+pub bid-round-spec : {M : Type 1} → statement M
+bid-round-spec =
+    tie.close
+    (tie.spec
+    Inv-loop
+    μ-loop
+    loop-holds
+    bid-requires
+    (λ c. search needs)
+    loop-less
+    loop-again
+    same-length
+    same-length-2
+    returns)

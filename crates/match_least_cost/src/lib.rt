@@ -1,0 +1,86 @@
+// A perfect matching of least cost in a bipartite network, by augmenting paths of least reduced cost; or marks that show that there is none.
+// Left vertices are those below h, and every arc leads from a left vertex to a right one. What is not within the limits is refused, and then nothing is changed.
+ghost use mathlib.Core.Path.{_≡_};
+ghost use Prim.Native.Nat.{_+_};
+ghost use lib.ListN.{length, replicate};
+ghost use Rattle.packed_arcs.specs.Entries.{zeroList};
+ghost use Rattle.arc_index.specs.ArcIndex.{noArc};
+ghost use Rattle.arc_index.specs.Columns.{recordTails, recordHeads, recordWeights};
+ghost use Rattle.match_state.specs.Matching.{Bipartite};
+ghost use Rattle.match_least_cost.specs.Outcome.{FindOutcome, MatchOutcome};
+use arc_index::End;
+use arc_index::NO_ARC;
+use arc_index::index;
+use match_bids::bid_all;
+use limits::is_matchable;
+use match_rounds::serve_all;
+use packed_arcs::clearing::clear_amounts;
+use packed_arcs::clearing::clear_potentials;
+use results::write_amounts;
+use results::write_marks;
+
+mod limits;
+mod results;
+
+// What was found: a perfect matching, that there is none, or that the input is not within the limits.
+pub enum Match {
+    Perfect,
+    Deficient,
+    Refused,
+}
+
+// The search on arrays in which nothing is matched.
+fn find(
+    records: &[u32],
+    links: &mut [u16],
+    mate: &mut [u16],
+    pi: &mut [u32],
+    dist: &mut [u32],
+    par: &mut [u16],
+    order: &mut [u8],
+    x: &mut [u16],
+) -> Match
+    requires { ⌜ Bipartite (length (now dist)) (length (now pi)) (recordTails (now records)) (recordHeads (now records)) (recordWeights (now records)) × (length (now pi) ≡ length (now dist) + length (now dist)) ⌝ }
+    requires { ⌜ (length (now links) ≡ 256 + length (now records)) × (length (now par) ≡ length (now dist)) × (length (now order) ≡ length (now dist)) × (length (now x) ≡ length (now records)) ⌝ }
+    requires { ⌜ (now mate ≡ replicate (length (now pi)) noArc) × (now pi ≡ zeroList (length (now pi))) ⌝ }
+    ensures { λ r. ⌜ FindOutcome (length (now (dist .entry))) (length (now (pi .entry))) (recordTails (now (records .entry))) (recordHeads (now (records .entry))) (recordWeights (now (records .entry))) (now (pi .exit)) (now (x .exit)) r ⌝ }
+{
+    let h = dist.len();
+    index(records, End::Head, links);
+    bid_all(h, records, links, mate, pi);
+    let t = serve_all(records, links, mate, pi, dist, par, order);
+    if t < mate.len() {
+        write_marks(t, records, mate, dist, pi);
+        clear_amounts(x);
+        return Match::Deficient;
+    }
+    write_amounts(records, mate, x);
+    Match::Perfect
+}
+
+// For a perfect matching its amounts, and potentials that show that none is cheaper; for none amounts of 0, and in place of potentials marks that show it.
+pub fn solve(records: &[u32], h: usize, pi: &mut [u32], x: &mut [u16]) -> Match
+    ensures { λ r. ⌜ MatchOutcome (now (records .entry)) h (now (pi .entry)) (now (x .entry)) (now (pi .exit)) (now (x .exit)) r ⌝ }
+{
+    let n = pi.len();
+    let m = records.len();
+    if !is_matchable(records, h, n, x.len()) {
+        return Match::Refused;
+    }
+    clear_potentials(pi);
+    let mut links = [0u16; 4352];
+    let mut mate = [NO_ARC; 254];
+    let mut dist = [0u32; 127];
+    let mut par = [0u16; 127];
+    let mut order = [0u8; 127];
+    find(
+        records,
+        &mut links[..256 + m],
+        &mut mate[..n],
+        pi,
+        &mut dist[..h],
+        &mut par[..h],
+        &mut order[..h],
+        x,
+    )
+}

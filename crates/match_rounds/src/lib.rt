@@ -1,0 +1,113 @@
+// Right vertices that are exposed, matched one after the other.
+ghost use mathlib.Core.Path.{_≡_};
+ghost use Prim.Native.Nat.{_<_, _≤_};
+ghost use lib.ListN.{length};
+ghost use Rattle.packed_arcs.specs.Entries.{entry};
+ghost use Rattle.arc_index.specs.ArcIndex.{noArc};
+ghost use Rattle.arc_index.specs.Columns.{recordTails, recordHeads, recordWeights};
+ghost use Rattle.match_state.specs.Matching.{State};
+ghost use Rattle.match_rounds.specs.Serving.{Served, PassOutcome};
+use arc_index::NO_ARC;
+use match_augmenting::augment::augment;
+use match_augmenting::raise::raise;
+use match_search::search;
+
+// The order of the vertex that was reached: after all others.
+const LAST: u8 = 255;
+
+// Matches the exposed right vertex t, at least cost: whether an exposed left vertex was reached. If not, nothing is changed but the arrays of the search.
+fn serve(
+    t: usize,
+    records: &[u32],
+    links: &[u16],
+    mate: &mut [u16],
+    pi: &mut [u32],
+    dist: &mut [u32],
+    par: &mut [u16],
+    order: &mut [u8],
+) -> bool
+    requires { ⌜ State (length (now dist)) (length (now pi)) (recordTails (now records)) (recordHeads (now records)) (recordWeights (now records)) (now links) (now mate) (now pi) ⌝ }
+    requires { ⌜ (length (now dist) ≤ t) × (t < length (now pi)) × (entry (now mate) t ≡ noArc) × (length (now par) ≡ length (now dist)) × (length (now order) ≡ length (now dist)) ⌝ }
+    ensures { λ r. ⌜ Served (length (now (dist .entry))) (length (now (pi .entry))) (recordTails (now (records .entry))) (recordHeads (now (records .entry))) (recordWeights (now (records .entry))) (now (links .entry)) (now (mate .entry)) t (now (dist .exit)) (now (mate .exit)) (now (pi .exit)) r ⌝ }
+{
+    let r = search(t, records, links, mate, pi, dist, par, order);
+    if dist.len() <= r {
+        return false;
+    }
+    let d = dist[r];
+    raise(t, d, records, links, mate, dist, pi);
+    order[r] = LAST;
+    augment(r, t, records, links, pi, par, order, mate);
+    true
+}
+
+// Matches the right vertex t where it is exposed: whether it is matched then.
+fn serve_exposed(
+    t: usize,
+    records: &[u32],
+    links: &[u16],
+    mate: &mut [u16],
+    pi: &mut [u32],
+    dist: &mut [u32],
+    par: &mut [u16],
+    order: &mut [u8],
+) -> bool
+    requires { ⌜ State (length (now dist)) (length (now pi)) (recordTails (now records)) (recordHeads (now records)) (recordWeights (now records)) (now links) (now mate) (now pi) ⌝ }
+    requires { ⌜ (length (now dist) ≤ t) × (t < length (now pi)) × (length (now par) ≡ length (now dist)) × (length (now order) ≡ length (now dist)) ⌝ }
+    ensures { λ r. ⌜ Served (length (now (dist .entry))) (length (now (pi .entry))) (recordTails (now (records .entry))) (recordHeads (now (records .entry))) (recordWeights (now (records .entry))) (now (links .entry)) (now (mate .entry)) t (now (dist .exit)) (now (mate .exit)) (now (pi .exit)) r ⌝ }
+{
+    if mate[t] < NO_ARC {
+        return true;
+    }
+    serve(t, records, links, mate, pi, dist, par, order)
+}
+
+// Matches every step-th right vertex that is exposed, from the first on: one that cannot be matched, or the number of vertices.
+fn pass(
+    step: usize,
+    records: &[u32],
+    links: &[u16],
+    mate: &mut [u16],
+    pi: &mut [u32],
+    dist: &mut [u32],
+    par: &mut [u16],
+    order: &mut [u8],
+) -> usize
+    requires { ⌜ State (length (now dist)) (length (now pi)) (recordTails (now records)) (recordHeads (now records)) (recordWeights (now records)) (now links) (now mate) (now pi) ⌝ }
+    requires { ⌜ (0 < step) × (step ≤ 16) × (length (now par) ≡ length (now dist)) × (length (now order) ≡ length (now dist)) ⌝ }
+    ensures { λ r. ⌜ PassOutcome (length (now (dist .entry))) (length (now (pi .entry))) (recordTails (now (records .entry))) (recordHeads (now (records .entry))) (recordWeights (now (records .entry))) (now (links .entry)) step (now (dist .exit)) (now (mate .exit)) (now (pi .exit)) r ⌝ }
+{
+    let mut t = dist.len();
+    while t < mate.len() {
+        if !serve_exposed(t, records, links, mate, pi, dist, par, order) {
+            return t;
+        }
+        t += step;
+    }
+    mate.len()
+}
+
+// Matches every right vertex: one that cannot be matched, or the number of vertices. Every sixteenth comes first, then every fourth: where costs rise along the vertices, each search is then shorter.
+pub fn serve_all(
+    records: &[u32],
+    links: &[u16],
+    mate: &mut [u16],
+    pi: &mut [u32],
+    dist: &mut [u32],
+    par: &mut [u16],
+    order: &mut [u8],
+) -> usize
+    requires { ⌜ State (length (now dist)) (length (now pi)) (recordTails (now records)) (recordHeads (now records)) (recordWeights (now records)) (now links) (now mate) (now pi) ⌝ }
+    requires { ⌜ (length (now par) ≡ length (now dist)) × (length (now order) ≡ length (now dist)) ⌝ }
+    ensures { λ r. ⌜ PassOutcome (length (now (dist .entry))) (length (now (pi .entry))) (recordTails (now (records .entry))) (recordHeads (now (records .entry))) (recordWeights (now (records .entry))) (now (links .entry)) 1 (now (dist .exit)) (now (mate .exit)) (now (pi .exit)) r ⌝ }
+{
+    let first = pass(16, records, links, mate, pi, dist, par, order);
+    if first < mate.len() {
+        return first;
+    }
+    let second = pass(4, records, links, mate, pi, dist, par, order);
+    if second < mate.len() {
+        return second;
+    }
+    pass(1, records, links, mate, pi, dist, par, order)
+}
