@@ -8,7 +8,7 @@ use lib.ListN.{length}
 use Rattle.prelude.specs.Checks.{Check, firstBroken, Hold}
 use Rattle.prelude.specs.Lists.{Every}
 use Rattle.prelude.proofs.Settle.{hold-append, hold-left, hold-right, Numbered, numbered-append, none-broken, part-refused, part-passed}
-use Rattle.network.specs.Limits.{mostArcs}
+use Rattle.arc_records.specs.Limits.{mostArcs}
 use Rattle.network.specs.Question.{Opened, Allowed}
 use Rattle.network.specs.Tests.{openingChecks, readingAll}
 use Rattle.network.proofs.Allowed.{opening-rule, opening-numbered, reading-rule, reading-few, reading-numbered}

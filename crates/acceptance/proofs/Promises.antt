@@ -7,7 +7,7 @@ use native.Mathlib.Omega.{arith}
 use Rattle.prelude.specs.Checks.{Hold}
 use Rattle.prelude.specs.Lists.{Every}
 use Rattle.prelude.proofs.Lists.{every-map}
-use Rattle.network.specs.Network.{Arc}
+use Rattle.arc_records.specs.Arcs.{Arc}
 use Rattle.network.specs.Question.{Question, shortestPath, maximumFlow, assignment, acyclicity, unasked, Setting, asks, EndsFor, Opened, Allowed, Admissible}
 use Rattle.network.specs.Tests.{openingChecks, readingAll}
 use Rattle.network.proofs.Allowed.{asked-least, opening-test, reading-test}

@@ -11,7 +11,7 @@ use Rattle.prelude.specs.Checks.{firstBroken, Hold}
 use Rattle.prelude.specs.Lists.{listTo}
 use Rattle.prelude.proofs.Lists.{split, listTo-length}
 use Rattle.prelude.proofs.Settle.{settled, settle-append, hold-append, none-broken, part-refused}
-use Rattle.network.specs.Network.{Arc}
+use Rattle.arc_records.specs.Arcs.{Arc}
 use Rattle.network.specs.Question.{Setting}
 use Rattle.network.specs.Tests.{readingChecks, readingAll}
 use Rattle.network.proofs.Allowed.{reading-append, one-numbered}

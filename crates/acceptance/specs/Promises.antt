@@ -4,7 +4,7 @@ use mathlib.Core.Path.{_≡_}
 use mathlib.Core.List.{List}
 use Prim.Native.Nat.{ℕ}
 use Rattle.prelude.specs.Lists.{Every}
-use Rattle.network.specs.Network.{Arc}
+use Rattle.arc_records.specs.Arcs.{Arc}
 use Rattle.network.specs.Question.{Setting, Admissible}
 use Rattle.format.specs.Files.{settingIn, networkFile, arcsIn}
 use Rattle.format.specs.Promises.{Byte}

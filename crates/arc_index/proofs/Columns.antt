@@ -4,7 +4,7 @@ use mathlib.Core.Path.{_≡_, _∙_, ap}
 use mathlib.Core.List.{List}
 use Prim.Native.Nat.{ℕ}
 use lib.ListN.{length, length-map, List·getD-map}
-use Rattle.network.specs.Network.{Arc, wordArc, wordArcs}
+use Rattle.arc_records.specs.Arcs.{Arc, wordArc, wordArcs}
 use Rattle.packed_arcs.specs.Entries.{entry}
 use Rattle.arc_index.specs.Columns.{recordTails, recordHeads, recordWeights}
 

@@ -6,7 +6,7 @@ use Prim.Native.Nat.{ℕ, _<_, _≤_}
 use native.Mathlib.Omega.{arith}
 use lib.ListN.{length, length-map, List·getD-map}
 use Rattle.prelude.specs.Lists.{Every}
-use Rattle.network.specs.Network.{Arc, wordArc, wordArcs}
+use Rattle.arc_records.specs.Arcs.{Arc, wordArc, wordArcs}
 use Rattle.packed_arcs.specs.Entries.{entry}
 use Rattle.packed_arcs.specs.PackedArcs.{tailOf, headOf}
 use Rattle.packed_arcs.proofs.ArcColumns.{tail-at, head-at}

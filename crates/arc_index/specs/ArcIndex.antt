@@ -7,7 +7,7 @@ use lib.Dec.{eqb, leb, ltb}
 use lib.ListN.{length, set, replicate}
 use Rattle.prelude.specs.Choice.{pick}
 use Rattle.prelude.specs.Lists.{listTo}
-use Rattle.network.specs.Network.{wordArc, wordArcs}
+use Rattle.arc_records.specs.Arcs.{wordArc, wordArcs}
 use Rattle.packed_arcs.specs.Entries.{entry}
 use Rattle.packed_arcs.specs.PackedArcs.{tailOf, headOf, tailsOf, headsOf}
 use Rattle.arc_index.specs.declared.End.{End}

@@ -2,7 +2,7 @@
 -- Assumes nothing.
 use mathlib.Core.List.{List, map}
 use Prim.Native.Nat.{ℕ}
-use Rattle.network.specs.Network.{wordArcs}
+use Rattle.arc_records.specs.Arcs.{wordArcs}
 
 -- The tails of the arcs of the records.
 abbrev pub recordTails : List ℕ → List ℕ

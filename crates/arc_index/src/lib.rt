@@ -6,7 +6,7 @@ ghost use lib.ListN.{length, replicate, set};
 ghost use Rattle.prelude.specs.Choice.{pick};
 ghost use Rattle.prelude.specs.Lists.{listTo};
 ghost use Rattle.arc_index.specs.ArcIndex.{noArc, indexOf, addedBelow, indexFrom, linksOf, recordEnd, recordEnds, indexable};
-use network::arc_in;
+use arc_records::arc_in;
 
 pub mod packed;
 

@@ -6,7 +6,7 @@ use mathlib.Core.Bool.{Bool, true, false}
 use mathlib.Core.List.{List, [], _∷_, _++_}
 use Prim.Native.Nat.{ℕ, suc}
 use Rattle.prelude.specs.Choice.{pick}
-use Rattle.network.specs.Network.{Arc}
+use Rattle.arc_records.specs.Arcs.{Arc}
 use Rattle.network.specs.Question.{Question, shortestPath, maximumFlow, assignment, acyclicity, unasked, Setting, Answer, value, none, TrueFor}
 use Rattle.network.proofs.IdleArcs.{SameButIdle, end, keep, first, empty-idle, same-maximum}
 use Rattle.calendar.specs.Schedule.{emptied, leftFor, leftFrom, openFrom}

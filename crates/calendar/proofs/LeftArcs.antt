@@ -10,7 +10,7 @@ use lib.ListN.{length, length-append}
 use Rattle.prelude.specs.Choice.{pick}
 use Rattle.prelude.specs.Lists.{Every, listTo}
 use Rattle.prelude.proofs.Lists.{every-append, listTo-length}
-use Rattle.network.specs.Network.{Arc}
+use Rattle.arc_records.specs.Arcs.{Arc}
 use Rattle.network.specs.Question.{Question, shortestPath, maximumFlow, assignment, acyclicity, unasked, Setting, asks, SidesFor, Allowed}
 use Rattle.calendar.specs.Schedule.{emptied, closedFor, leftFor, leftFrom, openFrom}
 

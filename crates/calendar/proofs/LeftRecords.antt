@@ -12,9 +12,9 @@ use lib.Seq.{sets, length-sets}
 use borrow.Rule.Slice.PartMut.{midOf, putMid}
 use Rattle.prelude.specs.Lists.{listTo}
 use Rattle.prelude.proofs.Lists.{listTo-length}
-use Rattle.network.specs.Network.{Arc, arcOf, arcHeld, wordArc}
+use Rattle.arc_records.specs.Arcs.{Arc, arcOf, arcHeld, wordArc}
 use Rattle.network.specs.Question.{Setting, Question, shortestPath, maximumFlow, assignment, acyclicity, unasked}
-use Rattle.network.specs.declared.Record.{Record}
+use Rattle.arc_records.specs.declared.Record.{Record}
 use Rattle.file_fields.proofs.Writing.{then-sets}
 use Rattle.format.specs.Files.{arcBytes, lowArc, arcAt, settingIn, networkHeader, networkFile}
 use Rattle.format.specs.Promises.{ArcFits}

@@ -11,7 +11,7 @@ use lib.Seq.{sets, sets-eq}
 use borrow.Author.Tests.{le-leb, lt-leb}
 use Rattle.prelude.specs.Checks.{Check, _unless_, settle, firstBroken}
 use Rattle.prelude.proofs.Settle.{Numbered, numbered-append, none-broken, hold-left, part-refused, part-passed}
-use Rattle.network.specs.Limits.{mostArcs}
+use Rattle.arc_records.specs.Limits.{mostArcs}
 use Rattle.format.specs.Files.{countIn}
 use Rattle.format.specs.Replies.{WriterSaid, wrote, declined}
 use Rattle.acceptance.specs.Acceptance.{acceptanceChecks}

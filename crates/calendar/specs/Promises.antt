@@ -6,7 +6,7 @@ use mathlib.Core.List.{List, []}
 use Prim.Native.Nat.{ℕ, _≤_}
 use lib.ListN.{length, take, drop}
 use Rattle.prelude.specs.Lists.{Every}
-use Rattle.network.specs.Network.{Arc}
+use Rattle.arc_records.specs.Arcs.{Arc}
 use Rattle.network.specs.Question.{Setting, asks, Answer, TrueAnswer}
 use Rattle.format.specs.Files.{settingIn, countIn}
 use Rattle.format.specs.Promises.{Byte}

@@ -5,7 +5,7 @@ use mathlib.Core.List.{List, [], _∷_, flatMap}
 use Prim.Native.Nat.{ℕ, _+_, _*_}
 use lib.ListN.{length}
 use lib.Seq.{sets}
-use Rattle.network.specs.Network.{Arc, arcHeld}
+use Rattle.arc_records.specs.Arcs.{Arc, arcHeld}
 use Rattle.format.specs.Files.{arcBytes}
 use Rattle.calendar.specs.declared.records.Left.{Left}
 use Rattle.calendar.specs.declared.records.Left.the-variants.{One, Nothing}

@@ -7,7 +7,7 @@ use lib.Dec.{leb}
 use lib.ListN.{length, drop}
 use Rattle.prelude.specs.Checks.{Check, _unless_, settle}
 use Rattle.prelude.specs.Choice.{pick}
-use Rattle.network.specs.Network.{Arc, arcOf}
+use Rattle.arc_records.specs.Arcs.{Arc, arcOf}
 use Rattle.network.specs.Question.{Question, shortestPath, maximumFlow, assignment, acyclicity, unasked, asks}
 use Rattle.format.specs.Files.{settingIn, countIn, arcsIn, networkFile}
 use Rattle.format.specs.Replies.{WriterSaid, wrote, declined}

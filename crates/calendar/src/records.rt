@@ -2,7 +2,7 @@
 ghost use mathlib.Core.Path.{_≡_};
 ghost use mathlib.Core.List.{map};
 ghost use Prim.Native.Nat.{_<_};
-ghost use Rattle.network.specs.Network.{arcHeld};
+ghost use Rattle.arc_records.specs.Arcs.{arcHeld};
 ghost use Rattle.network.specs.Question.{asks};
 ghost use Rattle.checks.specs.Held.{questionHeld};
 ghost use Rattle.format.specs.Files.{lowArc, settingIn, arcIn};
@@ -12,8 +12,8 @@ ghost use Rattle.calendar.specs.Records.{leftHeld, RecordsIn};
 use checks::rows::Question;
 use checks::rows::question_of;
 use format::network_file;
-use network::Record;
-use network::arc_in;
+use arc_records::Record;
+use arc_records::arc_in;
 use tide_windows::is_open;
 
 // What is left of a record: one record, or nothing.

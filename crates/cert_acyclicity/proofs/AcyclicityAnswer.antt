@@ -12,8 +12,9 @@ use lib.ListN.{length, length-map}
 use Rattle.prelude.specs.Lists.{Every, all, at}
 use Rattle.prelude.proofs.Integers.{signed, parts-sub}
 use Rattle.prelude.proofs.Tested.{both-on}
-use Rattle.network.specs.Limits.{mostVertices, mostArcs, mostPotential}
-use Rattle.network.specs.Network.{wordArc, wordArcs, loadsOf, sumOf, leaving, entering}
+use Rattle.arc_records.specs.Limits.{mostVertices, mostArcs, mostPotential}
+use Rattle.arc_records.specs.Arcs.{wordArc, wordArcs}
+use Rattle.network.specs.Network.{loadsOf, sumOf, leaving, entering}
 use Rattle.network.specs.Question.{acyclicity, Setting, Allowed, Answer, value, none, asks, Admissible}
 use Rattle.network.proofs.Rules.{ZeroOrOne, NoAmount, Rises, AcyclicCertificate, CyclicCertificate, RulesHold}
 use Rattle.packed_arcs.specs.Entries.{entry, zeroList}

@@ -1,7 +1,7 @@
 // Certificates for acyclicity: the ranks of a topological order, or the arcs of a cycle.
 ghost use mathlib.Core.Path.{_≡_};
 ghost use lib.ListN.{length};
-ghost use Rattle.network.specs.Network.{wordArcs};
+ghost use Rattle.arc_records.specs.Arcs.{wordArcs};
 ghost use Rattle.network.specs.Question.{acyclicity, asks, Admissible};
 ghost use Rattle.checks.specs.Held.{asked};
 ghost use Rattle.cert_instances.specs.Certify.{findingNumber, Solution};
@@ -9,7 +9,7 @@ use cert_instances::Finding;
 use cert_instances::vertices::NumberKind;
 use cert_instances::vertices::write;
 use checks::HeldSetting;
-use network::MOST_VERTICES;
+use arc_records::MOST_VERTICES;
 use order_path::Found;
 
 // What is found, and numbers and amounts that certify it.

@@ -17,8 +17,9 @@ use Rattle.prelude.proofs.Integers.{signed, parts-sub}
 use Rattle.prelude.proofs.Lists.{every-zip, every-map}
 use Rattle.prelude.proofs.Sums.{sumTo-ext}
 use Rattle.prelude.proofs.Tested.{both-on}
-use Rattle.network.specs.Limits.{mostArcs, mostWeight, mostPotential}
-use Rattle.network.specs.Network.{Arc, arcOf, Load, arcs, wordArc, wordArcs, loadsOf, sumOf, leaving, entering, balance, degree, cost, crosses}
+use Rattle.arc_records.specs.Limits.{mostArcs, mostWeight, mostPotential}
+use Rattle.arc_records.specs.Arcs.{Arc, arcOf, wordArc, wordArcs}
+use Rattle.network.specs.Network.{Load, arcs, loadsOf, sumOf, leaving, entering, balance, degree, cost, crosses}
 use Rattle.network.specs.Question.{Question, assignment, Setting, Allowed, PumpToSite, SidesFor, EvenFor, Answer, value, none, asks, pumps, sites, Admissible}
 use Rattle.network.specs.Certificate.{marked, assignmentBalance}
 use Rattle.network.proofs.Rules.{InRange, ZeroOrOne, NoAmount, Closed, Feasible, AssignmentBalances, AssignmentCertificate, NoAssignmentCertificate, RulesHold}

@@ -1,7 +1,7 @@
 // Certificates for an assignment: a perfect matching of least cost with its potentials, or marks that show that there is none.
 ghost use mathlib.Core.Path.{_≡_};
 ghost use lib.ListN.{length};
-ghost use Rattle.network.specs.Network.{wordArcs};
+ghost use Rattle.arc_records.specs.Arcs.{wordArcs};
 ghost use Rattle.network.specs.Question.{assignment, asks, Admissible};
 ghost use Rattle.checks.specs.Held.{asked};
 ghost use Rattle.cert_instances.specs.Certify.{findingNumber, Solution};
@@ -10,7 +10,7 @@ use cert_instances::vertices::NumberKind;
 use cert_instances::vertices::write;
 use checks::HeldSetting;
 use match_least_cost::Match;
-use network::MOST_VERTICES;
+use arc_records::MOST_VERTICES;
 
 // What is found, and numbers and amounts that certify it.
 fn answer_assignment(

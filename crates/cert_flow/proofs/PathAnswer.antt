@@ -10,8 +10,8 @@ use lib.Dec.{eqb, ltb}
 use lib.IntN.{ℤ}
 use lib.ListN.{length, length-map, length-replicate}
 use borrow.Author.Tests.{lt-ltb, eq-eqb}
-use Rattle.network.specs.Limits.{mostPotential}
-use Rattle.network.specs.Network.{Arc, wordArc, wordArcs}
+use Rattle.arc_records.specs.Limits.{mostPotential}
+use Rattle.arc_records.specs.Arcs.{Arc, wordArc, wordArcs}
 use Rattle.network.specs.Question.{Question, shortestPath, Setting, TwoVertices, EndsFor, asks, Admissible}
 use Rattle.packed_arcs.specs.Entries.{entry, zeroList}
 use Rattle.packed_arcs.specs.PackedArcs.{tailsOf, headsOf, costsOf, capacitiesOf}

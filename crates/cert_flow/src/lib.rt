@@ -1,7 +1,7 @@
 // Certificates for the two questions that the engine is asked: a path that it sends one unit along, and a flow of as much as goes.
 ghost use mathlib.Core.Path.{_≡_};
 ghost use lib.ListN.{length};
-ghost use Rattle.network.specs.Network.{wordArcs};
+ghost use Rattle.arc_records.specs.Arcs.{wordArcs};
 ghost use Rattle.network.specs.Question.{shortestPath, maximumFlow, asks, Admissible};
 ghost use Rattle.checks.specs.Held.{asked};
 ghost use Rattle.cert_instances.specs.Certify.{findingNumber, Solution};
@@ -12,8 +12,8 @@ use cert_instances::vertices::stand;
 use cert_instances::vertices::write;
 use checks::HeldSetting;
 use flow_maximum::Sent;
-use network::MOST_ARCS;
-use network::MOST_VERTICES;
+use arc_records::MOST_ARCS;
+use arc_records::MOST_VERTICES;
 
 // More units than all arcs together can carry.
 const PLENTY: u32 = 134213633;

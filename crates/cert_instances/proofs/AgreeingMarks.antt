@@ -10,7 +10,8 @@ use Rattle.prelude.specs.Choice.{indicator}
 use Rattle.prelude.specs.Integers.{eqZ}
 use Rattle.prelude.specs.Lists.{Every}
 use Rattle.prelude.proofs.Sums.{sumTo-ext}
-use Rattle.network.specs.Network.{Arc, Load, arcs, crosses, cut, sumAcross}
+use Rattle.arc_records.specs.Arcs.{Arc}
+use Rattle.network.specs.Network.{Load, arcs, crosses, cut, sumAcross}
 use Rattle.network.specs.Question.{Setting, pumps, sites}
 use Rattle.network.specs.Certificate.{marked}
 use Rattle.network.proofs.Rules.{InRange, Marks, Closed, FlowCertificate, NoPathCertificate, NoAssignmentCertificate}

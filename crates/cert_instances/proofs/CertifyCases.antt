@@ -8,8 +8,8 @@ use native.Mathlib.Omega.{arith}
 use lib.IntN.{ℤ}
 use lib.ListN.{length, take}
 use Rattle.prelude.proofs.Tested.{passed, refused as failed}
-use Rattle.network.specs.Limits.{mostVertices}
-use Rattle.network.specs.Network.{Arc, wordArcs}
+use Rattle.arc_records.specs.Limits.{mostVertices}
+use Rattle.arc_records.specs.Arcs.{Arc, wordArcs}
 use Rattle.network.specs.Question.{Setting, Admissible}
 use Rattle.packed_arcs.specs.Entries.{zeroList}
 use Rattle.packed_arcs.proofs.LentParts.{zero-list-length}

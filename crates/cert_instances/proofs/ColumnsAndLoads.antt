@@ -17,9 +17,10 @@ use Rattle.prelude.specs.Lists.{Every}
 use Rattle.prelude.specs.Sums.{sumTo}
 use Rattle.prelude.proofs.Integers.{signed}
 use Rattle.prelude.proofs.Sums.{sumTo-ext, sumTo-add}
-use Rattle.network.specs.Network.{Arc, arcOf, Load, arcs, delta, sumOf, leaving, entering, cost, total, crosses, loadsOf}
+use Rattle.arc_records.specs.Arcs.{Arc, arcOf, delta}
+use Rattle.network.specs.Network.{Load, arcs, sumOf, leaving, entering, cost, total, crosses, loadsOf}
 use Rattle.network.specs.Question.{Setting}
-use Rattle.network.specs.Limits.{mostPotential}
+use Rattle.arc_records.specs.Limits.{mostPotential}
 use Rattle.network.specs.Certificate.{marked}
 use Rattle.network.proofs.Rules.{InRange, Marks, WithinCapacity}
 use Rattle.network.proofs.Sums.{delta-same, delta-other, Compared, compared, sumTo-at, sumOf-add, Inside, across}

@@ -11,8 +11,8 @@ use borrow.Author.Tests.{lt-ltb, le-leb, eq-eqb}
 use lib.ListN.{length, length-map}
 use Rattle.prelude.specs.Choice.{indicator}
 use Rattle.prelude.specs.Lists.{Every, all}
-use Rattle.network.specs.Limits.{mostVertices, mostArcs, mostWeight, mostPotential}
-use Rattle.network.specs.Network.{Arc, wordArc, wordArcs}
+use Rattle.arc_records.specs.Limits.{mostVertices, mostArcs, mostWeight, mostPotential}
+use Rattle.arc_records.specs.Arcs.{Arc, wordArc, wordArcs}
 use Rattle.network.specs.Question.{Question, shortestPath, maximumFlow, assignment, acyclicity, Setting, TwoVertices, EndsFor, WeightWithin, unasked, asks, unitCost, Admissible}
 use Rattle.network.proofs.Sums.{Inside, delta-same, delta-other}
 use Rattle.packed_arcs.specs.Entries.{entry, zeroList}

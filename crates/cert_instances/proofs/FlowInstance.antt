@@ -10,9 +10,10 @@ use lib.ListN.{length}
 use Rattle.prelude.specs.Choice.{indicator}
 use Rattle.prelude.specs.Lists.{Every}
 use Rattle.prelude.proofs.Integers.{signed}
-use Rattle.network.specs.Network.{Arc, Load, arcs, sumOf, leaving, entering, total, crosses, cut, loadsOf, sumAcross}
+use Rattle.arc_records.specs.Arcs.{Arc}
+use Rattle.network.specs.Network.{Load, arcs, sumOf, leaving, entering, total, crosses, cut, loadsOf, sumAcross}
 use Rattle.network.specs.Question.{Setting, TwoVertices, WeightWithin}
-use Rattle.network.specs.Limits.{mostWeight}
+use Rattle.arc_records.specs.Limits.{mostWeight}
 use Rattle.network.specs.Certificate.{marked}
 use Rattle.network.proofs.Rules.{WithinCapacity, FlowCertificate}
 use Rattle.network.proofs.Sound.{balance-parts}

@@ -13,9 +13,10 @@ use lib.IntN.{pos}
 use Rattle.prelude.specs.Lists.{Every, Member}
 use Rattle.prelude.proofs.Integers.{signed}
 use Rattle.prelude.proofs.Lists.{every-snoc}
-use Rattle.network.specs.Network.{Arc, Load, leaving, entering, balance, total, crosses, loadsOf}
+use Rattle.arc_records.specs.Arcs.{Arc}
+use Rattle.network.specs.Network.{Load, leaving, entering, balance, total, crosses, loadsOf}
 use Rattle.network.specs.Question.{Setting, Leads, ShortestPath, NoWalk}
-use Rattle.network.specs.Limits.{mostPotential}
+use Rattle.arc_records.specs.Limits.{mostPotential}
 use Rattle.network.specs.Certificate.{marked, pathBalance}
 use Rattle.network.proofs.Rules.{PathCertificate, NoPathCertificate, PathBalances, ZeroOrOne, NoAmount, Closed, Feasible}
 use Rattle.network.proofs.Sums.{Inside, Compared, compared, delta-same}

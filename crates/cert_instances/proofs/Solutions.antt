@@ -15,9 +15,10 @@ use Rattle.prelude.specs.Lists.{Every, all, at}
 use Rattle.prelude.proofs.Booleans.{true→T}
 use Rattle.prelude.proofs.Settle.{none-broken}
 use Rattle.prelude.proofs.Lists.{all→every, every-map, image-every}
-use Rattle.network.specs.Network.{Arc, arcs, cost, wordArc, wordArcs, loadsOf}
+use Rattle.arc_records.specs.Arcs.{Arc, wordArc, wordArcs}
+use Rattle.network.specs.Network.{arcs, cost, loadsOf}
 use Rattle.network.specs.Question.{Question, shortestPath, maximumFlow, assignment, acyclicity, Setting, Allowed, TwoVertices, EndsFor, EvenFor, SidesFor, PumpToSite, TrueFor, Answer, value, none, unasked, asks, unitCost, Admissible}
-use Rattle.network.specs.Limits.{mostArcs}
+use Rattle.arc_records.specs.Limits.{mostArcs}
 use Rattle.network.specs.Certificate.{Claim, ofValue, ofNone, claimFor}
 use Rattle.network.specs.Tests.{openingChecks, arcChecks, claimNumber}
 use Rattle.network.proofs.Allowed.{opening-rule, opening-numbered, arc-rule}

@@ -9,8 +9,9 @@ use lib.IntN.{ℤ, pos}
 use lib.ListN.{length}
 use Rattle.prelude.specs.Checks.{firstBroken}
 use Rattle.prelude.specs.Lists.{Every, all, at}
-use Rattle.network.specs.Limits.{mostArcs, mostPotential}
-use Rattle.network.specs.Network.{Arc, wordArc, wordArcs, loadsOf}
+use Rattle.arc_records.specs.Limits.{mostArcs, mostPotential}
+use Rattle.arc_records.specs.Arcs.{Arc, wordArc, wordArcs}
+use Rattle.network.specs.Network.{loadsOf}
 use Rattle.network.specs.Question.{Question, shortestPath, maximumFlow, assignment, acyclicity, unasked, Setting, asks, unitCost, Opened, Allowed, Answer, value, none, TrueAnswer}
 use Rattle.network.specs.Certificate.{Claim, ofValue, ofNone, claimFor, Certified}
 use Rattle.network.specs.Tests.{claimNumber, openingChecks, arcChecks}

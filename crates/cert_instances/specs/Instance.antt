@@ -9,8 +9,8 @@ use lib.IntN.{ℤ, pos}
 use lib.ListN.{length, replicate}
 use Rattle.prelude.specs.Choice.{pick, indicator}
 use Rattle.prelude.specs.Lists.{Every}
-use Rattle.network.specs.Limits.{mostVertices, mostArcs, mostWeight, mostPotential}
-use Rattle.network.specs.Network.{Arc, delta}
+use Rattle.arc_records.specs.Limits.{mostVertices, mostArcs, mostWeight, mostPotential}
+use Rattle.arc_records.specs.Arcs.{Arc, delta}
 use Rattle.network.specs.Question.{Setting, pumps, WeightWithin}
 use Rattle.packed_arcs.specs.Entries.{entry}
 use Rattle.flow_residual.specs.Residual.{unreached}

@@ -3,7 +3,7 @@ ghost use mathlib.Core.Path.{_≡_};
 ghost use mathlib.Core.List.{map};
 ghost use lib.ListN.{length};
 ghost use Rattle.prelude.specs.Lists.{all};
-ghost use Rattle.network.specs.Network.{arcHeld};
+ghost use Rattle.arc_records.specs.Arcs.{arcHeld};
 ghost use Rattle.network.specs.Question.{asks};
 ghost use Rattle.checks.specs.Held.{asked, questionHeld};
 ghost use Rattle.cert_instances.specs.Certify.{admissible, recordOk, capacityFor, packedFor};
@@ -13,9 +13,9 @@ use checks::opening_check;
 use checks::rows::Question;
 use checks::rows::question_of;
 use checks::rows::unit_cost;
-use network::MOST_ARCS;
-use network::Record;
-use network::arc_in;
+use arc_records::MOST_ARCS;
+use arc_records::Record;
+use arc_records::arc_in;
 use reading::arc_check;
 
 // The capacity of an arc as the engine is told it.

@@ -4,7 +4,7 @@ ghost use Rattle.prelude.specs.Checks.{firstBroken};
 ghost use Rattle.network.specs.Question.{pumps};
 ghost use Rattle.network.specs.Tests.{isAsked, evenFor, sizeOk, twoVertices, bothZero, endsFor, openingChecks};
 ghost use Rattle.checks.specs.Held.{handed, asked, questionHeld};
-use network::MOST_VERTICES;
+use arc_records::MOST_VERTICES;
 use rows::Question;
 use rows::question_of;
 

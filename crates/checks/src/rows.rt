@@ -1,11 +1,11 @@
 // The question of a number, the row of rules for a question and a claim (PANEL 5), and what the weight of an arc means (PANEL 3).
 ghost use mathlib.Core.Path.{_≡_};
-ghost use Rattle.network.specs.Network.{arcHeld};
+ghost use Rattle.arc_records.specs.Arcs.{arcHeld};
 ghost use Rattle.network.specs.Question.{questionOf, unitCost, unitsMost};
 ghost use Rattle.network.specs.Certificate.{rulesFor};
 ghost use Rattle.network.specs.Tests.{claimOf};
 ghost use Rattle.checks.specs.Held.{questionHeld, rulesHeld};
-use network::Record;
+use arc_records::Record;
 
 // The four questions, and no question.
 pub enum Question {

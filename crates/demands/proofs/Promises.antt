@@ -17,7 +17,8 @@ use Rattle.prelude.proofs.Settle.{settled, hold-append}
 use Rattle.prelude.proofs.Integers.{signed, parts-mag, parts-min}
 use Rattle.prelude.proofs.Lists.{every-map, every-zip, every-image}
 use Rattle.prelude.proofs.Permutations.{perm-refl}
-use Rattle.network.specs.Network.{Arc, withoutSelfLoops, Load, arcs}
+use Rattle.arc_records.specs.Arcs.{Arc}
+use Rattle.network.specs.Network.{withoutSelfLoops, Load, arcs}
 use Rattle.network.specs.Question.{Question, shortestPath, maximumFlow, assignment, acyclicity, unasked, Setting, asks, Opened, Allowed, Answer, TrueAnswer}
 use Rattle.network.specs.Certificate.{Claim, ofValue, ofNone, rulesFor, CertifiedBy, claimFor}
 use Rattle.network.specs.Tests.{claimNumber}

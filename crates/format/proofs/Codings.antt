@@ -10,7 +10,8 @@ use lib.ListN.{length}
 use lib.Seq.{getD-append-add}
 use Rattle.prelude.specs.Lists.{Every}
 use Rattle.prelude.proofs.Lists.{every-append}
-use Rattle.network.specs.Network.{Arc, Load, arcOf, loadOf}
+use Rattle.arc_records.specs.Arcs.{Arc, arcOf}
+use Rattle.network.specs.Network.{Load, loadOf}
 use Rattle.file_fields.specs.Bytes.{byteAt, joined16, joined32, byte16, read16, patternOf, signedOf, byte32, readSigned}
 use Rattle.file_fields.proofs.Reading.{signed-pattern}
 use Rattle.format.specs.Files.{arcBytes, loadBytes, lowArc, arcAt, loadAt}

@@ -5,7 +5,8 @@ use mathlib.Core.List.{List}
 use Prim.Native.Nat.{ℕ, _+_, _/_, _%_, _≤_, _<_}
 use native.Mathlib.Omega.{arith}
 use lib.ListN.{length}
-use Rattle.network.specs.Network.{Arc, Load, arcOf, wordArc, loadOf}
+use Rattle.arc_records.specs.Arcs.{Arc, arcOf, wordArc}
+use Rattle.network.specs.Network.{Load, loadOf}
 use Rattle.file_fields.specs.Bytes.{byteAt, joined16, joined32, read16, read32}
 use Rattle.file_fields.proofs.Reading.{byte-past, read16-past}
 use Rattle.format.specs.Files.{arcAt, loadAt}

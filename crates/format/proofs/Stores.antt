@@ -7,7 +7,8 @@ use native.Mathlib.Numerals.{add-one}
 use native.Mathlib.Omega.{arith}
 use lib.ListN.{set}
 use lib.Seq.{sets}
-use Rattle.network.specs.Network.{arcOf, wordLoad}
+use Rattle.arc_records.specs.Arcs.{arcOf}
+use Rattle.network.specs.Network.{wordLoad}
 use Rattle.network.specs.Question.{Setting}
 use Rattle.file_fields.specs.Bytes.{byte16, bytes32}
 use Rattle.file_fields.specs.Layout.{markAndVersion}

@@ -6,7 +6,8 @@ use lib.IntN.{ℤ}
 use lib.ListN.{length}
 use Rattle.prelude.specs.Checks.{Check}
 use Rattle.prelude.specs.Lists.{listTo}
-use Rattle.network.specs.Network.{Arc, Load, arcOf}
+use Rattle.arc_records.specs.Arcs.{Arc, arcOf}
+use Rattle.network.specs.Network.{Load}
 use Rattle.network.specs.Question.{Setting}
 use Rattle.file_fields.specs.Bytes.{byteAt, byte16, read16, byte32, readSigned}
 use Rattle.file_fields.specs.Layout.{markAndVersion, layout}

@@ -9,7 +9,8 @@ use lib.ListN.{length}
 use lib.Signed.{mag}
 use Rattle.prelude.specs.Checks.{Hold, firstBroken}
 use Rattle.prelude.specs.Lists.{Every}
-use Rattle.network.specs.Network.{Arc, Load}
+use Rattle.arc_records.specs.Arcs.{Arc}
+use Rattle.network.specs.Network.{Load}
 use Rattle.network.specs.Question.{Setting}
 use Rattle.format.specs.Files.{networkFile, annotationFile, settingIn, arcsIn, claimIn, numbersIn, loadsIn, networkLayout, annotationLayout}
 

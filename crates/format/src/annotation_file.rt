@@ -21,7 +21,7 @@ use file_fields::bytes::put16;
 use file_fields::bytes::put32;
 use file_fields::layout::layout_check;
 use file_fields::layout::write_mark;
-use network::Record;
+use arc_records::Record;
 
 // An arc with an amount.
 pub struct Loaded {

@@ -3,7 +3,7 @@ ghost use mathlib.Core.Path.{_≡_};
 ghost use Prim.Native.Nat.{_+_, _≤_};
 ghost use lib.ListN.{length};
 ghost use lib.Seq.{sets};
-ghost use Rattle.network.specs.Network.{arcOf, arcHeld};
+ghost use Rattle.arc_records.specs.Arcs.{arcOf, arcHeld};
 ghost use Rattle.format.specs.Files.{arcBytes, lowArc, arcAt};
 use super::inner::inner16;
 use file_fields::bytes::byte;
@@ -12,7 +12,7 @@ use file_fields::bytes::low16;
 use file_fields::bytes::number16;
 use file_fields::bytes::put_byte;
 use file_fields::bytes::put16;
-use network::Record;
+use arc_records::Record;
 
 // The fields of a file as a record.
 pub(crate) fn record_of(a: u8, b: u8, w: u16) -> Record

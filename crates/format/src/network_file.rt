@@ -3,7 +3,7 @@ ghost use mathlib.Core.Path.{_≡_};
 ghost use Prim.Native.Nat.{_-_, _*_, _/_};
 ghost use lib.Seq.{sets};
 ghost use Rattle.prelude.specs.Checks.{firstBroken};
-ghost use Rattle.network.specs.Network.{arcHeld, wordArc};
+ghost use Rattle.arc_records.specs.Arcs.{arcHeld, wordArc};
 ghost use Rattle.format.specs.Files.{networkLayout, questionIn, nIn, sIn, tIn, countIn, arcIn, networkHeader, arcBytes, lowArc};
 use super::arcs::inner_record;
 use super::arcs::put_record;
@@ -18,7 +18,7 @@ use file_fields::bytes::put_byte;
 use file_fields::bytes::put16;
 use file_fields::layout::layout_check;
 use file_fields::layout::write_mark;
-use network::Record;
+use arc_records::Record;
 
 pub fn question(file: &[u8]) -> u8
     ensures { λ r. ⌜ r ≡ questionIn (now (file .entry)) ⌝ }

@@ -14,8 +14,9 @@ use Rattle.prelude.specs.Checks.{firstBroken}
 use Rattle.prelude.specs.Lists.{Every, all, listTo}
 use Rattle.prelude.proofs.Lists.{listTo-length}
 use Rattle.prelude.proofs.Settle.{settled}
-use Rattle.network.specs.Limits.{mostVertices, mostArcs}
-use Rattle.network.specs.Network.{Arc, Load, wordArc, wordArcs, loadsOf}
+use Rattle.arc_records.specs.Limits.{mostVertices, mostArcs}
+use Rattle.arc_records.specs.Arcs.{Arc, wordArc, wordArcs}
+use Rattle.network.specs.Network.{Load, loadsOf}
 use Rattle.network.specs.Question.{Setting, Allowed}
 use Rattle.network.specs.Certificate.{claimFor}
 use Rattle.network.specs.Tests.{openingChecks, arcChecks, claimNumber}

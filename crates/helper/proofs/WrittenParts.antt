@@ -11,7 +11,8 @@ use lib.ListN.{length, getD, take, length-map, List·getD-map}
 use lib.Seq.{sets, length-sets, take-length}
 use Rattle.prelude.specs.Lists.{at, listTo}
 use Rattle.prelude.proofs.Lists.{listTo-length, listTo-take}
-use Rattle.network.specs.Network.{Arc, Load, wordArc, wordArcs, wordLoad, loadsOf}
+use Rattle.arc_records.specs.Arcs.{Arc, wordArc, wordArcs}
+use Rattle.network.specs.Network.{Load, wordLoad, loadsOf}
 use Rattle.cert_instances.proofs.ColumnsAndLoads.{loads-arcs}
 use Rattle.file_fields.specs.Bytes.{byte32, readSigned}
 use Rattle.file_fields.proofs.Writing.{then-sets}

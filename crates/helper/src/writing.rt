@@ -5,7 +5,8 @@ ghost use Prim.Native.Nat.{_+_, _*_, _≤_};
 ghost use lib.ListN.{length};
 ghost use lib.Seq.{sets};
 ghost use Rattle.prelude.specs.Lists.{listTo};
-ghost use Rattle.network.specs.Network.{wordArcs, loadsOf};
+ghost use Rattle.arc_records.specs.Arcs.{wordArcs};
+ghost use Rattle.network.specs.Network.{loadsOf};
 ghost use Rattle.file_fields.specs.Bytes.{byte32};
 ghost use Rattle.format.specs.Files.{nIn, countIn, arcIn, arcsIn, annotationHeader, loadBytes};
 ghost use Rattle.acceptance.specs.Acceptance.{AcceptedFile};
@@ -13,8 +14,8 @@ ghost use Rattle.helper.specs.Helper.{sizeFor, AnnotationIn};
 use acceptance::setting;
 use format::annotation_file;
 use format::network_file;
-use network::MOST_ARCS;
-use network::MOST_VERTICES;
+use arc_records::MOST_ARCS;
+use arc_records::MOST_VERTICES;
 
 // The records of the file, as many as there is room for, each as one number.
 fn gather(net: &[u8], records: &mut [u32])

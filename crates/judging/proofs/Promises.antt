@@ -12,7 +12,8 @@ use Rattle.prelude.specs.Lists.{Some, at}
 use Rattle.prelude.proofs.Settle.{settled, settle-append, settle-map, settle-when, hold-append, hold-left, hold-right}
 use Rattle.prelude.proofs.Lists.{every-map}
 use Rattle.prelude.proofs.Permutations.{perm-length}
-use Rattle.network.specs.Network.{Arc, Load}
+use Rattle.arc_records.specs.Arcs.{Arc}
+use Rattle.network.specs.Network.{Load}
 use Rattle.network.specs.Question.{Setting, Answer, value, none, TrueAnswer}
 use Rattle.network.specs.Certificate.{claimFor}
 use Rattle.network.specs.Tests.{openingChecks, readingChecks, readingAll, claimNumber, claimOf, answerOf}

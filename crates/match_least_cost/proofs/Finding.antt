@@ -10,8 +10,8 @@ use lib.Dec.{T, eqb, leb, ltb, eqb→eq, leb→le, ltb→lt}
 use lib.ListN.{length, take, replicate, length-replicate, getD-replicate}
 use Rattle.prelude.specs.Lists.{all}
 use Rattle.prelude.proofs.Booleans.{true→T, and-left, and-right}
-use Rattle.network.specs.Limits.{mostArcs, mostWeight}
-use Rattle.network.specs.Network.{wordArc}
+use Rattle.arc_records.specs.Limits.{mostArcs, mostWeight}
+use Rattle.arc_records.specs.Arcs.{wordArc}
 use Rattle.packed_arcs.specs.Entries.{entry, zeroList}
 use Rattle.packed_arcs.proofs.LentParts.{zero-at}
 use Rattle.packed_arcs.proofs.ListLoops.{each-entry}

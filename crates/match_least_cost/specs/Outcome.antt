@@ -9,8 +9,8 @@ use lib.ListN.{length}
 use Rattle.prelude.specs.Choice.{pick, indicator}
 use Rattle.prelude.specs.Sums.{sumTo}
 use Rattle.prelude.specs.Lists.{all}
-use Rattle.network.specs.Limits.{mostArcs, mostWeight}
-use Rattle.network.specs.Network.{wordArc}
+use Rattle.arc_records.specs.Limits.{mostArcs, mostWeight}
+use Rattle.arc_records.specs.Arcs.{wordArc}
 use Rattle.packed_arcs.specs.Entries.{entry, flowAt, zeroList}
 use Rattle.arc_index.specs.ArcIndex.{noArc}
 use Rattle.vertex_queue.specs.VertexQueue.{waitsNot}

@@ -3,8 +3,8 @@ ghost use mathlib.Core.Path.{_≡_};
 ghost use Rattle.prelude.specs.Lists.{all};
 ghost use Rattle.match_least_cost.specs.Outcome.{leadsAcross, matchable};
 use arc_index::NO_ARC;
-use network::MOST_WEIGHT;
-use network::arc_in;
+use arc_records::MOST_WEIGHT;
+use arc_records::arc_in;
 
 // The most left vertices.
 const MOST_LEFT: usize = 127;

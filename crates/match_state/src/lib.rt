@@ -4,7 +4,7 @@ ghost use Prim.Native.Nat.{_<_};
 ghost use lib.ListN.{length};
 ghost use Rattle.packed_arcs.specs.Entries.{entry};
 ghost use Rattle.arc_index.specs.Columns.{recordTails, recordHeads, recordWeights};
-use network::arc_in;
+use arc_records::arc_in;
 
 pub fn tail_at(e: usize, records: &[u32]) -> usize
     requires { ⌜ e < length (now records) ⌝ }

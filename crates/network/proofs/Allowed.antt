@@ -15,8 +15,8 @@ use lib.ListN.{length}
 use Rattle.prelude.specs.Checks.{Check, Hold}
 use Rattle.prelude.specs.Lists.{Every}
 use Rattle.prelude.proofs.Settle.{hold-append, Numbered, numbered-append}
-use Rattle.network.specs.Limits.{mostVertices, mostArcs, mostWeight}
-use Rattle.network.specs.Network.{Arc}
+use Rattle.arc_records.specs.Limits.{mostVertices, mostArcs, mostWeight}
+use Rattle.arc_records.specs.Arcs.{Arc}
 use Rattle.network.specs.Question.{Question, shortestPath, maximumFlow, assignment, acyclicity, questionOf, unasked, Setting, asks, pumps, Asked, EvenFor, Sized, TwoVertices, BothZero, EndsFor, Opened, SidesFor, Joins, WeightWithin, Allowed}
 use Rattle.network.specs.Certificate.{rulesFor, MayClaim}
 use Rattle.network.specs.Tests.{isAsked, evenFor, sizeOk, twoVertices, bothZero, endsFor, endsOk, openingChecks, sidesFor, joinsOk, weightOk, arcChecks, readingChecks, readingAll, claimOf, claimOk}

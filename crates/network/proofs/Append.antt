@@ -10,7 +10,8 @@ use lib.ListN.{length}
 use Rattle.prelude.specs.Choice.{indicator}
 use Rattle.prelude.specs.Lists.{Every}
 use Rattle.prelude.proofs.Integers.{signed, parts-add, parts-sub}
-use Rattle.network.specs.Network.{Arc, Load, arcs, delta, sumOf, leaving, entering, balance, crosses, sumAcross}
+use Rattle.arc_records.specs.Arcs.{Arc, delta}
+use Rattle.network.specs.Network.{Load, arcs, sumOf, leaving, entering, balance, crosses, sumAcross}
 use Rattle.network.proofs.Sound.{balance-parts}
 
 -- ---- among others

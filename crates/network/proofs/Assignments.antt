@@ -10,7 +10,8 @@ use Rattle.prelude.specs.Lists.{Every}
 use Rattle.prelude.specs.Sums.{sumTo}
 use Rattle.prelude.proofs.Lists.{every-map, every-image}
 use Rattle.prelude.proofs.Sums.{sumTo-ext, sumTo-none, sumTo-split}
-use Rattle.network.specs.Network.{Arc, Load, arcs, sumOf, leaving, entering, degree, cost, crosses}
+use Rattle.arc_records.specs.Arcs.{Arc}
+use Rattle.network.specs.Network.{Load, arcs, sumOf, leaving, entering, degree, cost, crosses}
 use Rattle.network.specs.Question.{Setting, Assignment}
 use Rattle.network.proofs.Sums.{by-vertex, sumOf-none, sumOf-le, sumOf-add, closed-arc}
 

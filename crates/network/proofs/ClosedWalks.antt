@@ -10,7 +10,8 @@ use lib.Signed.{_<ℤ_}
 use Rattle.prelude.specs.Lists.{Every, Member}
 use Rattle.prelude.proofs.Integers.{posPart, negPart, parts-lt, parts-sub, signed}
 use Rattle.prelude.proofs.Lists.{every-at}
-use Rattle.network.specs.Network.{Arc, Load, arcs, SelfLoop, delta, sumOf, leaving, entering, balance}
+use Rattle.arc_records.specs.Arcs.{Arc, delta}
+use Rattle.network.specs.Network.{Load, arcs, SelfLoop, sumOf, leaving, entering, balance}
 use Rattle.network.specs.Question.{Leads, ClosedWalk}
 use Rattle.network.proofs.Sums.{Inside}
 use Rattle.network.proofs.Paths.{Taken, take-one, Found, Unit-flow, walk-in}

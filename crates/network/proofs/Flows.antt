@@ -9,7 +9,8 @@ use native.Mathlib.Nat.{mul-le-mul-left, mul-le-mul-right}
 use native.Mathlib.Omega.{arith}
 use Rattle.prelude.specs.Choice.{indicator}
 use Rattle.prelude.specs.Lists.{Every}
-use Rattle.network.specs.Network.{Arc, Load, arcs, delta, sumOf, leaving, entering, crosses, cut, sumAcross}
+use Rattle.arc_records.specs.Arcs.{Arc, delta}
+use Rattle.network.specs.Network.{Load, arcs, sumOf, leaving, entering, crosses, cut, sumAcross}
 use Rattle.network.specs.Question.{Setting, Flow}
 use Rattle.network.proofs.Sums.{Compared, compared, Inside, sumTo-at, across, crossing}
 

@@ -9,7 +9,8 @@ use lib.IntN.{pos}
 use lib.Signed.{_≤ℤ_}
 use Rattle.prelude.specs.Lists.{Every}
 use Rattle.prelude.proofs.Integers.{signed}
-use Rattle.network.specs.Network.{Arc, SelfLoop, Load, arcs, delta, sumOf, leaving, entering, balance}
+use Rattle.arc_records.specs.Arcs.{Arc, delta}
+use Rattle.network.specs.Network.{SelfLoop, Load, arcs, sumOf, leaving, entering, balance}
 use Rattle.network.specs.Question.{Setting, Flow, MaximumFlow}
 use Rattle.network.proofs.Rules.{WithinCapacity}
 use Rattle.network.proofs.Sound.{balance-parts}

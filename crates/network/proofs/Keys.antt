@@ -8,7 +8,8 @@ use Rattle.prelude.specs.Lists.{Every, Perm}
 use Rattle.prelude.proofs.Lists.{every-map, image-every}
 use Rattle.prelude.proofs.Permutations.{perm-unmap}
 use Rattle.field.specs.Field.{p}
-use Rattle.network.specs.Network.{Arc, key}
+use Rattle.arc_records.specs.Arcs.{Arc}
+use Rattle.network.specs.Network.{key}
 use Rattle.network.specs.Question.{Setting, Opened, Allowed}
 use Rattle.network.specs.Promises.{Keyed, KeysBelow, KeysDiffer}
 

@@ -10,7 +10,8 @@ use Rattle.prelude.specs.Lists.{Every, Member, Perm, none, keep, swap, then}
 use Rattle.prelude.proofs.Integers.{signed}
 use Rattle.prelude.proofs.Lists.{every-map}
 use Rattle.prelude.proofs.Permutations.{perm-sym, perm-every, perm-some, perm-lift}
-use Rattle.network.specs.Network.{Arc, Load, arcs, delta, sumOf, balance, cost}
+use Rattle.arc_records.specs.Arcs.{Arc, delta}
+use Rattle.network.specs.Network.{Load, arcs, sumOf, balance, cost}
 use Rattle.network.specs.Question.{Question, shortestPath, maximumFlow, assignment, acyclicity, unasked, Setting, asks, Answer, value, Walk, Flow, Assignment, ClosedWalk, TrueFor, TrueAnswer}
 use Rattle.network.specs.Question.{none as no-answer}
 

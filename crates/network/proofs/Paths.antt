@@ -11,7 +11,8 @@ use Rattle.prelude.specs.Choice.{indicator}
 use Rattle.prelude.specs.Lists.{Every, Member}
 use Rattle.prelude.proofs.Booleans.{indicator-true}
 use Rattle.prelude.proofs.Lists.{every-at}
-use Rattle.network.specs.Network.{Arc, Load, arcs, delta, sumOf, leaving, entering, cost, total, crosses}
+use Rattle.arc_records.specs.Arcs.{Arc, delta}
+use Rattle.network.specs.Network.{Load, arcs, sumOf, leaving, entering, cost, total, crosses}
 use Rattle.network.specs.Question.{Setting, Leads, NoWalk}
 use Rattle.network.proofs.Sums.{Compared, compared, delta-same, delta-other, Inside, closed-arc}
 

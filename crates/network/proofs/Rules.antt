@@ -17,7 +17,7 @@ use Rattle.prelude.specs.Lists.{Every}
 use Rattle.prelude.proofs.Booleans.{and-left, and-right, both, implied, if-so, not→false, false→not}
 use Rattle.prelude.proofs.Integers.{eqZ→eq, eq→eqZ, signed}
 use Rattle.prelude.proofs.Lists.{every-map}
-use Rattle.network.specs.Limits.{mostPotential}
+use Rattle.arc_records.specs.Limits.{mostPotential}
 use Rattle.network.specs.Network.{Load, arcs, sumOf, balance, cost, crosses, cut}
 use Rattle.network.specs.Question.{Question, shortestPath, maximumFlow, assignment, acyclicity, unasked, Setting, asks, TwoVertices, EndsFor, Answer, value, none}
 use Rattle.network.specs.Certificate.{Rules, pathRules, flowRules, assignmentRules, noPathRules, noAssignmentRules, acyclicRules, cyclicRules, rulesFor, marked, separates, pathBalance, assignmentBalance, potentialGap, markedPumps, markedSites, nodeMeets, CertifiedBy, claimFor, Certified}

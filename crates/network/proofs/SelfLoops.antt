@@ -17,8 +17,9 @@ use Rattle.prelude.specs.Lists.{Every, Member}
 use Rattle.prelude.proofs.Booleans.{false→not}
 use Rattle.prelude.proofs.Integers.{signed, parts-add, parts-sub}
 use Rattle.prelude.proofs.Lists.{every-map, every-image, image-every, every-insert, every-of}
-use Rattle.network.specs.Limits.{mostWeight}
-use Rattle.network.specs.Network.{Arc, arcOf, SelfLoop, withoutSelfLoops, Load, arcs, delta, sumOf, balance, crosses, sumAcross, total}
+use Rattle.arc_records.specs.Limits.{mostWeight}
+use Rattle.arc_records.specs.Arcs.{Arc, arcOf, delta}
+use Rattle.network.specs.Network.{SelfLoop, withoutSelfLoops, Load, arcs, sumOf, balance, crosses, sumAcross, total}
 use Rattle.network.specs.Question.{Question, shortestPath, maximumFlow, assignment, acyclicity, unasked, Setting, asks, Asked, unitCost, unitsMost, TwoVertices, EndsFor, Opened, SidesFor, Joins, Allowed, Admissible, Answer, value, none, Leads, Walk, ShortestPath, NoWalk, TrueFor, TrueAnswer}
 use Rattle.network.specs.Certificate.{marked, endsOf, Sums, sumsOf, Rules, noShortcut, staysInside, pathRules, flowRules, noPathRules, rulesFor, CertifiedBy, claimFor, Certified}
 use Rattle.network.specs.Promises.{PathOrFlow, MayCarry}

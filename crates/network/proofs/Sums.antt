@@ -15,7 +15,8 @@ use Rattle.prelude.specs.Sums.{sumTo}
 use Rattle.prelude.proofs.Booleans.{indicator-on, indicator-off}
 use Rattle.prelude.proofs.Lists.{every-map, every-image}
 use Rattle.prelude.proofs.Sums.{sumTo-ext, sumTo-add, sumTo-none}
-use Rattle.network.specs.Network.{Arc, Load, arcs, delta, sumOf, leaving, entering, crosses}
+use Rattle.arc_records.specs.Arcs.{Arc, delta}
+use Rattle.network.specs.Network.{Load, arcs, sumOf, leaving, entering, crosses}
 
 -- ---- the same vertex, or not
 

@@ -12,8 +12,9 @@ use Rattle.prelude.specs.Choice.{pick, implies}
 use Rattle.prelude.specs.Integers.{eqZ, between, natural}
 use Rattle.prelude.specs.Lists.{Every}
 use Rattle.prelude.specs.Sums.{sumToℤ, count}
-use Rattle.network.specs.Limits.{mostPotential}
-use Rattle.network.specs.Network.{Arc, Load, arcs, balance, sumOf, sumAcross}
+use Rattle.arc_records.specs.Limits.{mostPotential}
+use Rattle.arc_records.specs.Arcs.{Arc}
+use Rattle.network.specs.Network.{Load, arcs, balance, sumOf, sumAcross}
 use Rattle.network.specs.Question.{Question, shortestPath, maximumFlow, assignment, acyclicity, unasked, Setting, asks, pumps, sites, unitCost, unitsMost, Answer, value, none}
 
 -- ---- what the rules speak of

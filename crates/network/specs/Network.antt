@@ -1,35 +1,13 @@
 -- A network as a list of arcs, amounts on its arcs, and what is summed over them.
--- Assumes nothing.
 use mathlib.Core.Path.{_≡_}
 use mathlib.Core.Bool.{Bool, not, _&&_}
 use mathlib.Core.List.{List, [], _∷_, map}
-use Prim.Native.Nat.{ℕ, _+_, _*_, _/_, _%_}
+use Prim.Native.Nat.{ℕ, _+_, _*_}
 use lib.Dec.{eqb}
 use lib.IntN.{ℤ, pos, _-ℤ_}
 use Rattle.prelude.specs.Choice.{pick, indicator}
-use Rattle.network.specs.declared.Record.{Record}
-
--- A channel record (PANEL 2): an arc from its tail to its head, whose weight is a length, a capacity or a cost.
-pub record Arc : Type 0 where
-  pub tail : ℕ
-  pub head : ℕ
-  pub weight : ℕ
-
--- The arc from a to b with the number w.
-abbrev pub arcOf : ℕ → ℕ → ℕ → Arc
-arcOf a b w = record { tail = a; head = b; weight = w }
-
--- The arc of a record as the code holds it.
-abbrev pub arcHeld : Record → Arc
-arcHeld r = arcOf (r .tail) (r .head) (r .weight)
-
--- The arc of the four bytes of a record read as one number: tail × 16777216 + head × 65536 + weight.
-abbrev pub wordArc : ℕ → Arc
-wordArc k = arcOf (k / 16777216 % 256) (k / 65536 % 256) (k % 65536)
-
--- The arcs of a list of such numbers, in order.
-abbrev pub wordArcs : List ℕ → List Arc
-wordArcs ks = map wordArc ks
+use Rattle.arc_records.specs.declared.Record.{Record}
+use Rattle.arc_records.specs.Arcs.{Arc, arcOf, arcHeld, wordArc, delta}
 
 -- A self-loop, an arc from a vertex to itself (PANEL 2): at the gate a storage basin.
 abbrev pub SelfLoop : Arc → Type 0
@@ -70,10 +48,6 @@ unfoldable pub loadsOf : List Arc → List ℕ → List Load
 loadsOf [] xs = []
 loadsOf (e ∷ net) [] = record { arc = e; amount = 0 } ∷ loadsOf net []
 loadsOf (e ∷ net) (x ∷ xs) = record { arc = e; amount = x } ∷ loadsOf net xs
-
--- 1 where u and v are the same vertex, else 0.
-unfoldable pub delta : ℕ → ℕ → ℕ
-delta u v = indicator (eqb u v)
 
 -- The sum of amount × g over the loads.
 unfoldable pub sumOf : (Arc → ℕ) → List Load → ℕ

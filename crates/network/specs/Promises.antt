@@ -9,8 +9,9 @@ use lib.Dec.{T}
 use lib.IntN.{ℤ}
 use Rattle.prelude.specs.Lists.{Every, Member, Perm}
 use Rattle.field.specs.Field.{p}
-use Rattle.network.specs.Limits.{mostVertices, mostWeight}
-use Rattle.network.specs.Network.{Arc, arcOf, SelfLoop, withoutSelfLoops, Load, arcs, balance, crosses, key}
+use Rattle.arc_records.specs.Limits.{mostVertices, mostWeight}
+use Rattle.arc_records.specs.Arcs.{Arc, arcOf}
+use Rattle.network.specs.Network.{SelfLoop, withoutSelfLoops, Load, arcs, balance, crosses, key}
 use Rattle.network.specs.Question.{Question, shortestPath, maximumFlow, assignment, acyclicity, unasked, Setting, asks, Asked, Sized, EndsFor, Opened, Joins, Allowed, WeightWithin, Answer, value, none, TrueAnswer}
 use Rattle.network.specs.Certificate.{Claim, MayClaim, claimFor, marked, sumsOf, Certified}
 use Rattle.network.specs.Tests.{isAsked, sizeOk, endsOk, joinsOk, weightOk, claimOk, answerOf, Passed}

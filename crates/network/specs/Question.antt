@@ -10,8 +10,9 @@ use lib.ListN.{length}
 use lib.Signed.{_≤ℤ_}
 use Rattle.prelude.specs.Choice.{pick}
 use Rattle.prelude.specs.Lists.{Every, Member}
-use Rattle.network.specs.Limits.{mostVertices, mostArcs, mostWeight}
-use Rattle.network.specs.Network.{Arc, Load, arcs, leaving, entering, balance, degree, cost, total}
+use Rattle.arc_records.specs.Limits.{mostVertices, mostArcs, mostWeight}
+use Rattle.arc_records.specs.Arcs.{Arc}
+use Rattle.network.specs.Network.{Load, arcs, leaving, entering, balance, degree, cost, total}
 
 -- ---- what is asked
 

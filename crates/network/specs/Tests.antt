@@ -9,8 +9,9 @@ use Rattle.prelude.specs.Checks.{Check, _unless_}
 use Rattle.prelude.specs.Choice.{pick}
 use Rattle.prelude.specs.Lists.{all}
 use Rattle.prelude.specs.Sums.{allTo}
-use Rattle.network.specs.Limits.{mostVertices, mostArcs, mostWeight}
-use Rattle.network.specs.Network.{Arc, Load, balance}
+use Rattle.arc_records.specs.Limits.{mostVertices, mostArcs, mostWeight}
+use Rattle.arc_records.specs.Arcs.{Arc}
+use Rattle.network.specs.Network.{Load, balance}
 use Rattle.network.specs.Question.{Question, shortestPath, maximumFlow, assignment, acyclicity, unasked, Setting, asks, pumps, Answer}
 use Rattle.network.specs.Certificate.{Claim, ofValue, ofNone, marked, endsOf, Sums, sumsOf, Rules, rulesOf, nodeMeets}
 

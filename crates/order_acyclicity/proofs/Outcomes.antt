@@ -10,8 +10,8 @@ use lib.ListN.{length, length-replicate}
 use Rattle.prelude.specs.Lists.{all}
 use Rattle.prelude.proofs.Booleans.{and-left, and-right, true→T}
 use Rattle.prelude.proofs.Tested.{passed, refused as failed}
-use Rattle.network.specs.Limits.{mostVertices, mostArcs}
-use Rattle.network.specs.Network.{wordArc}
+use Rattle.arc_records.specs.Limits.{mostVertices, mostArcs}
+use Rattle.arc_records.specs.Arcs.{wordArc}
 use Rattle.packed_arcs.specs.Entries.{entry, zeroList}
 use Rattle.packed_arcs.proofs.ListLoops.{each-entry}
 use Rattle.arc_index.specs.ArcIndex.{noArc}

@@ -2,9 +2,9 @@
 ghost use mathlib.Core.Path.{_≡_};
 ghost use Rattle.prelude.specs.Lists.{all};
 ghost use Rattle.order_path.specs.Search.{joinsBelow, searchable};
-use network::MOST_ARCS;
-use network::MOST_VERTICES;
-use network::arc_in;
+use arc_records::MOST_ARCS;
+use arc_records::MOST_VERTICES;
+use arc_records::arc_in;
 
 // Does the arc of the record join vertices below n?
 fn joins_below(n: usize, word: u32) -> bool

@@ -7,8 +7,8 @@ use Prim.Native.Nat.{ℕ, _<_, _≤_}
 use lib.Dec.{eqb, leb, ltb}
 use lib.ListN.{length}
 use Rattle.prelude.specs.Lists.{all}
-use Rattle.network.specs.Limits.{mostVertices, mostArcs}
-use Rattle.network.specs.Network.{wordArc, wordArcs}
+use Rattle.arc_records.specs.Limits.{mostVertices, mostArcs}
+use Rattle.arc_records.specs.Arcs.{wordArc, wordArcs}
 use Rattle.packed_arcs.specs.Entries.{entry, zeroList, flowAt}
 use Rattle.arc_index.specs.Columns.{recordTails, recordHeads}
 use Rattle.order_path.specs.declared.Found.{Found}

@@ -5,7 +5,7 @@ use mathlib.Core.Logic.{_≢_}
 use mathlib.Core.List.{List, [], _∷_}
 use Prim.Native.Nat.{ℕ, zero, suc, _+_, _-_, _<_, _≤_}
 use lib.ListN.{length, set}
-use Rattle.network.specs.Limits.{mostVertices, mostArcs}
+use Rattle.arc_records.specs.Limits.{mostVertices, mostArcs}
 use Rattle.packed_arcs.specs.Entries.{entry, zeroList, zeroCount}
 use Rattle.arc_index.specs.ArcIndex.{noArc}
 use Rattle.arc_index.specs.Chains.{Chains}

@@ -4,7 +4,7 @@ ghost use Prim.Native.Nat.{_<_, _≤_};
 ghost use lib.ListN.{length, take};
 ghost use Rattle.packed_arcs.specs.Entries.{entry};
 ghost use Rattle.arc_index.specs.Columns.{recordTails};
-use network::arc_in;
+use arc_records::arc_in;
 
 // What stands where there is no arc, as an index.
 pub const NONE: usize = arc_index::NO_ARC as usize;

@@ -12,7 +12,8 @@ use Rattle.field.specs.Field.{p, fingerprint, product}
 use Rattle.field.specs.Promises.{misleading}
 use Rattle.field.proofs.Promises.{few-bad}
 use Rattle.field.proofs.Step.{fingerprint-snoc}
-use Rattle.network.specs.Network.{Arc, key}
+use Rattle.arc_records.specs.Arcs.{Arc}
+use Rattle.network.specs.Network.{key}
 use Rattle.points.specs.Points.{IsPoint, pointOk, printOf, emptyPrint, extendPrint, samePrint, misleadingPoints}
 use Rattle.points.specs.declared.Point.{Point}
 use Rattle.points.specs.declared.Print.{Print}

@@ -7,7 +7,8 @@ use lib.Dec.{eqb-refl}
 use Rattle.prelude.specs.Lists.{Perm}
 use Rattle.prelude.proofs.Permutations.{perm-map}
 use Rattle.field.proofs.Promises.{permutations-agree}
-use Rattle.network.specs.Network.{Arc, key}
+use Rattle.arc_records.specs.Arcs.{Arc}
+use Rattle.network.specs.Network.{key}
 use Rattle.network.proofs.Keys.{arc-keys-below, keys-tell}
 use Rattle.points.specs.Points.{printOf}
 use Rattle.points.specs.Promises.{FewMislead, SameEverywhere}

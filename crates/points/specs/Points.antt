@@ -6,7 +6,8 @@ use Prim.Native.Nat.{ℕ, _+_, _<_}
 use lib.Dec.{eqb, leb, ltb}
 use Rattle.field.specs.Field.{p, fingerprint, extended}
 use Rattle.field.specs.Promises.{misleading}
-use Rattle.network.specs.Network.{Arc, key}
+use Rattle.arc_records.specs.Arcs.{Arc}
+use Rattle.network.specs.Network.{key}
 use Rattle.points.specs.declared.Point.{Point}
 use Rattle.points.specs.declared.Print.{Print}
 use Rattle.points.specs.declared.Stream.{Stream}

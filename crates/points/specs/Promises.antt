@@ -4,7 +4,7 @@ use mathlib.Core.Path.{_≡_}
 use mathlib.Core.List.{List}
 use lib.ListN.{length}
 use Rattle.prelude.specs.Lists.{Every, Perm, AtMost}
-use Rattle.network.specs.Network.{Arc}
+use Rattle.arc_records.specs.Arcs.{Arc}
 use Rattle.network.specs.Question.{Setting, Opened, Allowed}
 use Rattle.points.specs.Points.{IsPoint, printOf, misleadingPoints}
 use Rattle.points.specs.declared.Point.{Point}

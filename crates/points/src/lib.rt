@@ -3,9 +3,10 @@ ghost use mathlib.Core.Path.{_≡_};
 ghost use mathlib.Core.List.{[], _∷_};
 ghost use lib.Dec.{leb};
 ghost use Rattle.prelude.specs.Checks.{_unless_, firstBroken};
-ghost use Rattle.network.specs.Network.{arcHeld, key};
+ghost use Rattle.arc_records.specs.Arcs.{arcHeld};
+ghost use Rattle.network.specs.Network.{key};
 ghost use Rattle.points.specs.Points.{pointOk, emptyPrint, extendPrint, samePrint};
-use network::Record;
+use arc_records::Record;
 
 // The point: a number below p.
 pub struct Point {

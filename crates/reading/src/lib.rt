@@ -1,16 +1,16 @@
 // Checks 6, 7 and 8 of an arc that is read or repeated (PANEL 6), each as a total function whose contract is the test of the network's definitions.
 ghost use mathlib.Core.Path.{_≡_};
 ghost use Rattle.prelude.specs.Checks.{firstBroken};
-ghost use Rattle.network.specs.Network.{arcHeld};
+ghost use Rattle.arc_records.specs.Arcs.{arcHeld};
 ghost use Rattle.network.specs.Tests.{sidesFor, joinsOk, arcChecks, readingChecks};
 ghost use Rattle.checks.specs.Held.{asked, questionHeld};
 use checks::HeldSetting;
 use checks::pumps;
 use checks::rows::Question;
 use checks::rows::question_of;
-use network::MOST_ARCS;
-use network::MOST_WEIGHT;
-use network::Record;
+use arc_records::MOST_ARCS;
+use arc_records::MOST_WEIGHT;
+use arc_records::Record;
 
 // 7: does the arc lead from a pump to a site, for an assignment?
 fn sides_ok(question: Question, st: HeldSetting, arc: Record) -> bool

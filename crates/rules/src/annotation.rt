@@ -6,7 +6,8 @@ ghost use lib.IntN.{pos};
 ghost use Rattle.prelude.specs.Checks.{_unless_, firstBroken};
 ghost use Rattle.prelude.specs.Choice.{implies};
 ghost use Rattle.prelude.specs.Integers.{eqZ};
-ghost use Rattle.network.specs.Network.{arcHeld, loadHeld};
+ghost use Rattle.arc_records.specs.Arcs.{arcHeld};
+ghost use Rattle.network.specs.Network.{loadHeld};
 ghost use Rattle.network.specs.Certificate.{staysInside, separates};
 ghost use Rattle.network.specs.Tests.{claimNumber, claimOf, claimOk, nodeOk};
 ghost use Rattle.checks.specs.Held.{asked, rulesHeld};
@@ -14,7 +15,7 @@ ghost use Rattle.rules.specs.Held.{endsHeld};
 use checks::HeldSetting;
 use checks::rows::Row;
 use checks::rows::row_of;
-use network::Record;
+use arc_records::Record;
 
 // What the ends of an arc have: node numbers and marks.
 pub struct Ends {

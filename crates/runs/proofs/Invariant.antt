@@ -16,8 +16,9 @@ use Rattle.prelude.specs.Choice.{pick}
 use Rattle.prelude.specs.Lists.{Every, at}
 use Rattle.prelude.proofs.Lists.{every-snoc}
 use Rattle.prelude.proofs.Settle.{hold-left, hold-right}
-use Rattle.network.specs.Limits.{mostArcs}
-use Rattle.network.specs.Network.{Arc, Load}
+use Rattle.arc_records.specs.Limits.{mostArcs}
+use Rattle.arc_records.specs.Arcs.{Arc}
+use Rattle.network.specs.Network.{Load}
 use Rattle.network.specs.Question.{Setting, Allowed}
 use Rattle.network.specs.Tests.{arcChecks, readingChecks, claimOf, claimOk, claimingChecks, Numbers, nodeOk, numberingChecks, amountOk, ruleOk, repeatingChecks}
 use Rattle.network.proofs.Allowed.{arc-rule}

@@ -14,7 +14,7 @@ use Rattle.prelude.specs.Integers.{eqZ}
 use Rattle.prelude.specs.Lists.{at}
 use Rattle.words.specs.Marks.{isMarked, withMark}
 use Rattle.words.proofs.MarkLaws.{marked-same, marked-other}
-use Rattle.network.specs.Limits.{mostVertices}
+use Rattle.arc_records.specs.Limits.{mostVertices}
 use Rattle.network.specs.Certificate.{marked}
 use Rattle.state.specs.State.{marksAfter}
 use Rattle.runs.specs.HeldAtPoint.{marksFrom, marksOf}

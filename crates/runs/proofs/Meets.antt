@@ -18,8 +18,9 @@ use Rattle.prelude.proofs.Booleans.{and-left, and-right, both}
 use Rattle.prelude.proofs.Permutations.{perm-sym, perm-length, perm-every}
 use Rattle.prelude.proofs.Settle.{settled, hold-append, hold-left, hold-right, settled-back}
 use Rattle.prelude.proofs.Sums.{allTo-at, at-allTo}
-use Rattle.network.specs.Limits.{mostArcs}
-use Rattle.network.specs.Network.{Arc, Load, arcs}
+use Rattle.arc_records.specs.Limits.{mostArcs}
+use Rattle.arc_records.specs.Arcs.{Arc}
+use Rattle.network.specs.Network.{Load, arcs}
 use Rattle.network.specs.Question.{Question, shortestPath, maximumFlow, assignment, acyclicity, unasked, Setting, asks, Allowed, Answer, TrueAnswer}
 use Rattle.network.specs.Certificate.{Claim, ofValue, ofNone, claimFor, Sums, rulesFor, rulesOf}
 use Rattle.network.specs.Tests.{readingAll, claimNumber, claimOf, claimOk, Numbers, nodeOk, amountOk, ruleOk, repeatingChecks, answerOf, Passed}

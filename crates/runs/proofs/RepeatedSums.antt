@@ -18,8 +18,9 @@ use Rattle.prelude.proofs.Integers.{posPart, negPart, signed, parts-add, parts-
 use Rattle.prelude.proofs.Lists.{every-map, image-every}
 use Rattle.words.specs.Bounded.{small, boundedSum}
 use Rattle.words.proofs.Signs.{plus-small, minus-small}
-use Rattle.network.specs.Limits.{mostVertices, mostArcs, mostWeight}
-use Rattle.network.specs.Network.{Arc, Load, arcs, delta, sumOf, leaving, entering, balance, crosses, sumAcross}
+use Rattle.arc_records.specs.Limits.{mostVertices, mostArcs, mostWeight}
+use Rattle.arc_records.specs.Arcs.{Arc, delta}
+use Rattle.network.specs.Network.{Load, arcs, sumOf, leaving, entering, balance, crosses, sumAcross}
 use Rattle.network.specs.Question.{Question, shortestPath, maximumFlow, assignment, acyclicity, unasked, unitCost, unitsMost, WeightWithin}
 use Rattle.network.specs.Certificate.{Claim, ofValue, ofNone, rulesFor}
 use Rattle.network.proofs.Append.{sumOf-snoc, arcs-snoc, across-snoc, balance-snoc, sumOf-most, across-most}

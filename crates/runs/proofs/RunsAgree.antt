@@ -12,7 +12,8 @@ use lib.ListN.{length}
 use Rattle.prelude.specs.Checks.{_unless_, settle}
 use Rattle.prelude.specs.Choice.{pick}
 use Rattle.prelude.proofs.Settle.{settled, settle-map, settle-append}
-use Rattle.network.specs.Network.{Arc, Load, arcs}
+use Rattle.arc_records.specs.Arcs.{Arc}
+use Rattle.network.specs.Network.{Load, arcs}
 use Rattle.network.specs.Question.{Setting, Opened, value, none}
 use Rattle.network.specs.Tests.{openingChecks, readingChecks, claimOf, claimingChecks, balancesOk, sumsOk}
 use Rattle.points.specs.Points.{IsPoint, pointOk}

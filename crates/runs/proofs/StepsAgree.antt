@@ -13,8 +13,9 @@ use Rattle.prelude.specs.Choice.{pick, indicator}
 use Rattle.prelude.specs.Lists.{Every, at}
 use Rattle.prelude.proofs.Lists.{every-map}
 use Rattle.words.specs.Bounded.{boundedSum}
-use Rattle.network.specs.Limits.{mostVertices, mostArcs}
-use Rattle.network.specs.Network.{Arc, Load, arcs, sumOf, balance, crosses, sumAcross}
+use Rattle.arc_records.specs.Limits.{mostVertices, mostArcs}
+use Rattle.arc_records.specs.Arcs.{Arc}
+use Rattle.network.specs.Network.{Load, arcs, sumOf, balance, crosses, sumAcross}
 use Rattle.network.specs.Question.{Setting, asks, unitCost, unitsMost, Opened}
 use Rattle.network.specs.Certificate.{marked, Sums, rulesOf}
 use Rattle.network.specs.Tests.{readingChecks, claimOf, claimingChecks, Numbers, numberingChecks, repeatingChecks, balancesOk, sumsOk, finishingChecks, answerOf}

@@ -16,7 +16,8 @@ use Rattle.prelude.proofs.Booleans.{and-left, and-right}
 use Rattle.prelude.proofs.Lists.{every-map, image-every, every→all}
 use Rattle.prelude.proofs.Permutations.{perm-sym}
 use Rattle.prelude.proofs.Sums.{at-allTo}
-use Rattle.network.specs.Network.{Arc, Load, arcs}
+use Rattle.arc_records.specs.Arcs.{Arc}
+use Rattle.network.specs.Network.{Load, arcs}
 use Rattle.network.specs.Question.{Question, shortestPath, maximumFlow, assignment, acyclicity, unasked, Setting, asks, Opened, Allowed, TrueAnswer}
 use Rattle.network.specs.Certificate.{Claim, ofValue, ofNone, claimFor, Sums, rulesFor, rulesOf, Certified}
 use Rattle.network.specs.Tests.{claimNumber, claimOf, nodeOk, amountOk, ruleOk, finishingChecks, answerOf, Passed}

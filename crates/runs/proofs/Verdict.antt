@@ -15,7 +15,8 @@ use lib.Seq.{append-snoc}
 use Rattle.prelude.specs.Checks.{Check, settle, Hold}
 use Rattle.prelude.proofs.Booleans.{fails}
 use Rattle.prelude.proofs.Settle.{settle-append}
-use Rattle.network.specs.Network.{Arc, Load, arcs}
+use Rattle.arc_records.specs.Arcs.{Arc}
+use Rattle.network.specs.Network.{Load, arcs}
 use Rattle.network.specs.Question.{Setting, Answer}
 use Rattle.network.specs.Tests.{readingChecks, readingAll, claimOf, claimingChecks, numberingChecks, repeatingChecks, finishingChecks, answerOf}
 use Rattle.points.specs.declared.Point.{Point}

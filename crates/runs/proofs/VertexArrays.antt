@@ -10,7 +10,7 @@ use lib.IntN.{ℤ, pos}
 use lib.ListN.{length, set, replicate, length-append, length-set, length-replicate, getD-replicate, List·getD-append, List·getD-eq-default}
 use lib.Seq.{getD-at, getD-set-same, getD-set-other, ext-getD}
 use Rattle.prelude.specs.Lists.{listTo, at}
-use Rattle.network.specs.Network.{delta}
+use Rattle.arc_records.specs.Arcs.{delta}
 use Rattle.network.proofs.Sums.{Compared, compared}
 
 pub length-listTo : (n : ℕ) (g : ℕ → ℤ) → length (listTo n g) ≡ n

@@ -15,7 +15,8 @@ use Rattle.prelude.specs.Choice.{pick}
 use Rattle.prelude.specs.Lists.{Every, Some, Perm, AtMost}
 use Rattle.prelude.proofs.Lists.{every-map}
 use Rattle.prelude.proofs.Settle.{settled, hold-left, none-broken, part-refused}
-use Rattle.network.specs.Network.{Arc, Load, arcs}
+use Rattle.arc_records.specs.Arcs.{Arc}
+use Rattle.network.specs.Network.{Load, arcs}
 use Rattle.network.specs.Question.{Setting, Opened, Allowed, Answer, TrueAnswer}
 use Rattle.network.specs.Tests.{openingChecks, readingChecks, claimOf, claimingChecks, numberingChecks, repeatingChecks, finishingChecks, answerOf}
 use Rattle.network.proofs.Allowed.{opening-rule, opening-test}

@@ -11,7 +11,8 @@ use lib.ListN.{length}
 use Rattle.prelude.specs.Checks.{Check, _unless_, settle}
 use Rattle.prelude.specs.Choice.{pick}
 use Rattle.prelude.specs.Lists.{at}
-use Rattle.network.specs.Network.{Arc, Load, arcs}
+use Rattle.arc_records.specs.Arcs.{Arc}
+use Rattle.network.specs.Network.{Load, arcs}
 use Rattle.network.specs.Question.{Setting, asks}
 use Rattle.network.specs.Certificate.{Claim, marked, Sums, sumsOf}
 use Rattle.network.specs.Tests.{readingChecks, claimOf, claimingChecks, Numbers, numberingChecks, repeatingChecks, finishingChecks, answerOf}

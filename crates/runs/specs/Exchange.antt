@@ -7,8 +7,9 @@ use lib.IntN.{ℤ}
 use lib.ListN.{length}
 use Rattle.prelude.specs.Checks.{Check, settle}
 use Rattle.prelude.specs.Lists.{Every, at}
-use Rattle.network.specs.Limits.{mostArcs}
-use Rattle.network.specs.Network.{Arc, Load, arcs}
+use Rattle.arc_records.specs.Limits.{mostArcs}
+use Rattle.arc_records.specs.Arcs.{Arc}
+use Rattle.network.specs.Network.{Load, arcs}
 use Rattle.network.specs.Question.{Setting, Opened, Allowed, Answer}
 use Rattle.network.specs.Certificate.{Claim, claimFor, Certified}
 use Rattle.network.specs.Tests.{readingAll, claimNumber, claimOf, claimingChecks, Numbers, numberingChecks, repeatingChecks, finishingChecks, answerOf}

@@ -6,8 +6,9 @@ use Prim.Native.Nat.{ℕ, suc}
 use lib.IntN.{ℤ, pos}
 use lib.ListN.{length, replicate}
 use Rattle.prelude.specs.Lists.{listTo, at}
-use Rattle.network.specs.Limits.{mostVertices}
-use Rattle.network.specs.Network.{Arc, arcs, balance, sumOf, sumAcross}
+use Rattle.arc_records.specs.Limits.{mostVertices}
+use Rattle.arc_records.specs.Arcs.{Arc}
+use Rattle.network.specs.Network.{arcs, balance, sumOf, sumAcross}
 use Rattle.network.specs.Question.{Setting, asks, unitCost, unitsMost}
 use Rattle.network.specs.Certificate.{marked}
 use Rattle.points.specs.Points.{printOf}

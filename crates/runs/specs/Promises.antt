@@ -9,7 +9,8 @@ use lib.IntN.{ℤ}
 use lib.ListN.{length}
 use Rattle.prelude.specs.Checks.{settle}
 use Rattle.prelude.specs.Lists.{Every, Member, Perm, AtMost, at}
-use Rattle.network.specs.Network.{Arc, Load, arcs}
+use Rattle.arc_records.specs.Arcs.{Arc}
+use Rattle.network.specs.Network.{Load, arcs}
 use Rattle.network.specs.Question.{Setting, Answer, TrueAnswer}
 use Rattle.network.specs.Certificate.{claimFor, Certified}
 use Rattle.network.specs.Tests.{claimNumber}

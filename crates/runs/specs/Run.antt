@@ -6,7 +6,8 @@ use lib.IntN.{ℤ}
 use lib.ListN.{length}
 use Rattle.prelude.specs.Checks.{settle}
 use Rattle.prelude.specs.Lists.{Some}
-use Rattle.network.specs.Network.{Arc, Load}
+use Rattle.arc_records.specs.Arcs.{Arc}
+use Rattle.network.specs.Network.{Load}
 use Rattle.network.specs.Question.{Setting, TrueAnswer}
 use Rattle.network.specs.Tests.{readingChecks}
 use Rattle.points.specs.Points.{IsPoint}

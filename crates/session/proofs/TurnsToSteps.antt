@@ -13,7 +13,8 @@ use Rattle.prelude.specs.Checks.{Check, settle, firstBroken}
 use Rattle.prelude.specs.Choice.{pick}
 use Rattle.prelude.proofs.Choice.{on, off}
 use Rattle.prelude.proofs.Settle.{settled, settle-map, Numbered, none-broken, part-refused}
-use Rattle.network.specs.Network.{Arc, Load}
+use Rattle.arc_records.specs.Arcs.{Arc}
+use Rattle.network.specs.Network.{Load}
 use Rattle.network.specs.Question.{Setting}
 use Rattle.network.specs.Tests.{answerOf}
 use Rattle.points.specs.declared.Point.{Point}

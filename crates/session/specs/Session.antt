@@ -7,7 +7,7 @@ use lib.IntN.{ℤ, pos}
 use lib.ListN.{replicate}
 use Rattle.prelude.specs.Choice.{pick}
 use Rattle.prelude.specs.Lists.{at}
-use Rattle.network.specs.Limits.{mostVertices}
+use Rattle.arc_records.specs.Limits.{mostVertices}
 use Rattle.network.specs.Certificate.{Sums}
 use Rattle.points.specs.declared.Point.{Point}
 use Rattle.totals.specs.Held.{sumsHeld}

@@ -4,7 +4,8 @@ use Prim.Native.Nat.{ℕ}
 use lib.IntN.{ℤ}
 use lib.ListN.{set}
 use Rattle.prelude.specs.Checks.{settle}
-use Rattle.network.specs.Network.{Arc, Load}
+use Rattle.arc_records.specs.Arcs.{Arc}
+use Rattle.network.specs.Network.{Load}
 use Rattle.network.specs.Question.{Setting}
 use Rattle.network.specs.Tests.{answerOf}
 use Rattle.points.specs.declared.Point.{Point}

@@ -8,7 +8,8 @@ use lib.IntN.{ℤ}
 use lib.ListN.{length}
 use Rattle.prelude.specs.Lists.{Perm, at}
 use Rattle.prelude.proofs.Permutations.{perm-refl}
-use Rattle.network.specs.Network.{Arc, wordArcs, loadsOf}
+use Rattle.arc_records.specs.Arcs.{Arc, wordArcs}
+use Rattle.network.specs.Network.{loadsOf}
 use Rattle.network.specs.Question.{Setting, TrueAnswer, Admissible}
 use Rattle.network.proofs.Promises.{one-answer, certificates-sound}
 use Rattle.cert_instances.specs.Certify.{Solution, CertifyOutcome}

@@ -6,7 +6,7 @@ use mathlib.Core.List.{List}
 use Prim.Native.Nat.{ℕ}
 use lib.IntN.{ℤ}
 use lib.ListN.{length}
-use Rattle.network.specs.Network.{Arc, wordArcs}
+use Rattle.arc_records.specs.Arcs.{Arc, wordArcs}
 use Rattle.network.specs.Question.{Setting, Answer, TrueAnswer}
 use Rattle.network.specs.Certificate.{claimFor}
 use Rattle.network.specs.Tests.{claimNumber}

@@ -18,11 +18,12 @@ use Rattle.words.specs.Bounded.{small, boundedSum}
 use Rattle.prelude.proofs.Choice.{on}
 use Rattle.prelude.proofs.Integers.{signed, parts-add}
 use Rattle.prelude.proofs.Settle.{settled, hold-left, Numbered, none-broken, part-refused, part-passed}
-use Rattle.network.specs.Network.{Arc, Load, arcHeld, loadHeld}
+use Rattle.arc_records.specs.Arcs.{Arc, arcHeld}
+use Rattle.network.specs.Network.{Load, loadHeld}
 use Rattle.network.specs.Question.{Question, shortestPath, maximumFlow, assignment, acyclicity, unasked, Setting, asks, EndsFor, Opened, unitCost}
 use Rattle.network.specs.Certificate.{Claim, ofValue, ofNone, Ends, endsOf, Sums, Rules, rulesFor, rulesOf}
 use Rattle.network.specs.Tests.{openingChecks, arcChecks}
-use Rattle.network.specs.declared.Record.{Record}
+use Rattle.arc_records.specs.declared.Record.{Record}
 use Rattle.network.proofs.Allowed.{asked-least, opening-rule, weight-rule}
 use Rattle.points.specs.Points.{pointOk, samePrint, extendStream}
 use Rattle.points.specs.declared.Point.{Point}

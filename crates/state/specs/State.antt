@@ -11,7 +11,8 @@ use Rattle.prelude.specs.Choice.{pick, indicator}
 use Rattle.prelude.specs.Integers.{eqZ}
 use Rattle.words.specs.Bounded.{boundedSum}
 use Rattle.words.specs.Marks.{isMarked, withMark}
-use Rattle.network.specs.Network.{Arc, Load, crosses}
+use Rattle.arc_records.specs.Arcs.{Arc}
+use Rattle.network.specs.Network.{Load, crosses}
 use Rattle.network.specs.Question.{Setting, asks, unitCost, unitsMost}
 use Rattle.network.specs.Certificate.{Claim, Sums}
 use Rattle.network.specs.Tests.{openingChecks, readingChecks, claimOf, claimingChecks, Numbers, numberingChecks, repeatingChecks, finishingChecks}

@@ -8,7 +8,8 @@ ghost use lib.ListN.{set};
 ghost use Rattle.prelude.specs.Checks.{_unless_, firstBroken};
 ghost use Rattle.prelude.specs.Choice.{pick};
 ghost use Rattle.prelude.specs.Lists.{at};
-ghost use Rattle.network.specs.Network.{arcHeld, loadHeld, crosses};
+ghost use Rattle.arc_records.specs.Arcs.{arcHeld};
+ghost use Rattle.network.specs.Network.{loadHeld, crosses};
 ghost use Rattle.network.specs.Tests.{arcChecks, answerOf};
 ghost use Rattle.checks.specs.Held.{handed, rulesHeld};
 ghost use Rattle.totals.specs.Held.{sumsHeld};
@@ -30,9 +31,9 @@ use groups::idle;
 use groups::leads_out;
 use groups::with_arc;
 use groups::with_number;
-use network::Balances;
-use network::Potentials;
-use network::Record;
+use arc_records::Balances;
+use arc_records::Potentials;
+use arc_records::Record;
 use points::Point;
 use points::Stream;
 use points::lists_check;
@@ -155,7 +156,7 @@ impl State {
                 why: why,
             };
         }
-        let next = with_arc(reading.point, list, network::MOST_ARCS, arc);
+        let next = with_arc(reading.point, list, arc_records::MOST_ARCS, arc);
         reading.list = next;
         self.reading = reading;
         Turn {

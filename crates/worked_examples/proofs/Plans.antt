@@ -12,7 +12,8 @@ use Rattle.prelude.specs.Lists.{Perm, all, at}
 use Rattle.prelude.specs.Sums.{allTo}
 use Rattle.prelude.proofs.Booleans.{and-left, and-right}
 use Rattle.prelude.proofs.Permutations.{perm-refl}
-use Rattle.network.specs.Network.{Arc, Load, arcs}
+use Rattle.arc_records.specs.Arcs.{Arc}
+use Rattle.network.specs.Network.{Load, arcs}
 use Rattle.network.specs.Question.{Question, Setting, asks, Opened, Answer, TrueAnswer}
 use Rattle.network.specs.Certificate.{Claim, claimFor, marked, endsOf, sumsOf, rulesOf, nodeMeets, Certified}
 use Rattle.network.specs.Tests.{amountOk, balancesOk, answerOf}

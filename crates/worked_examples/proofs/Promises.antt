@@ -5,7 +5,8 @@ use mathlib.Core.List.{flatMap}
 use Rattle.prelude.specs.Lists.{listTo}
 use Rattle.prelude.specs.Sums.{sumTo, sumToℤ, allTo}
 use Rattle.field.specs.Field.{product}
-use Rattle.network.specs.Network.{delta, sumOf, sumAcross, loadsOf}
+use Rattle.arc_records.specs.Arcs.{delta}
+use Rattle.network.specs.Network.{sumOf, sumAcross, loadsOf}
 use Rattle.network.specs.Tests.{readingAll}
 use Rattle.format.specs.Files.{networkFile}
 use Rattle.worked_examples.specs.Table.{R1, R2, R3, R4, R5, R6, L1, L2}

@@ -12,7 +12,8 @@ use lib.ListN.{length}
 use lib.Seq.{ext-getD}
 use Rattle.prelude.specs.Integers.{natural}
 use Rattle.prelude.specs.Lists.{Every, Member, at}
-use Rattle.network.specs.Network.{Arc, arcOf, total}
+use Rattle.arc_records.specs.Arcs.{Arc, arcOf}
+use Rattle.network.specs.Network.{total}
 use Rattle.network.specs.Question.{Question, shortestPath, maximumFlow, assignment, acyclicity, unasked, Setting, Walk, ShortestPath, value, none}
 use Rattle.network.specs.Certificate.{Claim, ofValue, ofNone, marked}
 use Rattle.network.proofs.Paths.{walk-above, no-walk}

@@ -7,7 +7,8 @@ use lib.IntN.{ℤ, pos, negℤ}
 use lib.ListN.{length}
 use Rattle.prelude.specs.Lists.{Every, Member, at}
 use Rattle.field.specs.Field.{Agree}
-use Rattle.network.specs.Network.{Arc, arcOf, key, Load, arcs, loadsOf}
+use Rattle.arc_records.specs.Arcs.{Arc, arcOf}
+use Rattle.network.specs.Network.{key, Load, arcs, loadsOf}
 use Rattle.network.specs.Question.{Question, shortestPath, maximumFlow, assignment, acyclicity, unasked, Setting, asks, Answer, value, none, TrueAnswer}
 use Rattle.network.specs.Certificate.{claimFor, Certified}
 use Rattle.network.specs.Tests.{claimNumber}

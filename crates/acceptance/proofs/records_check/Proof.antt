@@ -5,7 +5,7 @@ use Prim.Native.Nat.{_-_}
 use native.Mathlib.Omega.{arith}
 use borrow.Author.Needs.{needs}
 use Rattle.prelude.specs.Checks.{firstBroken}
-use Rattle.network.specs.Network.{Arc}
+use Rattle.arc_records.specs.Arcs.{Arc}
 use Rattle.network.specs.Tests.{readingChecks}
 use Rattle.checks.specs.Held.{asked}
 use Rattle.format.specs.Files.{countIn, arcIn}

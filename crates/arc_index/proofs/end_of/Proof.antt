@@ -3,7 +3,7 @@
 use mathlib.Core.Path.{ap}
 use native.Mathlib.Omega.{arith}
 use borrow.Author.Needs.{needs}
-use Rattle.network.specs.Network.{Arc}
+use Rattle.arc_records.specs.Arcs.{Arc}
 use Rattle.arc_index.proofs.end_of.Statement.{statement}
 use Rattle.arc_index.proofs.end_of.Tie as tie
 

@@ -2,7 +2,7 @@
 -- Assumes nothing.
 use Prim.Native.Nat.{_≤_}
 use native.Mathlib.Omega.{arith}
-use Rattle.network.specs.Limits.{mostArcs}
+use Rattle.arc_records.specs.Limits.{mostArcs}
 use Rattle.tide_windows.specs.Windows.{windowsIn}
 use Rattle.calendar.proofs.ScheduleReturns.{at-request, few-records, at-room, at-end}
 use Rattle.calendar.proofs.schedule.Statement.{statement}

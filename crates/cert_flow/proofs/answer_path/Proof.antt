@@ -6,7 +6,7 @@ use Prim.Native.Nat.{ℕ, _≤_}
 use borrow.Author.Needs.{needs}
 use lib.ListN.{length, take, drop}
 use denote.Ref.{now}
-use Rattle.network.specs.Limits.{mostArcs}
+use Rattle.arc_records.specs.Limits.{mostArcs}
 use Rattle.network.specs.Question.{Setting, asks}
 use Rattle.checks.specs.Held.{asked}
 use Rattle.packed_arcs.specs.Entries.{entry, zeroList}

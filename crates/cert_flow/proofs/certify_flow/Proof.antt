@@ -3,7 +3,7 @@
 use borrow.Author.Needs.{needs}
 use mathlib.Core.Path.{sym}
 use lib.ListN.{length}
-use Rattle.network.specs.Limits.{mostArcs}
+use Rattle.arc_records.specs.Limits.{mostArcs}
 use Rattle.packed_arcs.proofs.LentParts.{zero-list-length}
 use Rattle.cert_instances.proofs.CertifyCases.{one-each, lent}
 use Rattle.cert_instances.proofs.EngineInputs.{few-records}

@@ -2,7 +2,7 @@
 -- Assumes nothing.
 use mathlib.Core.Path.{sym, ap, _∙_}
 use borrow.Author.Needs.{needs}
-use Rattle.network.specs.Network.{Arc}
+use Rattle.arc_records.specs.Arcs.{Arc}
 use Rattle.arc_index.proofs.Columns.{head-is}
 use Rattle.match_state.proofs.head_at.Statement.{statement}
 use Rattle.match_state.proofs.head_at.Tie as tie

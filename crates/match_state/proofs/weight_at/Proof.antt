@@ -2,7 +2,7 @@
 -- Assumes nothing.
 use mathlib.Core.Path.{sym, ap, _∙_}
 use borrow.Author.Needs.{needs}
-use Rattle.network.specs.Network.{Arc}
+use Rattle.arc_records.specs.Arcs.{Arc}
 use Rattle.arc_index.proofs.Columns.{weight-is}
 use Rattle.match_state.proofs.weight_at.Statement.{statement}
 use Rattle.match_state.proofs.weight_at.Tie as tie

@@ -8,7 +8,7 @@ use lib.IntN.{ℤ}
 use lib.ListN.{length}
 use borrow.Author.Needs.{needs}
 use denote.Ref.{now}
-use Rattle.network.specs.Network.{wordArcs}
+use Rattle.arc_records.specs.Arcs.{wordArcs}
 use Rattle.network.specs.Question.{Setting, asks, Asked, Admissible}
 use Rattle.checks.specs.Held.{asked, questionHeld}
 use Rattle.checks.specs.declared.rows.Question.{Question}

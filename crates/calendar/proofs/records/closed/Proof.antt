@@ -4,7 +4,7 @@ use mathlib.Core.Path.{sym, ap}
 use borrow.Author.Needs.{needs}
 use Rattle.checks.specs.Held.{questionHeld}
 use Rattle.checks.specs.declared.rows.Question.{Question}
-use Rattle.network.specs.Network.{arcHeld}
+use Rattle.arc_records.specs.Arcs.{arcHeld}
 use Rattle.calendar.specs.Schedule.{closedFor}
 use Rattle.calendar.proofs.records.closed.Statement.{statement}
 use Rattle.calendar.proofs.records.closed.Tie as tie

@@ -4,7 +4,7 @@ use mathlib.Core.Path.{_≡_, ap, _∙_}
 use Prim.Native.Nat.{_<_}
 use native.Mathlib.Omega.{arith}
 use borrow.Author.Needs.{needs}
-use Rattle.network.specs.Network.{Arc, wordArc}
+use Rattle.arc_records.specs.Arcs.{Arc, wordArc}
 use Rattle.network.specs.Question.{unitCost}
 use Rattle.checks.specs.Held.{questionHeld}
 use Rattle.cert_instances.specs.Certify.{capacityFor}

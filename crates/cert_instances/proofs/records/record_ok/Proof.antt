@@ -5,7 +5,7 @@ use Prim.Native.Nat.{ℕ}
 use lib.Dec.{eqb}
 use borrow.Author.Needs.{needs}
 use Rattle.prelude.specs.Checks.{firstBroken}
-use Rattle.network.specs.Network.{Arc}
+use Rattle.arc_records.specs.Arcs.{Arc}
 use Rattle.network.specs.Tests.{arcChecks}
 use Rattle.checks.specs.Held.{asked}
 use Rattle.cert_instances.proofs.records.record_ok.Statement.{statement}

@@ -10,7 +10,7 @@ use mir.Val.{toZ, hbits}
 use mir.Facts.{toZ-pos}
 use borrow.Author.Needs.{needs, sfits-of}
 use Rattle.prelude.proofs.Filling.{Filling, fill-start, fill-turn, fill-end}
-use Rattle.network.specs.Limits.{mostPotential}
+use Rattle.arc_records.specs.Limits.{mostPotential}
 use Rattle.cert_instances.specs.Instance.{numberOf}
 use Rattle.packed_arcs.specs.Entries.{entry}
 use Rattle.cert_instances.proofs.vertices.write.Statement.{statement}

@@ -4,7 +4,7 @@ use mathlib.Core.Path.{sym, _∙_, ap}
 use Prim.Native.Nat.{_+_, _*_}
 use native.Mathlib.Omega.{arith}
 use borrow.Author.Needs.{needs}
-use Rattle.network.specs.Network.{wordArc}
+use Rattle.arc_records.specs.Arcs.{wordArc}
 use Rattle.format.proofs.Reading.{arc-past, word-arc}
 use Rattle.format.proofs.network_file.word.Statement.{statement}
 use Rattle.format.proofs.network_file.word.Tie as tie

@@ -6,7 +6,7 @@ use native.Mathlib.Omega.{arith}
 use lib.ListN.{length}
 use borrow.Author.Needs.{needs}
 use Rattle.prelude.proofs.Filling.{Filling, fill-start, fill-turn, fill-end}
-use Rattle.network.specs.Network.{wordArc}
+use Rattle.arc_records.specs.Arcs.{wordArc}
 use Rattle.format.specs.Files.{arcIn}
 use Rattle.helper.proofs.WrittenParts.{gathered}
 use Rattle.helper.proofs.writing.gather.Statement.{statement}

@@ -4,7 +4,8 @@ use mathlib.Core.List.{flatMap}
 use Prim.Native.Nat.{_*_}
 use lib.ListN.{length}
 use borrow.Author.Needs.{needs}
-use Rattle.network.specs.Network.{wordArcs, loadsOf}
+use Rattle.arc_records.specs.Arcs.{wordArcs}
+use Rattle.network.specs.Network.{loadsOf}
 use Rattle.file_fields.specs.Bytes.{byte32}
 use Rattle.format.specs.Files.{loadBytes}
 use Rattle.format.proofs.LentRests.{front-and-rest}

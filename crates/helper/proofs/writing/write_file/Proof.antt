@@ -3,7 +3,8 @@
 use mathlib.Core.Path.{refl}
 use mathlib.Core.List.{_++_, flatMap}
 use borrow.Author.Needs.{needs}
-use Rattle.network.specs.Network.{wordArcs, loadsOf}
+use Rattle.arc_records.specs.Arcs.{wordArcs}
+use Rattle.network.specs.Network.{loadsOf}
 use Rattle.file_fields.specs.Bytes.{byte32}
 use Rattle.format.specs.Files.{annotationHeader, loadBytes}
 use Rattle.format.proofs.LentRests.{front-and-rest}

@@ -3,7 +3,8 @@
 use Prim.Native.Nat.{_-_}
 use lib.ListN.{length}
 use borrow.Author.Needs.{needs}
-use Rattle.network.specs.Network.{wordArcs, loadsOf}
+use Rattle.arc_records.specs.Arcs.{wordArcs}
+use Rattle.network.specs.Network.{loadsOf}
 use Rattle.format.specs.Files.{loadBytes, loadAt}
 use Rattle.format.specs.Promises.{LoadFits}
 use Rattle.format.proofs.Codings.{loads-coded}

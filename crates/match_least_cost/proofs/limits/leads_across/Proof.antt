@@ -6,7 +6,7 @@ use native.Mathlib.Omega.{arith}
 use lib.Dec.{leb}
 use borrow.Author.Needs.{needs}
 use borrow.Author.Tests.{lt-ltb, le-ltb, le-leb, lt-leb}
-use Rattle.network.specs.Network.{Arc, wordArc}
+use Rattle.arc_records.specs.Arcs.{Arc, wordArc}
 use Rattle.match_least_cost.proofs.limits.leads_across.Statement.{statement}
 use Rattle.match_least_cost.proofs.limits.leads_across.Tie as tie
 

@@ -6,7 +6,7 @@ use borrow.Author.Needs.{needs}
 use borrow.Author.Tests.{lt-ltb, le-ltb}
 use lib.Dec.{ltb}
 use Prim.Native.Nat.{ℕ, _<_, _≤_}
-use Rattle.network.specs.Network.{Arc, wordArc}
+use Rattle.arc_records.specs.Arcs.{Arc, wordArc}
 use Rattle.order_acyclicity.proofs.limits.joins_below.Statement.{statement}
 use Rattle.order_acyclicity.proofs.limits.joins_below.Tie as tie
 

@@ -2,7 +2,7 @@
 -- Assumes nothing.
 use mathlib.Core.Path.{sym, ap, _∙_}
 use borrow.Author.Needs.{needs}
-use Rattle.network.specs.Network.{Arc}
+use Rattle.arc_records.specs.Arcs.{Arc}
 use Rattle.arc_index.proofs.Columns.{tail-is}
 use Rattle.order_path.proofs.index.tail_at.Statement.{statement}
 use Rattle.order_path.proofs.index.tail_at.Tie as tie

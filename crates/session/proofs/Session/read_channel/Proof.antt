@@ -1,7 +1,7 @@
 -- `session::Session::read_channel` meets its contract.
 -- Assumes nothing.
 use mathlib.Core.Path.{_∙_}
-use Rattle.network.specs.Network.{arcOf}
+use Rattle.arc_records.specs.Arcs.{arcOf}
 use Rattle.session.proofs.TurnsToSteps.{read-refused, read-accepted}
 use Rattle.session.proofs.Session.read_channel.Statement.{statement}
 use Rattle.session.proofs.Session.read_channel.Tie as tie

@@ -3,7 +3,7 @@
 use mathlib.Core.Path.{refl}
 use native.Mathlib.Omega.{arith}
 use lib.Dec.{ltb→lt}
-use Rattle.network.specs.Network.{arcHeld}
+use Rattle.arc_records.specs.Arcs.{arcHeld}
 use Rattle.state.specs.State.{readChecks, withRead}
 use Rattle.state.specs.Turns.{readTurn}
 use Rattle.state.proofs.Laws.{turn-refused, turn-holds, turn-accepted, read-done}

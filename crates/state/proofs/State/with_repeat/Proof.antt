@@ -6,7 +6,8 @@ use lib.IntN.{ℤ, pos}
 use mir.Syntax.{w64}
 use borrow.Author.Needs.{needs}
 use Rattle.words.proofs.Signs.{back}
-use Rattle.network.specs.Network.{arcHeld, loadHeld}
+use Rattle.arc_records.specs.Arcs.{arcHeld}
+use Rattle.network.specs.Network.{loadHeld}
 use Prim.Native.Nat.{ℕ, _+_, _*_}
 use Rattle.words.specs.Bounded.{boundedSum}
 use Rattle.network.specs.Question.{Question, asks, unitCost, unitsMost}
