@@ -9,11 +9,11 @@ ghost use Rattle.format.specs.Files.{lowArc, settingIn, arcIn};
 ghost use Rattle.tide_windows.specs.Windows.{windowsIn, isOpen};
 ghost use Rattle.calendar.specs.Schedule.{closedFor, leftFor, arcsAt};
 ghost use Rattle.calendar.specs.Records.{leftHeld, RecordsIn};
+use arc_records::Record;
+use arc_records::arc_in;
 use checks::rows::Question;
 use checks::rows::question_of;
 use format::network_file;
-use arc_records::Record;
-use arc_records::arc_in;
 use tide_windows::is_open;
 
 // What is left of a record: one record, or nothing.

@@ -5,6 +5,8 @@ ghost use Rattle.arc_records.specs.Arcs.{wordArcs};
 ghost use Rattle.network.specs.Question.{shortestPath, maximumFlow, asks, Admissible};
 ghost use Rattle.checks.specs.Held.{asked};
 ghost use Rattle.cert_instances.specs.Certify.{findingNumber, Solution};
+use arc_records::MOST_ARCS;
+use arc_records::MOST_VERTICES;
 use cert_instances::Finding;
 use cert_instances::records::pack;
 use cert_instances::vertices::NumberKind;
@@ -12,8 +14,6 @@ use cert_instances::vertices::stand;
 use cert_instances::vertices::write;
 use checks::HeldSetting;
 use flow_maximum::Sent;
-use arc_records::MOST_ARCS;
-use arc_records::MOST_VERTICES;
 
 // More units than all arcs together can carry.
 const PLENTY: u32 = 134213633;

@@ -8,17 +8,9 @@ use native.Mathlib.Omega.{arith}
 use Rattle.field.specs.Field.{p, factor, product, fingerprint, extended}
 use Rattle.field.proofs.Modular.{same, back, mul, reduced}
 
-pub fingerprint-below : (r : ℕ) (ks : List ℕ) → fingerprint r ks < p
-fingerprint-below r ks = omega arith
-
 -- the product may be reduced before the factor is multiplied in
 product-reduced : (r k : ℕ) (ks : List ℕ) → factor p r k * product p r ks % p ≡ extended r (fingerprint r ks) k
 product-reduced r k ks = (mul (same (factor p r k)) (back (reduced (product p r ks)))) .residues
-
--- a key in front
-pub fingerprint-cons : (r k : ℕ) (ks : List ℕ) → fingerprint r (k ∷ ks) ≡ extended r (fingerprint r ks) k
-unfolding product
-fingerprint-cons r k ks = product-reduced r k ks
 
 product-snoc : (q r k : ℕ) (ks : List ℕ) → product q r (ks ++ (k ∷ [])) ≡ factor q r k * product q r ks
 unfolding product

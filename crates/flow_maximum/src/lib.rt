@@ -4,9 +4,9 @@ ghost use mathlib.Core.Path.{_≡_};
 ghost use Prim.Native.Nat.{_+_};
 ghost use lib.ListN.{length};
 ghost use Rattle.flow_maximum.specs.Calls.{SolveOutcome, SendOutcome};
+use flow_preflow::preflow;
 use packed_arcs::clearing::clear_amounts;
 use packed_arcs::limits::is_sendable;
-use flow_preflow::preflow;
 use sending::index_and_send;
 use settling::finish;
 

@@ -10,9 +10,9 @@ ghost use Rattle.flow_residual.specs.PackedNetwork.{PackedPhaseState};
 use super::Sent;
 use arc_index::End;
 use arc_index::packed::index_packed;
+use flow_push::push;
 use flow_search::UNREACHED;
 use flow_search::search;
-use flow_push::push;
 
 // Nothing moves yet, so that no arc leads back, and the index by tail serves.
 pub(crate) fn search_and_push(

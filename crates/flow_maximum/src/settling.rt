@@ -8,10 +8,10 @@ ghost use Rattle.arc_index.specs.Chains.{Chains};
 ghost use Rattle.flow_moves.specs.Preflow.{PackedConserved};
 ghost use Rattle.flow_preflow.specs.Outcome.{standingAt};
 ghost use Rattle.flow_maximum.specs.Calls.{settled, SolveReady, Prepared, Finished};
+use flow_phases::run;
 use packed_arcs::clearing::clear_amounts;
 use packed_arcs::clearing::clear_potentials;
 use packed_arcs::limits::all_free;
-use flow_phases::run;
 
 // Is nothing left over at any vertex but s and t, and does no arc cost anything?
 fn is_settled(s: usize, t: usize, supply: u32, arcs: &[u64], left: &[u32]) -> bool

@@ -9,10 +9,10 @@ ghost use Rattle.arc_index.specs.Chains.{Chains};
 ghost use Rattle.flow_residual.specs.PackedNetwork.{PackedSolved, PackedPhaseState};
 ghost use Rattle.flow_residual.specs.Phase.{Nearest};
 ghost use Rattle.flow_residual.specs.Residual.{RaisedPotentials};
-use flow_search::UNREACHED;
-use flow_search::search;
 use flow_push::least;
 use flow_push::push;
+use flow_search::UNREACHED;
+use flow_search::search;
 
 // The potentials after a phase that stops at the key d.
 fn raise(d: u32, key: &[u32], pi: &mut [u32])

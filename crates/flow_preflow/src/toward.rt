@@ -6,8 +6,8 @@ use flow_discharging::draining::drain_all;
 use flow_labels::first_arc;
 use flow_labels::label_from;
 use flow_labels::next_arc;
-use packed_arcs::arcs::head_of;
 use flow_moves::shift_forward;
+use packed_arcs::arcs::head_of;
 
 // Pushes towards the root by exact labels: whether nothing is left that reaches it. The vertex shut has no label, so that nothing is pushed to it or from it.
 fn round(

@@ -216,10 +216,6 @@ target-none {need} {key} {t} T h j hj hn = ⊎-elim
     (λ p. absurd (omega (arith, p.0)))
     (T .best-of .which)
 
--- a vertex by the supply that is left: its place, and its key
-pub sent-offset : {from to cost cap x pi left need : List ℕ} {t : ℕ} → t < length left → PhaseState from to cost cap x pi left need → Fits w64 (t * 4)
-sent-offset h S = omega (arith, S .small)
-
 pub sent-inside : {N : ResidualNetwork} {left key par : List ℕ} {t : ℕ} → t < length left → SearchResult N left key par → t < length key
 sent-inside h F = omega (arith, F .key-len)
 

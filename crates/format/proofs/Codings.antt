@@ -43,9 +43,6 @@ module _ (before file : List ℕ) where
 
 -- ---- a record that fits is written whole
 
-pub low-arc : (a : Arc) → ArcFits a → lowArc a ≡ a
-low-arc a w = λ i. arcOf (mod-eq-of-lt (w .tail) i) (mod-eq-of-lt (w .head) i) (mod-eq-of-lt (w .weight) i)
-
 -- ---- 16 bits, written and read
 
 pub both-bytes : (v : ℕ) → v < 65536 → Every Byte (byte16 v)

@@ -11,6 +11,7 @@ use super::arcs::record_at;
 use super::arcs::record_of;
 use super::inner::inner16;
 use super::inner::inner32;
+use arc_records::Record;
 use file_fields::bytes::byte;
 use file_fields::bytes::bytes_after;
 use file_fields::bytes::number16;
@@ -21,7 +22,6 @@ use file_fields::bytes::put16;
 use file_fields::bytes::put32;
 use file_fields::layout::layout_check;
 use file_fields::layout::write_mark;
-use arc_records::Record;
 
 // An arc with an amount.
 pub struct Loaded {

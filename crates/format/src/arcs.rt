@@ -6,13 +6,13 @@ ghost use lib.Seq.{sets};
 ghost use Rattle.arc_records.specs.Arcs.{arcOf, arcHeld};
 ghost use Rattle.format.specs.Files.{arcBytes, lowArc, arcAt};
 use super::inner::inner16;
+use arc_records::Record;
 use file_fields::bytes::byte;
 use file_fields::bytes::low8;
 use file_fields::bytes::low16;
 use file_fields::bytes::number16;
 use file_fields::bytes::put_byte;
 use file_fields::bytes::put16;
-use arc_records::Record;
 
 // The fields of a file as a record.
 pub(crate) fn record_of(a: u8, b: u8, w: u16) -> Record

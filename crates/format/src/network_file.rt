@@ -10,6 +10,7 @@ use super::arcs::put_record;
 use super::arcs::record_at;
 use super::arcs::record_of;
 use super::inner::inner_bits32;
+use arc_records::Record;
 use file_fields::bytes::bits32;
 use file_fields::bytes::byte;
 use file_fields::bytes::bytes_after;
@@ -18,7 +19,6 @@ use file_fields::bytes::put_byte;
 use file_fields::bytes::put16;
 use file_fields::layout::layout_check;
 use file_fields::layout::write_mark;
-use arc_records::Record;
 
 pub fn question(file: &[u8]) -> u8
     ensures { λ r. ⌜ r ≡ questionIn (now (file .entry)) ⌝ }

@@ -12,10 +12,10 @@ ghost use Rattle.format.specs.Files.{nIn, countIn, arcIn, arcsIn, annotationHea
 ghost use Rattle.acceptance.specs.Acceptance.{AcceptedFile};
 ghost use Rattle.helper.specs.Helper.{sizeFor, AnnotationIn};
 use acceptance::setting;
-use format::annotation_file;
-use format::network_file;
 use arc_records::MOST_ARCS;
 use arc_records::MOST_VERTICES;
+use format::annotation_file;
+use format::network_file;
 
 // The records of the file, as many as there is room for, each as one number.
 fn gather(net: &[u8], records: &mut [u32])

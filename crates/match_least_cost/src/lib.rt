@@ -11,8 +11,8 @@ ghost use Rattle.match_least_cost.specs.Outcome.{FindOutcome, MatchOutco
 use arc_index::End;
 use arc_index::NO_ARC;
 use arc_index::index;
-use match_bids::bid_all;
 use limits::is_matchable;
+use match_bids::bid_all;
 use match_rounds::serve_all;
 use packed_arcs::clearing::clear_amounts;
 use packed_arcs::clearing::clear_potentials;

@@ -29,9 +29,6 @@ use Rattle.arc_index.proofs.Columns.{tails-len, heads-len, tail-is, head-is}
 
 -- ---- lists of zeros, and as many vertices
 
-pub zeros-length : {l : List ℕ} {n : ℕ} → l ≡ zeroList n → length l ≡ n
-zeros-length {l} {n} q = ap length q ∙ length-replicate n 0
-
 pub zeros-as : {l : List ℕ} {n m : ℕ} → n ≡ m → l ≡ zeroList n → l ≡ zeroList m
 zeros-as q z = z ∙ ap zeroList q
 

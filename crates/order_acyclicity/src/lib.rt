@@ -8,15 +8,15 @@ ghost use Rattle.order_path.specs.Search.{SearchOutcome};
 ghost use Rattle.order_path.specs.Steps.{Arcs, OrderOrCycle};
 use arc_index::End;
 use arc_index::index;
-use order_cycle::mark;
-use limits::is_searchable;
 use arc_records::MOST_ARCS;
 use arc_records::MOST_VERTICES;
-use packed_arcs::clearing::clear_amounts;
-use packed_arcs::clearing::clear_potentials;
-use order_ranking::rank_all;
+use limits::is_searchable;
+use order_cycle::mark;
 use order_path::Found;
 use order_path::index::first_arcs;
+use order_ranking::rank_all;
+use packed_arcs::clearing::clear_amounts;
+use packed_arcs::clearing::clear_potentials;
 
 mod limits;
 

@@ -23,9 +23,6 @@ zero-list-part zero k h = refl
 zero-list-part (suc n) zero h = absurd (omega arith)
 zero-list-part (suc n) (suc k) h = ap (λ (l : List ℕ). 0 ∷ l) (zero-list-part n k (omega arith))
 
-pub part-small : (n k : ℕ) (d : List ℕ) → n ≤ length d → n ≤ k → length (take n d) ≤ k
-part-small n k d h l = omega (arith, length-take-le n d h)
-
 -- ---- a part that came back as long as it was lent
 
 pub lent-again : {A : Type 0} (n : ℕ) (d e : List A) → length e ≡ n → take n (e ++ drop n d) ≡ e

@@ -44,30 +44,7 @@ listed f (suc n) = go (f n) refl (listed f n)
           counted = rw e (ap suc (w .counted) ∙ omega arith);
         }
 
--- different numbers that pass are no more than the count
-different-few : (f : ℕ → Bool) (n : ℕ) (l : List ℕ) → Distinct l → Every (Passes f n) l → length l ≤ count f n
-unfolding sumTo
-different-few f zero [] d e = omega arith
-different-few f zero (x ∷ l) d e = absurd (omega (arith, e .0 .0))
-different-few f (suc n) l d e = go (f n) refl (without ℕ-discrete n l d) (different-few f n)
-  where
-    go : (b : Bool) → f n ≡ b → Without n l → ((l : List ℕ) → Distinct l → Every (Passes f n) l → length l ≤ count f n) → length l ≤ count f n + indicator (f n)
-    go true q w below =
-        rw q (omega (
-          arith,
-          w .size,
-          below (w .rest) (w .distinct)
-              (every-zip (λ x (ne : ¬ (n ≡ x)) (a : Passes f (suc n) x). (omega arith, a .1)) (w .rest) (w .others) (w .part (Passes f (suc n)) e)),
-        ))
-    go false q w below = rw q (omega (arith, below l d (every-map (λ x (a : Passes f (suc n) x). lower x (a .0) (a .1)) l e)))
-      where
-        lower : (x : ℕ) → x < suc n → T (f x) → Passes f n x
-        lower x h t = (let ne : n ≡ x → ⊥ = (λ i. false≢true (sym q ∙ ap f i ∙ T→true (f x) t)) in omega arith, t)
-
 pub at-most→count : (f : ℕ → Bool) (n k : ℕ) → AtMost k (Passes f n) → count f n ≤ k
 at-most→count f n k h =
     let w : Listed f n = listed f n in
     subst (λ (m : ℕ). m ≤ k) (w .counted) (h (w .numbers) (w .different) (w .each))
-
-pub count→at-most : (f : ℕ → Bool) (n k : ℕ) → count f n ≤ k → AtMost k (Passes f n)
-count→at-most f n k h l d e = le-trans (different-few f n l d e) h

@@ -84,12 +84,6 @@ parts-neg (negsuc n) = (refl, refl)
 pub parts-sub : (a b : ℤ) → posPart (a -ℤ b) + (negPart a + posPart b) ≡ posPart a + negPart b + negPart (a -ℤ b)
 parts-sub a b = omega (arith, parts-add a (negℤ b), parts-neg b)
 
-pub parts-mul : (a b : ℤ) → posPart (a *ℤ b) + (posPart a * negPart b + negPart a * posPart b) ≡ posPart a * posPart b + negPart a * negPart b + negPart (a *ℤ b)
-parts-mul (pos a) (pos b) = omega arith
-parts-mul (pos a) (negsuc b) = omega (arith, parts-neg (pos (a * suc b)))
-parts-mul (negsuc a) (pos b) = omega (arith, parts-neg (pos (suc a * b)))
-parts-mul (negsuc a) (negsuc b) = omega arith
-
 -- one of the two is 0
 pub parts-min : (a : ℤ) → min (posPart a) (negPart a) ≡ 0
 parts-min (pos n) = omega arith

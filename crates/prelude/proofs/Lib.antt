@@ -8,4 +8,5 @@ pub mod Searches
 pub mod Permutations
 pub mod Sums
 pub mod Counts
+pub mod Bounds
 pub mod Filling

@@ -4,13 +4,13 @@ ghost use Rattle.prelude.specs.Checks.{firstBroken};
 ghost use Rattle.arc_records.specs.Arcs.{arcHeld};
 ghost use Rattle.network.specs.Tests.{sidesFor, joinsOk, arcChecks, readingChecks};
 ghost use Rattle.checks.specs.Held.{asked, questionHeld};
+use arc_records::MOST_ARCS;
+use arc_records::MOST_WEIGHT;
+use arc_records::Record;
 use checks::HeldSetting;
 use checks::pumps;
 use checks::rows::Question;
 use checks::rows::question_of;
-use arc_records::MOST_ARCS;
-use arc_records::MOST_WEIGHT;
-use arc_records::Record;
 
 // 7: does the arc lead from a pump to a site, for an assignment?
 fn sides_ok(question: Question, st: HeldSetting, arc: Record) -> bool

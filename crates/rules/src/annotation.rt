@@ -12,10 +12,10 @@ ghost use Rattle.network.specs.Certificate.{staysInside, separates};
 ghost use Rattle.network.specs.Tests.{claimNumber, claimOf, claimOk, nodeOk};
 ghost use Rattle.checks.specs.Held.{asked, rulesHeld};
 ghost use Rattle.rules.specs.Held.{endsHeld};
+use arc_records::Record;
 use checks::HeldSetting;
 use checks::rows::Row;
 use checks::rows::row_of;
-use arc_records::Record;
 
 // What the ends of an arc have: node numbers and marks.
 pub struct Ends {
