@@ -11,7 +11,8 @@ use Rattle.prelude.specs.Checks.{firstBroken}
 use Rattle.prelude.specs.Lists.{listTo}
 use Rattle.prelude.proofs.Lists.{every-append, listTo-length}
 use Rattle.file_fields.specs.Bytes.{byteAt, byte32, readSigned}
-use Rattle.format.specs.Files.{networkMark, annotationMark, networkSize, annotationSize, networkHeader, annotationHeader, arcBytes, loadBytes, networkFile, annotationFile, arcAt, loadAt, questionIn, nIn, sIn, tIn, settingIn, countIn, claimIn, annotationCount, arcIn, loadIn, networkLayout, annotationLayout}
+use Rattle.format.specs.Files.{networkMark, annotationMark, networkSize, annotationSize, networkHeader, annotationHeader, arcBytes, loadBytes, networkFile, annotationFile, arcAt, loadAt}
+use Rattle.format.specs.Files.{questionIn, nIn, sIn, tIn, settingIn, countIn, claimIn, annotationCount, arcIn, loadIn, networkLayout, annotationLayout}
 use Rattle.format.specs.Promises.{Byte, ArcFits, LoadFits, Signed32, NetworkRoundTrip, AnnotationRoundTrip, OnlyNetwork, OnlyAnnotation, OneLayout}
 use Rattle.format.proofs.Halves.{whole}
 use Rattle.format.proofs.Windows.{window, window-append, window-all, pair}

@@ -24,7 +24,9 @@ module _ (l : List ℕ) (i : ℕ) where
   stored-load word amount fits f g = cc (four-more i, first-byte word fits)
 
 module _ (l : List ℕ) where
-  pub stored-network-header : (st : Setting) (count : ℕ) {k₀ k₁ k₂ k₃ k₄ n : List ℕ} → k₀ ≡ sets l 0 (markAndVersion networkMark) → k₁ ≡ set k₀ 5 (st .question) → k₂ ≡ set k₁ 6 (st .n) → k₃ ≡ set k₂ 7 (st .s) → k₄ ≡ set k₃ 8 (st .t) → n ≡ sets k₄ 9 (byte16 count) → n ≡ sets l 0 (networkHeader st count)
+  pub stored-network-header : (st : Setting) (count : ℕ) {k₀ k₁ k₂ k₃ k₄ n : List ℕ} → k₀ ≡ sets l 0 (markAndVersion networkMark) → k₁ ≡ set k₀ 5
+      (st .question) → k₂ ≡ set k₁ 6 (st .n) → k₃ ≡ set k₂ 7 (st .s) → k₄ ≡ set k₃ 8 (st .t) → n ≡ sets k₄ 9 (byte16 count) → n ≡ sets l 0
+      (networkHeader st count)
   stored-network-header st count p q r s t u = cc
 
   pub stored-annotation-header : (claim count : ℕ) {k m n : List ℕ} → k ≡ sets l 0 (markAndVersion annotationMark) → m ≡ set k 5 claim → n ≡ sets m 6 (byte16 count) → n ≡ sets l 0 (annotationHeader claim count)

@@ -18,7 +18,8 @@ use Rattle.prelude.proofs.Lists.{every-map, every-zip, image-every}
 use Rattle.prelude.proofs.Permutations.{perm-sym, perm-every}
 use Rattle.arc_records.specs.Arcs.{Arc, delta}
 use Rattle.network.specs.Network.{Load, arcs, sumOf, leaving, entering, balance, degree, cost, total, crosses}
-use Rattle.network.specs.Question.{Question, shortestPath, maximumFlow, assignment, acyclicity, unasked, Setting, asks, pumps, sites, EndsFor, TwoVertices, SidesFor, PumpToSite, Allowed, Opened, Answer, value, none, Walk, ShortestPath, NoWalk, Flow, MaximumFlow, Assignment, CheapestAssignment, NoAssignment, ClosedWalk, Acyclic, TrueFor, TrueAnswer}
+use Rattle.network.specs.Question.{Question, shortestPath, maximumFlow, assignment, acyclicity, unasked, Setting, asks, pumps, sites, EndsFor, TwoVertices, SidesFor, PumpToSite, Allowed, Opened}
+use Rattle.network.specs.Question.{Answer, value, none, Walk, ShortestPath, NoWalk, Flow, MaximumFlow, Assignment, CheapestAssignment, NoAssignment, ClosedWalk, Acyclic, TrueFor, TrueAnswer}
 use Rattle.network.specs.Certificate.{marked, Certified}
 use Rattle.network.proofs.Rules.{Potentials, SourceMarked, SinkUnmarked, WithinCapacity, Feasible, PathBalances, PathCertificate, FlowCertificate, AssignmentCertificate, NoPathCertificate, NoAssignmentCertificate, AcyclicCertificate, CyclicCertificate, RulesHold, certified-rules}
 use Rattle.network.proofs.Sums.{Compared, compared, Inside}

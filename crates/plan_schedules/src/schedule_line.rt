@@ -114,7 +114,9 @@ fn schedule_front(
     text: &mut [u8; 32],
 ) -> Done
     requires { ⌜ Counts (front .size) (now table) ⌝ }
-    ensures { λ r. ⌜ DoneAs (frontOutcome (front .«is_read») (take (front .size) (now (table .entry))) minute (length (now (out .entry)))) (frontBuffer (front .«is_read») (take (front .size) (now (table .entry))) minute (now (out .entry))) (now (net .exit)) (now (out .exit)) (now (text .entry)) r (now (text .exit)) ⌝ }
+    ensures { λ r. ⌜ DoneAs (frontOutcome (front .«is_read») (take (front .size) (now (table .entry))) minute (length (now (out .entry))))
+        (frontBuffer (front .«is_read») (take (front .size) (now (table .entry))) minute (now (out .entry))) (now (net .exit)) (now (out .exit))
+        (now (text .entry)) r (now (text .exit)) ⌝ }
 {
     if !front.is_read {
         return undone(line::plain(b"no windows\n", text));

@@ -31,7 +31,9 @@ module _ (k : ℕ) (later : Table) where
   count-kept (window w) count e = omega arith
   count-kept unclear count e = absurd (true≢false e)
 
-  pub rows-kept : (said : LineSays) (count : ℕ) (rows : List (List ℕ)) → lineFor said .«is_unclear» ≡ false → sets rows count (map rowOf (withLine k said later .windows)) ≡ sets (pick (lineFor said .«is_window») (set rows count (lineFor said .row)) rows) (pick (lineFor said .«is_window») (count + 1) count) (map rowOf (later .windows))
+  pub rows-kept : (said : LineSays) (count : ℕ) (rows : List (List ℕ)) → lineFor said .«is_unclear» ≡ false → sets rows count
+      (map rowOf (withLine k said later .windows)) ≡ sets (pick (lineFor said .«is_window») (set rows count (lineFor said .row)) rows)
+      (pick (lineFor said .«is_window») (count + 1) count) (map rowOf (later .windows))
   rows-kept nothing count rows e = refl
   rows-kept (window w) count rows e = rw (add-one count)
   rows-kept unclear count rows e = absurd (true≢false e)

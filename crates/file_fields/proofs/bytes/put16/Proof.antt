@@ -20,4 +20,7 @@ put16-spec =
     (λ c κs. search needs)
     (λ c. c .before .before .put-byte2 .kept .0 ∙ c .before .before .before .before .before .before .put-byte .kept .0)
     (λ c. let a = c .before .before .before .before .before .before .before .before .before .before .args in
-    halves-stored (c .before .before .before .before .before .before .before .before .before .before .args .buffer .now) (c .before .before .before .before .before .before .before .before .before .before .args .i) (c .before .before .before .before .before .before .before .before .before .before .args .v) (c .before .before .before .before .before .before .put-byte .ensures) (c .before .before .put-byte2 .ensures)))
+    halves-stored (c .before .before .before .before .before .before .before .before .before .before .args .buffer .now)
+    (c .before .before .before .before .before .before .before .before .before .before .args .i)
+    (c .before .before .before .before .before .before .before .before .before .before .args .v)
+    (c .before .before .before .before .before .before .put-byte .ensures) (c .before .before .put-byte2 .ensures)))

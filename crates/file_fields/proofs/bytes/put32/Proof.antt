@@ -16,4 +16,6 @@ put32-spec =
     (λ c κs. search needs)
     (λ c κs. search needs)
     (λ c. c .before .before .put-bits32 .kept .0)
-    (λ c. c .before .before .put-bits32 .ensures ∙ ap (λ (k : ℕ). sets (c .before .before .before .before .before .before .args .buffer .now) (c .before .before .before .before .before .before .args .i) (bytes32 k)) (c .before .before .before .pattern .ensures ∙ ap patternOf (toZ-ofZ (c .before .before .before .before .before .before .fits .z)))))
+    (λ c. let a = c .before .before .before .before .before .before .args in c .before .before .put-bits32 .ensures ∙ ap
+    (λ (k : ℕ). sets (a .buffer .now) (a .i) (bytes32 k))
+    (c .before .before .before .pattern .ensures ∙ ap patternOf (toZ-ofZ (c .before .before .before .before .before .before .fits .z)))))

@@ -20,4 +20,6 @@ put-bits32-spec =
     (λ c. search needs)
     (λ c κs. search needs)
     (λ c. c .before .before .put162 .kept .0 ∙ c .before .before .before .before .before .before .put16 .kept .0)
-    (λ c. then-sets (c .before .before .before .before .before .before .before .before .before .before .args .buffer .now) (c .before .before .before .before .before .before .before .before .before .before .args .i) (byte16 (c .before .before .before .before .before .before .before .before .before .before .args .k / 65536)) (byte16 (c .before .before .before .before .before .before .before .before .before .before .args .k % 65536)) (c .before .before .before .before .before .before .before .before .before .before .args .i + 2) (c .before .before .before .before .before .before .put16 .ensures) refl (c .before .before .put162 .ensures)))
+    (λ c. let a = c .before .before .before .before .before .before .before .before .before .before .args in then-sets (a .buffer .now) (a .i)
+    (byte16 (a .k / 65536)) (byte16 (a .k % 65536)) (a .i + 2) (c .before .before .before .before .before .before .put16 .ensures) refl
+    (c .before .before .put162 .ensures)))

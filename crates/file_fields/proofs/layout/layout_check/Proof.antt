@@ -17,8 +17,50 @@ layout-check-spec =
     (λ c κs. search needs)
     (λ c. rw (le-leb _ _ (c .before .before .before .before .if1 .left), is _ _ _ (c .before .before .before .byte .ensures) (c .before .before .if2 .left), differs _ _ _ (c .before .byte2 .ensures) (c .if3 .taken)))
     (λ c κs. search needs)
-    (λ c. rw (le-leb _ _ (c .before .before .before .before .before .before .if1 .left), is _ _ _ (c .before .before .before .before .before .byte .ensures) (c .before .before .before .before .if2 .left), is _ _ _ (c .before .before .before .byte2 .ensures) (c .before .before .if3 .left), differs _ _ _ (c .before .byte3 .ensures) (c .if4 .taken)))
+    (λ c. rw (
+      le-leb _ _ (c .before .before .before .before .before .before .if1 .left),
+      is _ _ _
+          (c .before .before .before .before .before .byte .ensures) (c .before .before .before .before .if2 .left),
+      is _ _ _
+          (c .before .before .before .byte2 .ensures) (c .before .before .if3 .left),
+      differs _ _ _ (c .before .byte3 .ensures) (c .if4 .taken),
+    ))
     (λ c κs. search needs)
-    (λ c. rw (le-leb _ _ (c .before .before .before .before .before .before .before .before .if1 .left), is _ _ _ (c .before .before .before .before .before .before .before .byte .ensures) (c .before .before .before .before .before .before .if2 .left), is _ _ _ (c .before .before .before .before .before .byte2 .ensures) (c .before .before .before .before .if3 .left), is _ _ _ (c .before .before .before .byte3 .ensures) (c .before .before .if4 .left), differs _ (read16 (c .before .before .before .before .before .before .before .before .before .before .args .file .now) 3) 1 (c .before .number16 .ensures) (c .if5 .taken)))
-    (λ c. rw (le-leb _ _ (c .before .before .before .before .before .before .before .before .before .if1 .left), is _ _ _ (c .before .before .before .before .before .before .before .before .byte .ensures) (c .before .before .before .before .before .before .before .if2 .left), is _ _ _ (c .before .before .before .before .before .before .byte2 .ensures) (c .before .before .before .before .before .if3 .left), is _ _ _ (c .before .before .before .before .byte3 .ensures) (c .before .before .before .if4 .left), is _ _ _ (c .before .before .number16 .ensures) (c .before .if5 .left), ne-eqb _ _ (c .if6 .taken)))
-    (λ c. rw (le-leb _ _ (c .before .before .before .before .before .before .before .before .before .if1 .left), is _ _ _ (c .before .before .before .before .before .before .before .before .byte .ensures) (c .before .before .before .before .before .before .before .if2 .left), is _ _ _ (c .before .before .before .before .before .before .byte2 .ensures) (c .before .before .before .before .before .if3 .left), is _ _ _ (c .before .before .before .before .byte3 .ensures) (c .before .before .before .if4 .left), is _ _ _ (c .before .before .number16 .ensures) (c .before .if5 .left), eq-eqb _ _ (c .if6 .left))))
+    (λ c. rw (
+      le-leb _ _ (c .before .before .before .before .before .before .before .before .if1 .left),
+      is _ _ _
+          (c .before .before .before .before .before .before .before .byte .ensures) (c .before .before .before .before .before .before .if2 .left),
+      is
+          _ _ _ (c .before .before .before .before .before .byte2 .ensures) (c .before .before .before .before .if3 .left),
+      is _ _ _
+          (c .before .before .before .byte3 .ensures) (c .before .before .if4 .left),
+      differs _
+          (read16 (c .before .before .before .before .before .before .before .before .before .before .args .file .now) 3) 1
+          (c .before .number16 .ensures) (c .if5 .taken),
+    ))
+    (λ c. rw (
+      le-leb _ _ (c .before .before .before .before .before .before .before .before .before .if1 .left),
+      is _ _ _
+          (c .before .before .before .before .before .before .before .before .byte .ensures)
+          (c .before .before .before .before .before .before .before .if2 .left),
+      is _ _ _
+          (c .before .before .before .before .before .before .byte2 .ensures) (c .before .before .before .before .before .if3 .left),
+      is _ _ _
+          (c .before .before .before .before .byte3 .ensures) (c .before .before .before .if4 .left),
+      is _ _ _ (c .before .before .number16 .ensures)
+          (c .before .if5 .left),
+      ne-eqb _ _ (c .if6 .taken),
+    ))
+    (λ c. rw (
+      le-leb _ _ (c .before .before .before .before .before .before .before .before .before .if1 .left),
+      is _ _ _
+          (c .before .before .before .before .before .before .before .before .byte .ensures)
+          (c .before .before .before .before .before .before .before .if2 .left),
+      is _ _ _
+          (c .before .before .before .before .before .before .byte2 .ensures) (c .before .before .before .before .before .if3 .left),
+      is _ _ _
+          (c .before .before .before .before .byte3 .ensures) (c .before .before .before .if4 .left),
+      is _ _ _ (c .before .before .number16 .ensures)
+          (c .before .if5 .left),
+      eq-eqb _ _ (c .if6 .left),
+    )))

@@ -14,5 +14,10 @@ write-mark-spec =
     (λ c κs. search needs)
     (λ c κs. search needs)
     (λ c κs. search needs)
-    (λ c. c .before .before .put16 .kept .0 ∙ c .before .before .before .before .before .before .put-byte3 .kept .0 ∙ c .before .before .before .before .before .before .before .before .before .before .put-byte2 .kept .0 ∙ c .before .before .before .before .before .before .before .before .before .before .before .before .before .before .put-byte .kept .0)
-    (λ c. mark-stored (c .before .before .before .before .before .before .before .before .before .before .before .before .before .before .before .before .before .args .buffer .now) (c .before .before .before .before .before .before .before .before .before .before .before .before .before .before .before .before .before .args .third) (c .before .before .before .before .before .before .before .before .before .before .before .before .before .before .put-byte .ensures) (c .before .before .before .before .before .before .before .before .before .before .put-byte2 .ensures) (c .before .before .before .before .before .before .put-byte3 .ensures) (c .before .before .put16 .ensures)))
+    (λ c. c .before .before .put16 .kept .0 ∙ c .before .before .before .before .before .before .put-byte3 .kept .0 ∙
+    c .before .before .before .before .before .before .before .before .before .before .put-byte2 .kept .0 ∙
+    c .before .before .before .before .before .before .before .before .before .before .before .before .before .before .put-byte .kept .0)
+    (λ c. let a = c .before .before .before .before .before .before .before .before .before .before .before .before .before .before .before .before .before .args in mark-stored
+    (a .buffer .now) (a .third) (c .before .before .before .before .before .before .before .before .before .before .before .before .before .before .put-byte .ensures)
+    (c .before .before .before .before .before .before .before .before .before .before .put-byte2 .ensures)
+    (c .before .before .before .before .before .before .put-byte3 .ensures) (c .before .before .put16 .ensures)))
