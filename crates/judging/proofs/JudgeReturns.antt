@@ -15,7 +15,7 @@ use Rattle.format.specs.Files.{settingIn, nIn, arcsIn, networkLayout, annotatio
 use Rattle.state.specs.Answers.{Said, accepted, gives, refused}
 use Rattle.state.specs.Turns.{openTurn}
 use Rattle.state.specs.declared.Turn.{Turn}
-use Rattle.session.specs.Session.{joined, zeros}
+use Rattle.session.specs.Session.{fresh}
 use Rattle.session.specs.Steps.{opening}
 use Rattle.session.specs.declared.Reply.{Reply}
 use Rattle.session.specs.declared.Session.{Session}
@@ -96,7 +96,7 @@ module _ (net ann : List ℕ) (r : Point) where
       pub at-opening : (u .why ≡ 0 → ⊥) → refused (u .why) ≡ judged net ann r
       at-opening n = sym (past-layout ∙ broken-here opening-checks after-opening (u .why) at-first n)
 
-      module _ (ok : u .why ≡ 0) (k : ℕ) (y : Session) (g : RunsTo (joined zeros zeros (u .state)) (map read (arcsIn net)) k y) where
+      module _ (ok : u .why ≡ 0) (k : ℕ) (y : Session) (g : RunsTo (fresh (u .state)) (map read (arcsIn net)) k y) where
         opening-held : Hold opening-checks
         opening-held = none-broken opening-checks (refl, (refl, (refl, (refl, tt)))) (sym at-first ∙ ok)
 

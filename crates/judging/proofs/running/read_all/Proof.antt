@@ -5,9 +5,9 @@ use mathlib.Core.List.{map}
 use Prim.Native.Nat.{ℕ, _-_}
 use native.Mathlib.Omega.{arith}
 use borrow.Author.Needs.{needs}
-use Rattle.session.specs.Session.{joined, zeros}
+use Rattle.session.specs.Session.{fresh}
 use Rattle.state.specs.Turns.{readTurn}
-use Rattle.session.proofs.TurnsToSteps.{read-refused, read-accepted}
+use Rattle.session.proofs.TurnsToSteps.{read-replies}
 use Rattle.runs.specs.Run.{read}
 use Rattle.prelude.specs.Lists.{listTo}
 use Rattle.format.specs.Files.{arcIn}
@@ -17,7 +17,7 @@ use Rattle.judging.proofs.running.read_all.Statement.{statement}
 use Rattle.judging.proofs.running.read_all.Tie as tie
 
 abbrev Inv-loop : tie.InvT-loop
-Inv-loop file m y₀ e₀ y e = AcceptedTo read (arcIn file) (joined zeros zeros y₀) m (joined zeros zeros y) e
+Inv-loop file m y₀ e₀ y e = AcceptedTo read (arcIn file) (fresh y₀) m (fresh y) e
 
 abbrev μ-loop : tie.MeasureT-loop
 μ-loop file m y₀ e₀ y e = m - e
@@ -25,7 +25,7 @@ abbrev μ-loop : tie.MeasureT-loop
 loop-holds : tie.Need-loop-holds Inv-loop μ-loop
 loop-holds c =
     let s = c .before .before .args in
-    none-yet read (arcIn (s .file .now)) (joined zeros zeros (s .x)) (c .count .result)
+    none-yet read (arcIn (s .file .now)) (fresh (s .x)) (c .count .result)
 
 -- t is where the arc is read, l where the loop stands, k where the count is found, s where the arguments are
 returns : tie.Need-returns Inv-loop μ-loop
@@ -35,10 +35,10 @@ returns c =
     let l = t .before .before .before .loop in
     let k = t .before .before .before .before in
     let s = k .before .before .args in
-    let y = joined zeros zeros (l .y) in
-    subst (λ (m : ℕ). RunsTo (joined zeros zeros (s .x)) (map read (listTo m (arcIn (s .file .now)))) (turn .result .why) (joined zeros zeros (turn .result .state))) (k .count .ensures)
-    (one-refused read (arcIn (s .file .now)) (joined zeros zeros (s .x)) (k .count .result) y (l .e) (l .inv) (t .before .before .loop-test .taken) (turn .result .why) _
-    (read-refused y (arcIn (s .file .now) (l .e)) (turn .result) (turn .ensures ∙ ap (readTurn (l .y)) (t .before .arc .ensures)) (c .if1 .taken)) (c .if1 .taken))
+    let y = fresh (l .y) in
+    subst (λ (m : ℕ). RunsTo (fresh (s .x)) (map read (listTo m (arcIn (s .file .now)))) (turn .result .why) (fresh (turn .result .state))) (k .count .ensures)
+    (one-refused read (arcIn (s .file .now)) (fresh (s .x)) (k .count .result) y (l .e) (l .inv) (t .before .before .loop-test .taken) (turn .result .why) _
+    (read-replies y (arcIn (s .file .now) (l .e)) (turn .result) (turn .ensures ∙ ap (readTurn (l .y)) (t .before .arc .ensures)) .refused (c .if1 .taken)) (c .if1 .taken))
 
 loop-again : tie.Need-loop-again Inv-loop μ-loop
 loop-again c =
@@ -47,17 +47,17 @@ loop-again c =
     let l = t .before .before .before .loop in
     let k = t .before .before .before .before in
     let s = k .before .before .args in
-    let y = joined zeros zeros (l .y) in
-    one-accepted read (arcIn (s .file .now)) (joined zeros zeros (s .x)) (k .count .result) y (l .e) (l .inv) (t .before .before .loop-test .taken) _
-    (read-accepted y (arcIn (s .file .now) (l .e)) (turn .result) (turn .ensures ∙ ap (readTurn (l .y)) (t .before .arc .ensures)) (c .before .if1 .left))
+    let y = fresh (l .y) in
+    one-accepted read (arcIn (s .file .now)) (fresh (s .x)) (k .count .result) y (l .e) (l .inv) (t .before .before .loop-test .taken) _
+    (read-replies y (arcIn (s .file .now) (l .e)) (turn .result) (turn .ensures ∙ ap (readTurn (l .y)) (t .before .arc .ensures)) .accepted (c .before .if1 .left))
 
 returns-2 : tie.Need-returns-2 Inv-loop μ-loop
 returns-2 c =
     let l = c .before .loop in
     let k = c .before .before in
     let s = k .before .before .args in
-    subst (λ (m : ℕ). RunsTo (joined zeros zeros (s .x)) (map read (listTo m (arcIn (s .file .now)))) 0 (joined zeros zeros (l .y))) (k .count .ensures)
-    (all-accepted read (arcIn (s .file .now)) (joined zeros zeros (s .x)) (k .count .result) (joined zeros zeros (l .y)) (l .e) (l .inv) (c .loop-test .left))
+    subst (λ (m : ℕ). RunsTo (fresh (s .x)) (map read (listTo m (arcIn (s .file .now)))) 0 (fresh (l .y))) (k .count .ensures)
+    (all-accepted read (arcIn (s .file .now)) (fresh (s .x)) (k .count .result) (fresh (l .y)) (l .e) (l .inv) (c .loop-test .left))
 
 pub read-all-spec : {M : Type 1} → statement M
 read-all-spec =
