@@ -24,11 +24,11 @@ use Rattle.runs.specs.Run.{read, run}
 use Rattle.runs.specs.Exchange.{outcome}
 use Rattle.runs.proofs.Verdict.{reading-broken}
 use Rattle.judging.specs.Judging.{networkChecks, annotationChecks, judged}
-use Rattle.judging.specs.RunsTo.{RunsTo}
-use Rattle.judging.specs.Judging.{stepsIn}
+use Rattle.judging_runs.specs.RunsTo.{RunsTo}
+use Rattle.judging_runs.specs.FileSteps.{stepsIn}
 use Rattle.runs.proofs.Openings.{opens-rule}
 use Rattle.judging.proofs.Promises.{by-steps, apart, opens, reads, notes, ends, answer}
-use Rattle.judging.proofs.StepLoops.{stops-there, runs-on}
+use Rattle.judging_runs.proofs.StepLoops.{stops-there, runs-on}
 
 -- ---- checks that hold, and the first that does not
 

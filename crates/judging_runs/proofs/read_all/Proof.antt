@@ -1,4 +1,4 @@
--- `judging::running::read_all` meets its contract. The loop's invariant: the arcs below e were accepted and left y.
+-- `judging_runs::read_all` meets its contract. The loop's invariant: the arcs below e were accepted and left y.
 -- Assumes nothing.
 use mathlib.Core.Path.{_∙_, ap, subst}
 use mathlib.Core.List.{map}
@@ -11,10 +11,10 @@ use Rattle.session.proofs.TurnsToSteps.{read-replies}
 use Rattle.runs.specs.Run.{read}
 use Rattle.prelude.specs.Lists.{listTo}
 use Rattle.format.specs.Files.{arcIn}
-use Rattle.judging.specs.RunsTo.{RunsTo}
-use Rattle.judging.proofs.StepLoops.{AcceptedTo, none-yet, one-accepted, one-refused, all-accepted}
-use Rattle.judging.proofs.running.read_all.Statement.{statement}
-use Rattle.judging.proofs.running.read_all.Tie as tie
+use Rattle.judging_runs.specs.RunsTo.{RunsTo}
+use Rattle.judging_runs.proofs.StepLoops.{AcceptedTo, none-yet, one-accepted, one-refused, all-accepted}
+use Rattle.judging_runs.proofs.read_all.Statement.{statement}
+use Rattle.judging_runs.proofs.read_all.Tie as tie
 
 abbrev Inv-loop : tie.InvT-loop
 Inv-loop file m y₀ e₀ y e = AcceptedTo read (arcIn file) (fresh y₀) m (fresh y) e

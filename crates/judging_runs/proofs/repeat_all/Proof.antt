@@ -1,4 +1,4 @@
--- `judging::running::repeat_all` meets its contract. The loop's invariant: the loads below e were accepted and left the balances and y.
+-- `judging_runs::repeat_all` meets its contract. The loop's invariant: the loads below e were accepted and left the balances and y.
 -- Assumes nothing.
 use mathlib.Core.Path.{_≡_, _∙_, ap, subst}
 use mathlib.Core.List.{List, map}
@@ -18,10 +18,10 @@ use Rattle.session.proofs.TurnsToSteps.{repeat-replies}
 use Rattle.runs.specs.Run.{repeat}
 use Rattle.prelude.specs.Lists.{listTo}
 use Rattle.format.specs.Files.{loadIn}
-use Rattle.judging.specs.RunsTo.{RunsTo}
-use Rattle.judging.proofs.StepLoops.{AcceptedTo, none-yet, one-accepted, one-refused, all-accepted}
-use Rattle.judging.proofs.running.repeat_all.Statement.{statement}
-use Rattle.judging.proofs.running.repeat_all.Tie as tie
+use Rattle.judging_runs.specs.RunsTo.{RunsTo}
+use Rattle.judging_runs.proofs.StepLoops.{AcceptedTo, none-yet, one-accepted, one-refused, all-accepted}
+use Rattle.judging_runs.proofs.repeat_all.Statement.{statement}
+use Rattle.judging_runs.proofs.repeat_all.Tie as tie
 
 -- the session of node numbers, balances and a state
 abbrev held : List ℤ → List ℤ → State → Session

@@ -1,4 +1,4 @@
--- `judging::running::number_all` meets its contract. The loop's invariant: the numbers below v were accepted and left the potentials and y.
+-- `judging_runs::number_all` meets its contract. The loop's invariant: the numbers below v were accepted and left the potentials and y.
 -- Assumes nothing.
 use mathlib.Core.Path.{_∙_, ap}
 use mathlib.Core.List.{List}
@@ -16,9 +16,9 @@ use Rattle.state.specs.declared.State.{State}
 use Rattle.session.proofs.TurnsToSteps.{number-replies}
 use Rattle.runs.specs.Run.{number}
 use Rattle.format.specs.Files.{numberIn}
-use Rattle.judging.proofs.StepLoops.{AcceptedTo, none-yet, one-accepted, one-refused, all-accepted}
-use Rattle.judging.proofs.running.number_all.Statement.{statement}
-use Rattle.judging.proofs.running.number_all.Tie as tie
+use Rattle.judging_runs.proofs.StepLoops.{AcceptedTo, none-yet, one-accepted, one-refused, all-accepted}
+use Rattle.judging_runs.proofs.number_all.Statement.{statement}
+use Rattle.judging_runs.proofs.number_all.Tie as tie
 
 -- the session of node numbers and a state, with nothing repeated
 abbrev numbered : List ℤ → State → Session

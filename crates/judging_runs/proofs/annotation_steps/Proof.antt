@@ -1,9 +1,9 @@
--- `judging::running::annotation_steps` meets its contract: at each place where it ends, what it gives is what the steps come out as.
+-- `judging_runs::annotation_steps` meets its contract: at each place where it ends, what it gives is what the steps come out as.
 -- Assumes nothing.
 use borrow.Author.Needs.{needs}
-use Rattle.judging.proofs.AnnotationReturns.{at-end, at-claim, at-numbers, at-repeats, at-finish, at-answer}
-use Rattle.judging.proofs.running.annotation_steps.Statement.{statement}
-use Rattle.judging.proofs.running.annotation_steps.Tie as tie
+use Rattle.judging_runs.proofs.AnnotationReturns.{at-end, at-claim, at-numbers, at-repeats, at-finish, at-answer}
+use Rattle.judging_runs.proofs.annotation_steps.Statement.{statement}
+use Rattle.judging_runs.proofs.annotation_steps.Tie as tie
 
 -- In each answer: s is where the arguments are, e where reading is ended, k where the claim is made, v where the node numbers are given, r where the arcs are repeated, f where finishing is checked.
 returns : tie.Need-returns

@@ -6,8 +6,8 @@ ghost use Rattle.state.specs.Answers.{said};
 ghost use Rattle.session.specs.Session.{arraysOf, withPotentials, zeroArrays, joined, fresh};
 ghost use Rattle.runs.specs.Run.{read, number, repeat, run};
 ghost use Rattle.runs.specs.Exchange.{outcome};
-ghost use Rattle.judging.specs.RunsTo.{RunsTo};
-ghost use Rattle.judging.specs.Judging.{stepsIn};
+ghost use Rattle.judging_runs.specs.RunsTo.{RunsTo};
+ghost use Rattle.judging_runs.specs.FileSteps.{stepsIn};
 use arc_records::Balances;
 use arc_records::MOST_VERTICES;
 use arc_records::Potentials;
@@ -19,7 +19,7 @@ use state::Turn;
 use vertex_arrays::move_amount;
 
 // Reads the arcs of a network file.
-pub(crate) fn read_all(x: State, file: &[u8]) -> Turn
+pub fn read_all(x: State, file: &[u8]) -> Turn
     ensures { λ r. ⌜ RunsTo (fresh x) (map read (arcsIn (now (file .entry)))) (r .why) (fresh (r .state)) ⌝ }
 {
     let m = network_file::count(file) as usize;
@@ -87,7 +87,7 @@ fn repeat_all(
 }
 
 // The steps of an annotation file with n node numbers, from the end of reading to finishing.
-pub(crate) fn annotation_steps(x: State, file: &[u8], n: u8) -> Response
+pub fn annotation_steps(x: State, file: &[u8], n: u8) -> Response
     ensures { λ r. ⌜ said r ≡ outcome (run (fresh x) (stepsIn n (now (file .entry)))) ⌝ }
 {
     let mut potentials = [0i32; MOST_VERTICES as usize];

@@ -17,9 +17,9 @@ use Rattle.state.specs.declared.Turn.{Turn}
 use Rattle.session.proofs.TurnsToSteps.{end-replies, claim-replies, finish-refused, finish-answered}
 use Rattle.runs.specs.Run.{Step, end, claim, number, repeat, finish, run}
 use Rattle.runs.specs.Exchange.{outcome}
-use Rattle.judging.specs.RunsTo.{RunsTo}
-use Rattle.judging.specs.Judging.{stepsIn}
-use Rattle.judging.proofs.StepLoops.{accepted-first, refused-first, answered-last, stops-there, runs-on}
+use Rattle.judging_runs.specs.RunsTo.{RunsTo}
+use Rattle.judging_runs.specs.FileSteps.{stepsIn}
+use Rattle.judging_runs.proofs.StepLoops.{accepted-first, refused-first, answered-last, stops-there, runs-on}
 
 module _ (x : State) (n : ℕ) (ann : List ℕ) where
   abbrev start : Session
