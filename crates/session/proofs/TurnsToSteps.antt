@@ -11,7 +11,7 @@ use lib.IntN.{ℤ}
 use lib.ListN.{set}
 use Rattle.prelude.specs.Checks.{Check, settle, firstBroken}
 use Rattle.prelude.specs.Choice.{pick}
-use Rattle.prelude.proofs.Choice.{on, off}
+use Rattle.prelude.proofs.Choice.{on, off, eqb-on, eqb-off}
 use Rattle.prelude.proofs.Settle.{settled, settle-map, Numbered, none-broken, part-refused}
 use Rattle.arc_records.specs.Arcs.{Arc}
 use Rattle.network.specs.Network.{Load}
@@ -137,6 +137,14 @@ unfolding repeatTurn repeatStep
 repeat-replies x l u e =
     by-turn x (withArrays x (repeatedArrays x l)) (withRepeat (x .state) l) (repeatChecks (x .state) (potentialsIn x) l)
     (refl, (refl, (refl, (refl, (refl, (refl, (refl, tt))))))) u e
+
+-- a step that changes nothing but the state
+pub by-state : {x : Session} {u : Turn} {v : Reply} → Replies x x u v → pick (eqb (u .why) 0) (accept (withState x (u .state))) (refuse x (u .why)) ≡ v
+by-state {x} {u} {v} g = go (ℕ-discrete (u .why) 0)
+  where
+    go : Dec (u .why ≡ 0) → pick (eqb (u .why) 0) (accept (withState x (u .state))) (refuse x (u .why)) ≡ v
+    go (yes z) = sym (eqb-on Reply v _ (refuse x (u .why)) (u .why) 0 z (sym (g .accepted z)))
+    go (no n) = sym (eqb-off Reply v (accept (withState x (u .state))) _ (u .why) 0 n (sym (g .refused n)))
 
 -- ---- a step with one way out
 

@@ -11,7 +11,7 @@ ghost use Rattle.checks.specs.Held.{handed};
 ghost use Rattle.vertex_arrays.specs.Arrays.{moved};
 ghost use Rattle.state.specs.State.{isClaimed};
 ghost use Rattle.state.specs.declared.Response.the-variants.{Accepted, Refused};
-ghost use Rattle.session.specs.Session.{zeros, zeroArrays, fresh, void, refuse};
+ghost use Rattle.session.specs.Session.{zeros, zeroArrays, withState, fresh, void, accept, refuse};
 ghost use Rattle.session.specs.Steps.{opening, readStep, endStep, claimStep, numberStep, repeatStep, finishStep};
 use arc_records::Balances;
 use arc_records::MOST_VERTICES;
@@ -21,6 +21,7 @@ use checks::Opening;
 use points::Point;
 use state::Response;
 use state::State;
+use state::Turn;
 use state::groups::idle;
 use vertex_arrays::move_amount;
 
@@ -145,6 +146,22 @@ impl Session {
         }
     }
 
+    // The reply to a step that changes nothing but the state.
+    fn turned(mut self, turn: Turn) -> Reply
+        ensures { λ r. ⌜ r ≡ pick (eqb (turn .why) 0) (accept (withState self (turn .state))) (refuse self (turn .why)) ⌝ }
+    {
+        let why = turn.why;
+        if why != 0 {
+            return self.refuse(why);
+        }
+        let next = turn.state;
+        self.state = next;
+        Reply {
+            session: self,
+            answer: Response::Accepted,
+        }
+    }
+
     // Opening; refused, the session is void.
     pub fn open(o: Opening, point: Point) -> Reply
         ensures { λ r. ⌜ r ≡ opening (handed o) point ⌝ }
@@ -166,7 +183,7 @@ impl Session {
     }
 
     // Reading a channel.
-    pub fn read_channel(mut self, a: u32, b: u32, w: u32) -> Reply
+    pub fn read_channel(self, a: u32, b: u32, w: u32) -> Reply
         ensures { λ r. ⌜ r ≡ readStep self (arcOf a b w) ⌝ }
     {
         let state = self.state;
@@ -175,52 +192,25 @@ impl Session {
             head: b,
             weight: w,
         });
-        let why = turn.why;
-        if why != 0 {
-            return self.refuse(why);
-        }
-        let next = turn.state;
-        self.state = next;
-        Reply {
-            session: self,
-            answer: Response::Accepted,
-        }
+        self.turned(turn)
     }
 
     // Ending the reading.
-    pub fn end_reading(mut self) -> Reply
+    pub fn end_reading(self) -> Reply
         ensures { λ r. ⌜ r ≡ endStep self ⌝ }
     {
         let state = self.state;
         let turn = state.end_reading();
-        let why = turn.why;
-        if why != 0 {
-            return self.refuse(why);
-        }
-        let next = turn.state;
-        self.state = next;
-        Reply {
-            session: self,
-            answer: Response::Accepted,
-        }
+        self.turned(turn)
     }
 
     // The claim.
-    pub fn claim(mut self, claim: u32) -> Reply
+    pub fn claim(self, claim: u32) -> Reply
         ensures { λ r. ⌜ r ≡ claimStep self claim ⌝ }
     {
         let state = self.state;
         let turn = state.claim(claim);
-        let why = turn.why;
-        if why != 0 {
-            return self.refuse(why);
-        }
-        let next = turn.state;
-        self.state = next;
-        Reply {
-            session: self,
-            answer: Response::Accepted,
-        }
+        self.turned(turn)
     }
 
     // A node number. With one way out, so that the session is copied as seldom as can be.
