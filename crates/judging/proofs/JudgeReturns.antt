@@ -15,7 +15,7 @@ use Rattle.format.specs.Files.{settingIn, nIn, arcsIn, networkLayout, annotatio
 use Rattle.state.specs.Answers.{Said, accepted, gives, refused}
 use Rattle.state.specs.Turns.{openTurn}
 use Rattle.state.specs.declared.Turn.{Turn}
-use Rattle.session.specs.Session.{joined, zeros}
+use Rattle.session.specs.Session.{fresh}
 use Rattle.session.specs.Steps.{opening}
 use Rattle.session.specs.declared.Reply.{Reply}
 use Rattle.session.specs.declared.Session.{Session}
@@ -24,11 +24,11 @@ use Rattle.runs.specs.Run.{read, run}
 use Rattle.runs.specs.Exchange.{outcome}
 use Rattle.runs.proofs.Verdict.{reading-broken}
 use Rattle.judging.specs.Judging.{networkChecks, annotationChecks, judged}
-use Rattle.judging.specs.RunsTo.{RunsTo}
-use Rattle.judging.specs.Judging.{stepsIn}
+use Rattle.judging_runs.specs.RunsTo.{RunsTo}
+use Rattle.judging_runs.specs.FileSteps.{stepsIn}
 use Rattle.runs.proofs.Openings.{opens-rule}
 use Rattle.judging.proofs.Promises.{by-steps, apart, opens, reads, notes, ends, answer}
-use Rattle.judging.proofs.StepLoops.{stops-there, runs-on}
+use Rattle.judging_runs.proofs.StepLoops.{stops-there, runs-on}
 
 -- ---- checks that hold, and the first that does not
 
@@ -96,7 +96,7 @@ module _ (net ann : List ℕ) (r : Point) where
       pub at-opening : (u .why ≡ 0 → ⊥) → refused (u .why) ≡ judged net ann r
       at-opening n = sym (past-layout ∙ broken-here opening-checks after-opening (u .why) at-first n)
 
-      module _ (ok : u .why ≡ 0) (k : ℕ) (y : Session) (g : RunsTo (joined zeros zeros (u .state)) (map read (arcsIn net)) k y) where
+      module _ (ok : u .why ≡ 0) (k : ℕ) (y : Session) (g : RunsTo (fresh (u .state)) (map read (arcsIn net)) k y) where
         opening-held : Hold opening-checks
         opening-held = none-broken opening-checks (refl, (refl, (refl, (refl, tt)))) (sym at-first ∙ ok)
 

@@ -1,4 +1,2 @@
-pub mod StepLoops
-pub mod AnnotationReturns
 pub mod Promises
 pub mod JudgeReturns

@@ -35,7 +35,8 @@ use Rattle.runs.proofs.Promises.{opening-answers, first-broken, certificates-pa
 use Rattle.runs.proofs.Verdict.{reading-broken}
 use Rattle.session.specs.Steps.{opening}
 use Rattle.session.specs.declared.Session.{Session}
-use Rattle.judging.specs.Judging.{numbersFor, loadsFor, networkChecks, annotationChecks, judged, stepsOfNetwork, stepsIn, andThen, JudgedWrong}
+use Rattle.judging_runs.specs.FileSteps.{stepsOfNetwork, stepsIn}
+use Rattle.judging.specs.Judging.{numbersFor, loadsFor, networkChecks, annotationChecks, judged, andThen, JudgedWrong}
 use Rattle.acceptance.proofs.AcceptedFiles.{layout-held, opening-held, reading-held, file-opened, file-allowed, file-few}
 use Rattle.runs.proofs.Openings.{opens-rule, opens-held, without-point}
 use Rattle.judging.specs.Promises.{JudgedBySteps, FewJudgedWrong, OnlyAccepted, CertificatesJudged}
@@ -126,24 +127,35 @@ module _ (net ann : List ℕ) (r : Point) where
 
   -- ---- through a session
 
-  abbrev fresh : Session
-  fresh = opening (settingIn net) r .session
+  abbrev begun : Session
+  begun = opening (settingIn net) r .session
 
   -- what is left to the annotation file, where the records are read
   abbrev annotated : Said
-  annotated = settle refused (annotationLayout (nIn net) ann) (outcome (run (sessionAfter fresh (stepsOfNetwork net)) (stepsIn (nIn net) ann)))
+  annotated = settle refused (annotationLayout (nIn net) ann) (outcome (run (sessionAfter begun (stepsOfNetwork net)) (stepsIn (nIn net) ann)))
 
-  read-out : Hold opens → outcome (run fresh (stepsOfNetwork net)) ≡ settle refused reads accepted
-  read-out ho = ap (λ (l : List Step). outcome (run fresh l)) (sym (append-nil (stepsOfNetwork net))) ∙ reading-broken (settingIn net) r (arcsIn net) (opens-rule (settingIn net) r ho)
+  -- what the records come out as, and opening with them
+  abbrev read-first : Said
+  read-first = outcome (run begun (stepsOfNetwork net))
 
-  after-reading : Hold opens → Hold reads → outcome (run (sessionAfter fresh (stepsOfNetwork net)) (stepsIn (nIn net) ann)) ≡ settle refused (notes ++ ends) (gives answer)
+  opened-out : outcome (said (opening (settingIn net) r .answer) ∷ run begun (stepsOfNetwork net)) ≡ settle refused opens read-first
+  opened-out =
+      first-or-rest (said (opening (settingIn net) r .answer)) (run begun (stepsOfNetwork net))
+      ∙ ap (λ (s : Said). andThen s read-first) (opening-answers (settingIn net) r)
+      ∙ then-settle opens accepted read-first
+
+  read-out : Hold opens → read-first ≡ settle refused reads accepted
+  read-out ho = ap (λ (l : List Step). outcome (run begun l)) (sym (append-nil (stepsOfNetwork net))) ∙ reading-broken (settingIn net) r (arcsIn net) (opens-rule (settingIn net) r ho)
+
+  after-reading : Hold opens → Hold reads → outcome (run (sessionAfter begun (stepsOfNetwork net)) (stepsIn (nIn net) ann)) ≡ settle refused (notes ++ ends) (gives answer)
   after-reading ho hr =
-      sym (runs-past (stepsOfNetwork net) (stepsIn (nIn net) ann) fresh (read-out ho ∙ settled refused reads accepted hr))
+      sym (runs-past (stepsOfNetwork net) (stepsIn (nIn net) ann) begun (read-out ho ∙ settled refused reads accepted hr))
       ∙ first-broken (settingIn net) r (arcsIn net) (claimIn ann) (numbersFor net ann) (loadsFor net ann) (opens-rule (settingIn net) r ho)
       ∙ settle-append refused reads (notes ++ ends) (gives answer)
       ∙ settled refused reads (settle refused (notes ++ ends) (gives answer)) hr
 
-  after-opening : Hold opens → settle refused reads (settle refused (annotationLayout (nIn net) ann) (settle refused (notes ++ ends) (gives answer))) ≡ andThen (outcome (run fresh (stepsOfNetwork net))) annotated
+  after-opening : Hold opens
+      → settle refused reads (settle refused (annotationLayout (nIn net) ann) (settle refused (notes ++ ends) (gives answer))) ≡ andThen read-first annotated
   after-opening ho =
       settle-when refused reads _ _ (λ hr. ap (settle refused (annotationLayout (nIn net) ann)) (sym (after-reading ho hr)))
       ∙ sym (ap (λ (s : Said). andThen s annotated) (read-out ho) ∙ then-settle reads accepted annotated)
@@ -153,8 +165,7 @@ judged-by-steps net ann r =
     apart net ann r
     ∙ ap (settle refused (networkLayout net))
     (settle-when refused (opens net ann r) _ _ (after-opening net ann r)
-    ∙ sym (ap (λ (s : Said). andThen s (annotated net ann r)) (first-or-rest (said (opening (settingIn net) r .answer)) (run (fresh net ann r) (stepsOfNetwork net)) ∙ ap (λ (s : Said). andThen s (outcome (run (fresh net ann r) (stepsOfNetwork net)))) (opening-answers (settingIn net) r) ∙ then-settle (opens net ann r) accepted (outcome (run (fresh net ann r) (stepsOfNetwork net))))
-    ∙ then-settle (opens net ann r) (outcome (run (fresh net ann r) (stepsOfNetwork net))) (annotated net ann r)))
+    ∙ sym (ap (λ (s : Said). andThen s (annotated net ann r)) (opened-out net ann r) ∙ then-settle (opens net ann r) (read-first net ann r) (annotated net ann r)))
 
 pub only-accepted : OnlyAccepted
 only-accepted net ann r a e =

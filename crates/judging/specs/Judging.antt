@@ -1,6 +1,6 @@
 -- Judging two files at a point: by the checks in their order, and by the steps of a session (PANEL 8).
 -- Assumes nothing.
-use mathlib.Core.List.{List, [], _∷_, _++_, map}
+use mathlib.Core.List.{List, _∷_, _++_}
 use Prim.Native.Nat.{ℕ}
 use lib.IntN.{ℤ}
 use lib.ListN.{length}
@@ -13,9 +13,10 @@ use Rattle.format.specs.Files.{settingIn, nIn, arcsIn, claimIn, numbersIn, load
 use Rattle.state.specs.Answers.{Said, accepted, gives, refused, said}
 use Rattle.state.specs.State.{openChecks}
 use Rattle.session.specs.Steps.{opening}
-use Rattle.runs.specs.Run.{Step, read, end, claim, number, repeat, finish, run, sessionAfter, Wrong}
+use Rattle.runs.specs.Run.{run, sessionAfter, Wrong}
 use Rattle.runs.specs.AcceptedLists.{sumsAt}
 use Rattle.runs.specs.Exchange.{outcome, annotationRules, finalRules}
+use Rattle.judging_runs.specs.FileSteps.{stepsOfNetwork, stepsIn}
 
 -- ---- by the checks
 
@@ -47,14 +48,6 @@ judged net ann r =
     (gives (answerOf (settingIn net) (claimOf (claimIn ann)) (sumsAt (settingIn net) (numbersFor net ann) (loadsFor net ann))))
 
 -- ---- by the steps of a session
-
--- The steps of a network file after opening: its records are read in file order.
-abbrev pub stepsOfNetwork : List ℕ → List Step
-stepsOfNetwork net = map read (arcsIn net)
-
--- The steps of an annotation file with n node numbers, from the end of reading to finishing, in file order.
-abbrev pub stepsIn : ℕ → List ℕ → List Step
-stepsIn n ann = end ∷ claim (claimIn ann) ∷ (map number (numbersIn n ann) ++ (map repeat (loadsIn n ann) ++ (finish ∷ [])))
 
 -- One after the other: an acceptance leaves it to what comes after, an answer and a refusal stand.
 abbrev pub andThen : Said → Said → Said

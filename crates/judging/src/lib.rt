@@ -6,13 +6,11 @@ use acceptance::opening_of;
 use acceptance::setting;
 use format::annotation_file::annotation_check;
 use format::network_file;
+use judging_runs::annotation_steps;
+use judging_runs::read_all;
 use points::Point;
-use running::annotation_steps;
-use running::read_all;
 use state::Response;
 use state::State;
-
-mod running;
 
 // What the two files come out as at the point: a value, none, or the first refusal.
 pub fn judge(net: &[u8], ann: &[u8], point: Point) -> Response

@@ -1,7 +1,8 @@
 -- The promises of specs/Promises.antt, kept.
 -- Assumes nothing.
-use Rattle.runs.specs.Promises.{VoidIsOver, OverForEver, RefusalLeaves, FiveChangesNothing, FinishEnds, RefusedOpeningVoid, OnlyRefusals, OpeningAnswers, AnswersOfLists, HoldsAccepted, PointUnseen}
-use Rattle.runs.specs.Promises.{ReadAsListed, ClaimsListed, AnswersExactly, TrueWhereSame, FirstBroken, ExchangeGives, ExchangeFinishes, ExchangeTrue, CertificatesPass, FewWrong}
+use Rattle.runs.specs.Promises.{VoidIsOver, OverForEver, RefusalLeaves, FiveChangesNothing, FinishEnds, RefusedOpeningVoid, OnlyRefusals}
+use Rattle.runs.specs.Promises.{OpeningAnswers, AnswersOfLists, HoldsAccepted, PointUnseen, ReadAsListed, ClaimsListed, AnswersExactly, TrueWhereSame}
+use Rattle.runs.specs.Promises.{FirstBroken, ExchangeGives, ExchangeFinishes, ExchangeTrue, CertificatesPass, FewWrong}
 use Rattle.runs.proofs.Meets as meets
 use Rattle.runs.proofs.Refusals as refusals
 use Rattle.runs.proofs.RunsAgree as runs

@@ -15,7 +15,7 @@ use Rattle.state.specs.Answers.{refused, answered}
 use Rattle.network.specs.Tests.{answerOf}
 use Rattle.state.specs.State.{isClaimed, settingHeld, claimHeld, openChecks, readChecks, endChecks, claimChecks, numberChecks, repeatChecks, finishChecks, opened}
 use Rattle.state.specs.declared.Response.the-variants.{Accepted, Refused}
-use Rattle.session.specs.Session.{potentialsIn, sumsIn, joined, zeros, void, hand, accept, leaves, refuse}
+use Rattle.session.specs.Session.{potentialsIn, sumsIn, fresh, void, hand, accept, leaves, refuse}
 use Rattle.session.specs.Steps.{opening, readStep, endStep, claimStep, numberStep, repeatStep, finishStep}
 use Rattle.session.specs.declared.Reply.{Reply}
 use Rattle.session.specs.declared.Session.{Session}
@@ -50,7 +50,7 @@ refusal-leaves x finish why h = refused-session (leaves x) (finishChecks (x .sta
 
 pub refused-opening-void : RefusedOpeningVoid
 unfolding opening
-refused-opening-void st r why e = refused-session (λ k. void) (openChecks st r) (accept (joined zeros zeros (opened st r))) why (not-refused why) e
+refused-opening-void st r why e = refused-session (λ k. void) (openChecks st r) (accept (fresh (opened st r))) why (not-refused why) e
 
 -- ---- refusal 5 changes nothing
 

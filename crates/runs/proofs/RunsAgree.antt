@@ -23,7 +23,7 @@ use Rattle.points.proofs.Prints.{print-none, point-test}
 use Rattle.state.specs.Answers.{Said, accepted, gives, refused, said}
 use Rattle.state.specs.State.{held, openChecks, opened}
 use Rattle.state.specs.declared.Response.the-variants.{Refused}
-use Rattle.session.specs.Session.{joined, zeros, holding, void, hand, accept}
+use Rattle.session.specs.Session.{fresh, holding, void, hand, accept}
 use Rattle.session.specs.Steps.{opening}
 use Rattle.session.specs.declared.Reply.{Reply}
 use Rattle.session.specs.declared.Session.{Session}
@@ -99,13 +99,13 @@ module _ (st : Setting) (r : Point) where
   opened-session : opening st r .session ≡ sessionOf st r (openedLists st r)
   unfolding opening
   opened-session =
-      settle-map (λ (x : Reply). x .session) (λ why. hand void (Refused why)) (openChecks st r) (accept (joined zeros zeros (opened st r)))
+      settle-map (λ (x : Reply). x .session) (λ why. hand void (Refused why)) (openChecks st r) (accept (fresh (opened st r)))
       ∙ ap (λ (p : Print). settle (λ why. void) (openChecks st r) (holding 1 (held st) r (record { count = 0; print = p }))) (print-none r)
       ∙ sym (settle-map (sessionOf st r) (λ why. over) (openChecks st r) (reading []))
 
 pub opening-answers : OpeningAnswers
 unfolding opening
-opening-answers st r = settle-map (λ (x : Reply). said (x .answer)) (λ why. hand void (Refused why)) (openChecks st r) (accept (joined zeros zeros (opened st r)))
+opening-answers st r = settle-map (λ (x : Reply). said (x .answer)) (λ why. hand void (Refused why)) (openChecks st r) (accept (fresh (opened st r)))
 
 pub answers-of-lists : AnswersOfLists
 answers-of-lists st r steps = ap (λ (x : Session). run x steps) (opened-session st r) ∙ run-agrees st r steps (openedLists st r) (known-first st r)

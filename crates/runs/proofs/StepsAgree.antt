@@ -7,7 +7,7 @@ use Prim.Native.Nat.{ℕ, _*_, _≤_, _<_}
 use native.Mathlib.Omega.{arith}
 use lib.Dec.{eqb, leb, leb→le, ltb→lt}
 use lib.IntN.{ℤ, pos}
-use lib.ListN.{length, set, length-append, length-map}
+use lib.ListN.{length, length-append, length-map}
 use Rattle.prelude.specs.Checks.{Check, _unless_, settle, Hold}
 use Rattle.prelude.specs.Choice.{pick, indicator}
 use Rattle.prelude.specs.Lists.{Every, at}
@@ -24,12 +24,11 @@ use Rattle.points.specs.Points.{printOf, samePrint, extendStream}
 use Rattle.points.specs.declared.Point.{Point}
 use Rattle.points.proofs.Prints.{print-none, print-more}
 use Rattle.state.specs.Answers.{Said, accepted, gives, refused, answered}
-use Rattle.vertex_arrays.specs.Arrays.{moved}
 use Rattle.state.specs.State.{stateOf, held, numbersHeld, withRead, withClaim, withNumber, withRepeat}
 use Rattle.state.specs.declared.Response.{Response}
 use Rattle.state.specs.declared.Response.the-variants.{Accepted, Refused}
-use Rattle.session.specs.Session.{potentialsIn, sumsIn, joined, holding, void, withState, hand, accept, refuse}
-use Rattle.session.specs.Steps.{readStep, endStep, claimStep, numberStep, repeatStep, finishStep}
+use Rattle.session.specs.Session.{arraysOf, withPotentials, withBalances, potentialsIn, sumsIn, joined, withArrays, withState, holding, void, hand, accept, refuse}
+use Rattle.session.specs.Steps.{readStep, endStep, claimStep, numberedArrays, numberStep, repeatedArrays, repeatStep, finishStep}
 use Rattle.session.specs.declared.Reply.{Reply}
 use Rattle.session.specs.declared.Session.{Session}
 use Rattle.runs.specs.Run.{Step, read, end, claim, number, repeat, finish, step}
@@ -80,7 +79,7 @@ module _ (st : Setting) (r : Point) where
 
   claim-one : (l : List Arc) (k : ℕ) → withState (session (hasRead l)) (withClaim (session (hasRead l) .state) k) ≡ session (claimed l k [] [])
   unfolding sumOf sumAcross
-  claim-one l k = λ i. joined (all-zero mostVertices (at []) (λ v. refl) i) (all-zero mostVertices (λ v. balance v []) (λ v. refl) i)
+  claim-one l k = λ i. joined (arraysOf (all-zero mostVertices (at []) (λ v. refl) i) (all-zero mostVertices (λ v. balance v []) (λ v. refl) i))
       (stateOf 3 (session (hasRead l) .state .reading) (withClaim (session (hasRead l) .state) k .numbering)
       (record { list = record { count = 0; print = print-none r i }; cost = pos 0; cut = pos 0 }))
 
@@ -117,11 +116,11 @@ module _ (st : Setting) (r : Point) where
 
       -- the session after it
       abbrev numbered : ℤ → Session
-      numbered z = joined (set (session here .potentials) (length ys) z) (session here .balances) (withNumber (session here .state) z)
+      numbered z = withState (withArrays (session here) (numberedArrays (session here) z)) (withNumber (session here .state) z)
 
       number-one : (z : ℤ) → length ys < st .n → numbered z ≡ session (claimed l k (ys ++ z ∷ []) f)
       unfolding sumAcross
-      number-one z h = λ i. joined (list-more mostVertices ys z (omega (arith, h, o .sized .at-most)) i) (session here .balances)
+      number-one z h = λ i. joined (withPotentials (session here .arrays) (list-more mostVertices ys z (omega (arith, h, o .sized .at-most)) i))
           (stateOf 3 (session here .state .reading)
           (record { claim = k; given = sym (length-append ys (z ∷ [])) i; marks = marks-more ys z i })
           (record { list = streamOf r (arcs f); cost = pos (sumOf (unitCost (asks st)) f); cut = uncut i }))
@@ -139,10 +138,10 @@ module _ (st : Setting) (r : Point) where
 
       -- the session after it
       abbrev loaded : Load → Session
-      loaded b = joined (session here .potentials) (moved (session here .balances) (b .arc .tail) (b .arc .head) (b .amount)) (withRepeat (session here .state) b)
+      loaded b = withState (withArrays (session here) (repeatedArrays (session here) b)) (withRepeat (session here .state) b)
 
       repeat-one : (b : Load) → LoadWithin (asks st) b → loaded b ≡ session (claimed l k ys (f ++ b ∷ []))
-      repeat-one b h = λ i. joined (session here .potentials) (balances-more (asks st) f loads-within few b h i)
+      repeat-one b h = λ i. joined (withBalances (session here .arrays) (balances-more (asks st) f loads-within few b h i))
           (stateOf 3 (session here .state .reading) (session here .state .numbering)
           (record {
             list = (stream-more r (arcs f) (b .arc) ∙ ap (streamOf r) (sym (arcs-snoc f b))) i;

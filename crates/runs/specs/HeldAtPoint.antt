@@ -8,14 +8,15 @@ use lib.ListN.{length, replicate}
 use Rattle.prelude.specs.Lists.{listTo, at}
 use Rattle.arc_records.specs.Limits.{mostVertices}
 use Rattle.arc_records.specs.Arcs.{Arc}
-use Rattle.network.specs.Network.{arcs, balance, sumOf, sumAcross}
+use Rattle.network.specs.Network.{Load, arcs, balance, sumOf, sumAcross}
 use Rattle.network.specs.Question.{Setting, asks, unitCost, unitsMost}
 use Rattle.network.specs.Certificate.{marked}
 use Rattle.points.specs.Points.{printOf}
 use Rattle.points.specs.declared.Point.{Point}
 use Rattle.points.specs.declared.Stream.{Stream}
 use Rattle.state.specs.State.{phaseReading, phaseRead, phaseClaimed, marksAfter, stateOf, held}
-use Rattle.session.specs.Session.{joined, holding, void}
+use Rattle.session.specs.Session.{arraysOf, joined, holding, void}
+use Rattle.session.specs.declared.Arrays.{Arrays}
 use Rattle.session.specs.declared.Session.{Session}
 use Rattle.runs.specs.AcceptedLists.{AcceptedLists, over, reading, hasRead, claimed}
 
@@ -32,12 +33,16 @@ marksFrom i ms (z ∷ zs) = marksFrom (suc i) (marksAfter ms i z) zs
 abbrev pub marksOf : List ℤ → List ℕ
 marksOf ys = marksFrom 0 (replicate 4 0) ys
 
+-- The arrays of node numbers and of repeated arcs: the number and the balance of each vertex.
+abbrev pub arraysAt : List ℤ → List Load → Arrays
+arraysAt ys f = arraysOf (listTo mostVertices (at ys)) (listTo mostVertices (λ v. balance v f))
+
 -- The session that holds what is accepted in a setting at a point.
 abbrev pub sessionOf : Setting → Point → AcceptedLists → Session
 sessionOf st r over = void
 sessionOf st r (reading l) = holding phaseReading (held st) r (streamOf r l)
 sessionOf st r (hasRead l) = holding phaseRead (held st) r (streamOf r l)
-sessionOf st r (claimed l k ys f) = joined (listTo mostVertices (at ys)) (listTo mostVertices (λ v. balance v f))
+sessionOf st r (claimed l k ys f) = joined (arraysAt ys f)
     (stateOf phaseClaimed (record { setting = held st; point = r; list = streamOf r l })
     (record { claim = k; given = length ys; marks = marksOf ys })
     (record {

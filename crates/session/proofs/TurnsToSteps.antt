@@ -11,7 +11,7 @@ use lib.IntN.{ℤ}
 use lib.ListN.{set}
 use Rattle.prelude.specs.Checks.{Check, settle, firstBroken}
 use Rattle.prelude.specs.Choice.{pick}
-use Rattle.prelude.proofs.Choice.{on, off}
+use Rattle.prelude.proofs.Choice.{on, off, eqb-on, eqb-off}
 use Rattle.prelude.proofs.Settle.{settled, settle-map, Numbered, none-broken, part-refused}
 use Rattle.arc_records.specs.Arcs.{Arc}
 use Rattle.network.specs.Network.{Load}
@@ -22,10 +22,11 @@ use Rattle.state.specs.Answers.{answered}
 use Rattle.vertex_arrays.specs.Arrays.{moved}
 use Rattle.state.specs.State.{isClaimed, settingHeld, claimHeld, idle, openChecks, opened, readChecks, withRead, endChecks, withEnd, claimChecks, withClaim, numberChecks, withNumber, repeatChecks, withRepeat, finishChecks}
 use Rattle.state.specs.Turns.{turned, openTurn, readTurn, endTurn, claimTurn, numberTurn, repeatTurn}
-use Rattle.session.specs.Session.{potentialsIn, sumsIn, joined, zeros, void, withState, hand, accept, refuse}
-use Rattle.session.specs.Steps.{opening, readStep, endStep, claimStep, numberStep, repeatStep, finishStep}
+use Rattle.session.specs.Session.{arraysOf, withPotentials, withBalances, zeros, potentialsIn, sumsIn, joined, withArrays, withState, fresh, void, hand, accept, refuse}
+use Rattle.session.specs.Steps.{opening, readStep, endStep, claimStep, numberedArrays, numberStep, repeatedArrays, repeatStep, finishStep}
 use Rattle.state.specs.declared.Response.{Response}
 use Rattle.state.specs.declared.Response.the-variants.{Accepted, Refused}
+use Rattle.session.specs.declared.Arrays.{Arrays}
 use Rattle.session.specs.declared.Reply.{Reply}
 use Rattle.session.specs.declared.Session.{Session}
 use Rattle.state.specs.declared.State.{State}
@@ -58,7 +59,8 @@ module _ (x y : State) (cs : List Check) (n : Numbered cs) (t : Turn) (e : t ≡
 
   same-state : (t .why ≡ 0 → ⊥) → t .state ≡ x
   same-state h =
-      ap (λ (u : Turn). u .state) (e ∙ sym (part-refused (stays x) cs [] (goes y) n (t .why) found h ∙ ap (λ (ds : List Check). turned x ds y) (append-nil cs)))
+      ap (λ (u : Turn). u .state)
+      (e ∙ sym (part-refused (stays x) cs [] (goes y) n (t .why) found h ∙ ap (λ (ds : List Check). turned x ds y) (append-nil cs)))
 
   next-state : t .why ≡ 0 → t .state ≡ y
   next-state z = ap (λ (u : Turn). u .state) (e ∙ settled (stays x) cs (goes y) (none-broken cs n (sym found ∙ z)))
@@ -73,81 +75,76 @@ module _ {A : Type 0} (g : ℕ → A) (cs : List Check) (n : Numbered cs) (v : A
 -- ---- opening
 
 module _ (st : Setting) (r : Point) (u : Turn) (e : u ≡ openTurn st r) where
+  four : Numbered (openChecks st r)
+  four = (refl, (refl, (refl, (refl, tt))))
+
   pub open-found : u .why ≡ firstBroken (openChecks st r)
   unfolding openTurn
-  open-found = found idle (opened st r) (openChecks st r) (refl, (refl, (refl, (refl, tt)))) u e
+  open-found = found idle (opened st r) (openChecks st r) four u e
 
-  pub open-refused : (u .why ≡ 0 → ⊥) → hand (joined zeros zeros (u .state)) (Refused (u .why)) ≡ opening st r
+  pub open-refused : (u .why ≡ 0 → ⊥) → hand (fresh (u .state)) (Refused (u .why)) ≡ opening st r
   unfolding openTurn opening
   open-refused h =
-      ap (λ (y : State). hand (joined zeros zeros y) (Refused (u .why))) (same-state idle (opened st r) (openChecks st r) (refl, (refl, (refl, (refl, tt)))) u e h)
-      ∙ at-refusal (λ why. hand void (Refused why)) (openChecks st r) (refl, (refl, (refl, (refl, tt)))) _ (u .why) open-found h
+      ap (λ (y : State). hand (fresh y) (Refused (u .why))) (same-state idle (opened st r) (openChecks st r) four u e h)
+      ∙ at-refusal (λ why. hand void (Refused why)) (openChecks st r) four _ (u .why) open-found h
 
-  pub open-accepted : u .why ≡ 0 → accept (joined zeros zeros (u .state)) ≡ opening st r
+  pub open-accepted : u .why ≡ 0 → accept (fresh (u .state)) ≡ opening st r
   unfolding openTurn opening
   open-accepted z =
-      ap (λ (y : State). accept (joined zeros zeros y)) (next-state idle (opened st r) (openChecks st r) (refl, (refl, (refl, (refl, tt)))) u e z)
-      ∙ at-end (λ why. hand void (Refused why)) (openChecks st r) (refl, (refl, (refl, (refl, tt)))) _ (u .why) open-found z
+      ap (λ (y : State). accept (fresh y)) (next-state idle (opened st r) (openChecks st r) four u e z)
+      ∙ at-end (λ why. hand void (Refused why)) (openChecks st r) four _ (u .why) open-found z
 
--- ---- a step of the session x that is a turn u of its state
+-- ---- the steps
 
-module _ (x : Session) (y : State) (cs : List Check) (n : Numbered cs) (u : Turn) (e : u ≡ turned (x .state) cs y) where
-  refusing : (v : Reply) → (u .why ≡ 0 → ⊥) → refuse x (u .why) ≡ settle (refuse x) cs v
-  refusing v h = at-refusal (refuse x) cs n v (u .why) (found (x .state) y cs n u e) h
+-- A step of the session x by the turn u of its state replies v; where it is accepted, the next session is y but for the state.
+pub record Replies (x y : Session) (u : Turn) (v : Reply) : Type 0 where
+  pub kept : (u .why ≡ 0 → ⊥) → u .state ≡ x .state
+  pub refused : (u .why ≡ 0 → ⊥) → refuse x (u .why) ≡ v
+  pub accepted : u .why ≡ 0 → accept (withState y (u .state)) ≡ v
 
-  -- make gives the session with the next state
-  accepting : (make : State → Session) → u .why ≡ 0 → accept (make (u .state)) ≡ settle (refuse x) cs (accept (make y))
-  accepting make z = ap (λ (s : State). accept (make s)) (next-state (x .state) y cs n u e z) ∙ at-end (refuse x) cs n (accept (make y)) (u .why) (found (x .state) y cs n u e) z
+by-turn : (x y : Session) (s : State) (cs : List Check) → Numbered cs → (u : Turn) → u ≡ turned (x .state) cs s
+    → Replies x y u (settle (refuse x) cs (accept (withState y s)))
+by-turn x y s cs n u e = record {
+  kept = same-state (x .state) s cs n u e;
+  refused = λ h. at-refusal (refuse x) cs n (accept (withState y s)) (u .why) first h;
+  accepted = λ z.
+      ap (λ (t : State). accept (withState y t)) (next-state (x .state) s cs n u e z)
+      ∙ at-end (refuse x) cs n (accept (withState y s)) (u .why) first z;
+}
+  where
+    first : u .why ≡ firstBroken cs
+    first = found (x .state) s cs n u e
 
-module _ (x : Session) (a : Arc) (u : Turn) (e : u ≡ readTurn (x .state) a) where
-  pub read-refused : (u .why ≡ 0 → ⊥) → refuse x (u .why) ≡ readStep x a
-  unfolding readTurn readStep
-  read-refused h = refusing x (withRead (x .state) a) (readChecks (x .state) a) (refl, (refl, (refl, (refl, tt)))) u e _ h
+pub read-replies : (x : Session) (a : Arc) (u : Turn) → u ≡ readTurn (x .state) a → Replies x x u (readStep x a)
+unfolding readTurn readStep
+read-replies x a u e = by-turn x x (withRead (x .state) a) (readChecks (x .state) a) (refl, (refl, (refl, (refl, tt)))) u e
 
-  pub read-accepted : u .why ≡ 0 → accept (withState x (u .state)) ≡ readStep x a
-  unfolding readTurn readStep
-  read-accepted z = accepting x (withRead (x .state) a) (readChecks (x .state) a) (refl, (refl, (refl, (refl, tt)))) u e (withState x) z
+pub end-replies : (x : Session) (u : Turn) → u ≡ endTurn (x .state) → Replies x x u (endStep x)
+unfolding endTurn endStep
+end-replies x u e = by-turn x x (withEnd (x .state)) (endChecks (x .state)) (refl, tt) u e
 
-module _ (x : Session) (u : Turn) (e : u ≡ endTurn (x .state)) where
-  pub end-refused : (u .why ≡ 0 → ⊥) → refuse x (u .why) ≡ endStep x
-  unfolding endTurn endStep
-  end-refused h = refusing x (withEnd (x .state)) (endChecks (x .state)) (refl, tt) u e _ h
+pub claim-replies : (x : Session) (k : ℕ) (u : Turn) → u ≡ claimTurn (x .state) k → Replies x x u (claimStep x k)
+unfolding claimTurn claimStep
+claim-replies x k u e = by-turn x x (withClaim (x .state) k) (claimChecks (x .state) k) (refl, (refl, tt)) u e
 
-  pub end-accepted : u .why ≡ 0 → accept (withState x (u .state)) ≡ endStep x
-  unfolding endTurn endStep
-  end-accepted z = accepting x (withEnd (x .state)) (endChecks (x .state)) (refl, tt) u e (withState x) z
+pub number-replies : (x : Session) (z : ℤ) (u : Turn) → u ≡ numberTurn (x .state) z → Replies x (withArrays x (numberedArrays x z)) u (numberStep x z)
+unfolding numberTurn numberStep
+number-replies x z u e =
+    by-turn x (withArrays x (numberedArrays x z)) (withNumber (x .state) z) (numberChecks (x .state) z) (refl, (refl, (refl, tt))) u e
 
-module _ (x : Session) (k : ℕ) (u : Turn) (e : u ≡ claimTurn (x .state) k) where
-  pub claim-refused : (u .why ≡ 0 → ⊥) → refuse x (u .why) ≡ claimStep x k
-  unfolding claimTurn claimStep
-  claim-refused h = refusing x (withClaim (x .state) k) (claimChecks (x .state) k) (refl, (refl, tt)) u e _ h
+pub repeat-replies : (x : Session) (l : Load) (u : Turn) → u ≡ repeatTurn (x .state) (potentialsIn x) l → Replies x (withArrays x (repeatedArrays x l)) u (repeatStep x l)
+unfolding repeatTurn repeatStep
+repeat-replies x l u e =
+    by-turn x (withArrays x (repeatedArrays x l)) (withRepeat (x .state) l) (repeatChecks (x .state) (potentialsIn x) l)
+    (refl, (refl, (refl, (refl, (refl, (refl, (refl, tt))))))) u e
 
-  pub claim-accepted : u .why ≡ 0 → accept (withState x (u .state)) ≡ claimStep x k
-  unfolding claimTurn claimStep
-  claim-accepted z = accepting x (withClaim (x .state) k) (claimChecks (x .state) k) (refl, (refl, tt)) u e (withState x) z
-
-module _ (x : Session) (z : ℤ) (u : Turn) (e : u ≡ numberTurn (x .state) z) where
-  pub number-refused : (u .why ≡ 0 → ⊥) → refuse x (u .why) ≡ numberStep x z
-  unfolding numberTurn numberStep
-  number-refused h = refusing x (withNumber (x .state) z) (numberChecks (x .state) z) (refl, (refl, (refl, tt))) u e _ h
-
-  pub number-accepted : (ys : List ℤ) → ys ≡ set (x .potentials) (x .state .numbering .given) z → u .why ≡ 0 → accept (joined ys (x .balances) (u .state)) ≡ numberStep x z
-  unfolding numberTurn numberStep
-  number-accepted ys q h =
-      ap (λ (l : List ℤ). accept (joined l (x .balances) (u .state))) q
-      ∙ accepting x (withNumber (x .state) z) (numberChecks (x .state) z) (refl, (refl, (refl, tt))) u e (λ s. joined (set (x .potentials) (x .state .numbering .given) z) (x .balances) s) h
-
-module _ (x : Session) (l : Load) (u : Turn) (e : u ≡ repeatTurn (x .state) (potentialsIn x) l) where
-  pub repeat-refused : (u .why ≡ 0 → ⊥) → refuse x (u .why) ≡ repeatStep x l
-  unfolding repeatTurn repeatStep
-  repeat-refused h = refusing x (withRepeat (x .state) l) (repeatChecks (x .state) (potentialsIn x) l) (refl, (refl, (refl, (refl, (refl, (refl, (refl, tt))))))) u e _ h
-
-  pub repeat-accepted : (bs : List ℤ) → bs ≡ moved (x .balances) (l .arc .tail) (l .arc .head) (l .amount) → u .why ≡ 0 → accept (joined (x .potentials) bs (u .state)) ≡ repeatStep x l
-  unfolding repeatTurn repeatStep
-  repeat-accepted bs q h =
-      ap (λ (m : List ℤ). accept (joined (x .potentials) m (u .state))) q
-      ∙ accepting x (withRepeat (x .state) l) (repeatChecks (x .state) (potentialsIn x) l) (refl, (refl, (refl, (refl, (refl, (refl, (refl, tt))))))) u e
-      (λ s. joined (x .potentials) (moved (x .balances) (l .arc .tail) (l .arc .head) (l .amount)) s) h
+-- a step that changes nothing but the state
+pub by-state : {x : Session} {u : Turn} {v : Reply} → Replies x x u v → pick (eqb (u .why) 0) (accept (withState x (u .state))) (refuse x (u .why)) ≡ v
+by-state {x} {u} {v} g = go (ℕ-discrete (u .why) 0)
+  where
+    go : Dec (u .why ≡ 0) → pick (eqb (u .why) 0) (accept (withState x (u .state))) (refuse x (u .why)) ≡ v
+    go (yes z) = sym (eqb-on Reply v _ (refuse x (u .why)) (u .why) 0 z (sym (g .accepted z)))
+    go (no n) = sym (eqb-off Reply v (accept (withState x (u .state))) _ (u .why) 0 n (sym (g .refused n)))
 
 -- ---- a step with one way out
 
@@ -158,69 +155,62 @@ overAt x k = pick (eqb k 0) false (isClaimed x && not (eqb k 5))
 abbrev saidAt : ℕ → Response
 saidAt k = pick (eqb k 0) Accepted (Refused k)
 
-abbrev cleared : Session → Bool → Session
-cleared y over = joined (pick over zeros (y .potentials)) (pick over zeros (y .balances)) (pick over idle (y .state))
+-- the session, each part cleared by itself where it is over
+abbrev cleared : Bool → Session → Session
+cleared over y =
+    joined (arraysOf (pick over zeros (y .arrays .potentials)) (pick over zeros (y .arrays .balances))) (pick over idle (y .state))
 
--- y is the next session, or x where the step is refused
-module _ (x y : Session) (k : ℕ) (v : Reply) (accepted : k ≡ 0 → accept y ≡ v) (same : (k ≡ 0 → ⊥) → y ≡ x) (refused : (k ≡ 0 → ⊥) → refuse x k ≡ v) where
-  one-way : hand (cleared y (overAt (x .state) k)) (saidAt k) ≡ v
-  one-way = go (ℕ-discrete k 0)
+-- arrays of which one is touched where a test holds
+pub touched : (make : List ℤ → Arrays) (b : Bool) (p q : List ℤ) {l : List ℤ} → l ≡ pick b p q → make l ≡ pick b (make p) (make q)
+touched make true p q e = ap make e
+touched make false p q e = ap make e
+
+-- a: the arrays after the step, before a session that is over is cleared
+module _ {x y : Session} {u : Turn} {v : Reply} (g : Replies x y u v) (a : Arrays) (ea : a ≡ pick (eqb (u .why) 0) (y .arrays) (x .arrays)) where
+  abbrev after : Session
+  after = joined a (u .state)
+
+  out : hand (cleared (overAt (x .state) (u .why)) after) (saidAt (u .why)) ≡ v
+  out = go (ℕ-discrete (u .why) 0)
     where
-      next : (a b : Bool) → a ≡ true → hand (cleared y (pick a false b)) (pick a Accepted (Refused k)) ≡ accept y
-      next true b e = refl
-      next false b e = absurd (false≢true e)
+      next : (b d : Bool) → b ≡ true → hand (cleared (pick b false d) after) (pick b Accepted (Refused (u .why))) ≡ accept after
+      next true d e = refl
+      next false d e = absurd (false≢true e)
 
-      back : (a b d : Bool) → a ≡ false → hand (cleared x (pick a false (b && not d))) (pick a Accepted (Refused k)) ≡ hand (pick b (pick d x void) x) (Refused k)
-      back true b d e = absurd (false≢true (sym e))
+      back : (b c d : Bool) → b ≡ false → hand (cleared (pick b false (c && not d)) x) (pick b Accepted (Refused (u .why))) ≡ hand (pick c (pick d x void) x) (Refused (u .why))
+      back true c d e = absurd (false≢true (sym e))
       back false true true e = refl
       back false true false e = refl
       back false false d e = refl
 
-      go : Dec (k ≡ 0) → hand (cleared y (overAt (x .state) k)) (saidAt k) ≡ v
-      go (yes z) = next (eqb k 0) _ (eq-eqb k 0 z) ∙ accepted z
+      go : Dec (u .why ≡ 0) → hand (cleared (overAt (x .state) (u .why)) after) (saidAt (u .why)) ≡ v
+      go (yes z) =
+          next (eqb (u .why) 0) _ (eq-eqb (u .why) 0 z)
+          ∙ ap (λ (c : Arrays). accept (joined c (u .state))) (ea ∙ sym (on Arrays (y .arrays) (y .arrays) (x .arrays) _ (eq-eqb (u .why) 0 z) refl))
+          ∙ g .accepted z
       go (no n) =
-          ap (λ (u : Session). hand (cleared u (overAt (x .state) k)) (saidAt k)) (same n)
-          ∙ back (eqb k 0) (isClaimed (x .state)) (eqb k 5) (ne-eqb k 0 n) ∙ refused n
+          (λ i. hand (cleared (overAt (x .state) (u .why)) (joined ((ea ∙ sym (off Arrays (x .arrays) (y .arrays) (x .arrays) _ (ne-eqb (u .why) 0 n) refl)) i) (g .kept n i))) (saidAt (u .why)))
+          ∙ back (eqb (u .why) 0) (isClaimed (x .state)) (eqb (u .why) 5) (ne-eqb (u .why) 0 n)
+          ∙ g .refused n
 
--- what the code hands back, by its parts
-handed : (y : Session) (k : ℕ) (o over : Bool) (ys bs : List ℤ) (s : State) (a : Response) → over ≡ o
-    → ys ≡ pick over zeros (y .potentials) → bs ≡ pick over zeros (y .balances) → s ≡ pick over idle (y .state) → a ≡ saidAt k
-    → hand (joined ys bs s) a ≡ hand (cleared y o) (saidAt k)
-handed y k o over ys bs s a eo ey eb es ea =
-    (λ i. hand (joined (ey i) (eb i) (es i)) (ea i)) ∙ ap (λ (p : Bool). hand (cleared y p) (saidAt k)) eo
-
-module _ (x : Session) (z : ℤ) (u : Turn) (e : u ≡ numberTurn (x .state) z) (over : Bool) (eo : over ≡ overAt (x .state) (u .why)) where
-  pub number-handed : (l : List ℤ) → l ≡ pick (eqb (u .why) 0) (set (x .potentials) (x .state .numbering .given) z) (x .potentials) → {ys bs : List ℤ} {s : State} {a : Response}
-      → ys ≡ pick over zeros l → bs ≡ pick over zeros (x .balances) → s ≡ pick over idle (u .state) → a ≡ saidAt (u .why) → hand (joined ys bs s) a ≡ numberStep x z
-  unfolding numberTurn
-  number-handed l el {ys} {bs} {s} {a} ey eb es ea =
-      let y = joined l (x .balances) (u .state) in
-      handed y (u .why) (overAt (x .state) (u .why)) over ys bs s a eo ey eb es ea
-      ∙ one-way x y (u .why) (numberStep x z) (λ q. number-accepted x z u e l (el ∙ sym (on (List ℤ) _ _ _ _ (eq-eqb (u .why) 0 q) refl)) q)
-      (λ n. λ i. joined ((el ∙ sym (off (List ℤ) _ _ _ _ (ne-eqb (u .why) 0 n) refl)) i) (x .balances) (same-state (x .state) (withNumber (x .state) z) (numberChecks (x .state) z) (refl, (refl, (refl, tt))) u e n i))
-      (λ n. number-refused x z u e n)
-
-module _ (x : Session) (l : Load) (u : Turn) (e : u ≡ repeatTurn (x .state) (potentialsIn x) l) (over : Bool) (eo : over ≡ overAt (x .state) (u .why)) where
-  pub repeat-handed : (m : List ℤ) → m ≡ pick (eqb (u .why) 0) (moved (x .balances) (l .arc .tail) (l .arc .head) (l .amount)) (x .balances) → {ys bs : List ℤ} {s : State} {a : Response}
-      → ys ≡ pick over zeros (x .potentials) → bs ≡ pick over zeros m → s ≡ pick over idle (u .state) → a ≡ saidAt (u .why) → hand (joined ys bs s) a ≡ repeatStep x l
-  unfolding repeatTurn
-  repeat-handed m em {ys} {bs} {s} {a} ey eb es ea =
-      let y = joined (x .potentials) m (u .state) in
-      handed y (u .why) (overAt (x .state) (u .why)) over ys bs s a eo ey eb es ea
-      ∙ one-way x y (u .why) (repeatStep x l) (λ q. repeat-accepted x l u e m (em ∙ sym (on (List ℤ) _ _ _ _ (eq-eqb (u .why) 0 q) refl)) q)
-      (λ n. λ i. joined (x .potentials) ((em ∙ sym (off (List ℤ) _ _ _ _ (ne-eqb (u .why) 0 n) refl)) i)
-      (same-state (x .state) (withRepeat (x .state) l) (repeatChecks (x .state) (potentialsIn x) l) (refl, (refl, (refl, (refl, (refl, (refl, (refl, tt))))))) u e n i))
-      (λ n. repeat-refused x l u e n)
+  pub one-way : (over : Bool) → over ≡ overAt (x .state) (u .why) → {ys bs : List ℤ} {s : State} {r : Response}
+      → ys ≡ pick over zeros (a .potentials) → bs ≡ pick over zeros (a .balances) → s ≡ pick over idle (u .state) → r ≡ saidAt (u .why)
+      → hand (joined (arraysOf ys bs) s) r ≡ v
+  one-way over eo ey eb es er =
+      (λ i. hand (joined (arraysOf (ey i) (eb i)) (es i)) (er i)) ∙ ap (λ (o : Bool). hand (cleared o after) (saidAt (u .why))) eo ∙ out
 
 -- ---- finishing
 
 module _ (x : Session) (why : ℕ) (broken : why ≡ firstBroken (finishChecks (x .state) (potentialsIn x) (sumsIn x))) where
+  six : Numbered (finishChecks (x .state) (potentialsIn x) (sumsIn x))
+  six = (refl, (refl, (refl, (refl, (refl, (refl, tt))))))
+
   pub finish-refused : (why ≡ 0 → ⊥) → refuse x why ≡ finishStep x
   unfolding finishStep
-  finish-refused h = at-refusal (refuse x) (finishChecks (x .state) (potentialsIn x) (sumsIn x)) (refl, (refl, (refl, (refl, (refl, (refl, tt)))))) _ why broken h
+  finish-refused h = at-refusal (refuse x) (finishChecks (x .state) (potentialsIn x) (sumsIn x)) six _ why broken h
 
   pub finish-answered : (y : Session) (a : Response) → y ≡ void → a ≡ answered (answerOf (settingHeld (x .state)) (claimHeld (x .state)) (sumsIn x)) → why ≡ 0 → hand y a ≡ finishStep x
   unfolding finishStep
   finish-answered y a p q z =
       ap₂ (λ (y : Session) (a : Response). hand y a) p q
-      ∙ at-end (refuse x) (finishChecks (x .state) (potentialsIn x) (sumsIn x)) (refl, (refl, (refl, (refl, (refl, (refl, tt)))))) _ why broken z
+      ∙ at-end (refuse x) (finishChecks (x .state) (potentialsIn x) (sumsIn x)) six _ why broken z

@@ -1,4 +1,4 @@
--- A session: its state with the node numbers and the balances of the vertices, and what a refusal leaves of it (PANEL 6).
+-- A session: its state with what it holds of each vertex, the node number and the balance, and what a refusal leaves of it (PANEL 6).
 -- Assumes nothing.
 use mathlib.Core.List.{List}
 use Prim.Native.Nat.{ℕ}
@@ -17,40 +17,67 @@ use Rattle.state.specs.declared.Response.{Response}
 use Rattle.state.specs.declared.Response.the-variants.{Accepted, Refused}
 use Rattle.state.specs.declared.State.{State}
 use Rattle.points.specs.declared.Stream.{Stream}
+use Rattle.session.specs.declared.Arrays.{Arrays}
 use Rattle.session.specs.declared.Reply.{Reply}
 use Rattle.session.specs.declared.Session.{Session}
 
--- ---- what a session holds
+-- ---- arrays
 
--- The node numbers that were given.
-abbrev pub potentialsIn : Session → ℕ → ℤ
-potentialsIn x = at (x .potentials)
+-- The arrays of node numbers and of balances.
+abbrev pub arraysOf : List ℤ → List ℤ → Arrays
+arraysOf ys bs = record { potentials = ys; balances = bs }
 
--- The sums over the repeated arcs.
-abbrev pub sumsIn : Session → Sums
-sumsIn x = sumsHeld (x .balances) (x .state .repeating .cost) (x .state .repeating .cut)
+-- The arrays with other node numbers.
+abbrev pub withPotentials : Arrays → List ℤ → Arrays
+withPotentials a ys = arraysOf ys (a .balances)
 
--- ---- sessions
-
--- The session of node numbers, balances and a state.
-abbrev pub joined : List ℤ → List ℤ → State → Session
-joined ys bs x = record { potentials = ys; balances = bs; state = x }
+-- The arrays with other balances.
+abbrev pub withBalances : Arrays → List ℤ → Arrays
+withBalances a bs = arraysOf (a .potentials) bs
 
 -- 0 for each vertex.
 abbrev pub zeros : List ℤ
 zeros = replicate mostVertices (pos 0)
 
--- A session before the claim.
-abbrev pub holding : ℕ → HeldSetting → Point → Stream → Session
-holding ph st r m = joined zeros zeros (begun ph st r m)
+-- 0 for each vertex in every array.
+abbrev pub zeroArrays : Arrays
+zeroArrays = arraysOf zeros zeros
 
--- A session that is over, void or ended (PANEL 6).
-abbrev pub void : Session
-void = joined zeros zeros idle
+-- ---- what a session holds
+
+-- The node numbers that were given.
+abbrev pub potentialsIn : Session → ℕ → ℤ
+potentialsIn x = at (x .arrays .potentials)
+
+-- The sums over the repeated arcs.
+abbrev pub sumsIn : Session → Sums
+sumsIn x = sumsHeld (x .arrays .balances) (x .state .repeating .cost) (x .state .repeating .cut)
+
+-- ---- sessions
+
+-- The session of arrays and a state.
+abbrev pub joined : Arrays → State → Session
+joined a x = record { arrays = a; state = x }
+
+-- The session with other arrays.
+abbrev pub withArrays : Session → Arrays → Session
+withArrays x a = joined a (x .state)
 
 -- The session with another state.
 abbrev pub withState : Session → State → Session
-withState x y = joined (x .potentials) (x .balances) y
+withState x y = joined (x .arrays) y
+
+-- The session of a state before its arrays are touched.
+abbrev pub fresh : State → Session
+fresh x = joined zeroArrays x
+
+-- A session before the claim.
+abbrev pub holding : ℕ → HeldSetting → Point → Stream → Session
+holding ph st r m = fresh (begun ph st r m)
+
+-- A session that is over, void or ended (PANEL 6).
+abbrev pub void : Session
+void = fresh idle
 
 -- ---- replies
 

@@ -11,7 +11,7 @@ ghost use Rattle.checks.specs.Held.{handed};
 ghost use Rattle.vertex_arrays.specs.Arrays.{moved};
 ghost use Rattle.state.specs.State.{isClaimed};
 ghost use Rattle.state.specs.declared.Response.the-variants.{Accepted, Refused};
-ghost use Rattle.session.specs.Session.{zeros, void, refuse};
+ghost use Rattle.session.specs.Session.{zeros, zeroArrays, withState, fresh, void, accept, refuse};
 ghost use Rattle.session.specs.Steps.{opening, readStep, endStep, claimStep, numberStep, repeatStep, finishStep};
 use arc_records::Balances;
 use arc_records::MOST_VERTICES;
@@ -21,13 +21,19 @@ use checks::Opening;
 use points::Point;
 use state::Response;
 use state::State;
+use state::Turn;
 use state::groups::idle;
 use vertex_arrays::move_amount;
 
+// What a session holds of each vertex: its node number and its balance.
+pub struct Arrays {
+    pub potentials: Potentials,
+    pub balances: Balances,
+}
+
 // The state stands last: so a step that touches nothing else is compiled without a copy of the arrays.
 pub struct Session {
-    potentials: Potentials,
-    balances: Balances,
+    arrays: Arrays,
     state: State,
 }
 
@@ -36,15 +42,31 @@ pub struct Reply {
     pub answer: Response,
 }
 
+// 0 for each vertex in every array.
+pub fn zero_arrays() -> Arrays
+    ensures { λ r. ⌜ r ≡ zeroArrays ⌝ }
+{
+    Arrays {
+        potentials: [0i32; MOST_VERTICES as usize],
+        balances: [0i64; MOST_VERTICES as usize],
+    }
+}
+
+// The session of a state before its arrays are touched.
+fn fresh(state: State) -> Session
+    ensures { λ r. ⌜ r ≡ fresh state ⌝ }
+{
+    Session {
+        arrays: zero_arrays(),
+        state: state,
+    }
+}
+
 // A void session; an ended one is the same.
 fn ended() -> Session
     ensures { λ r. ⌜ r ≡ void ⌝ }
 {
-    Session {
-        potentials: [0i32; MOST_VERTICES as usize],
-        balances: [0i64; MOST_VERTICES as usize],
-        state: idle(),
-    }
+    fresh(idle())
 }
 
 // 0 for each vertex where the session is over.
@@ -124,6 +146,22 @@ impl Session {
         }
     }
 
+    // The reply to a step that changes nothing but the state.
+    fn turned(mut self, turn: Turn) -> Reply
+        ensures { λ r. ⌜ r ≡ pick (eqb (turn .why) 0) (accept (withState self (turn .state))) (refuse self (turn .why)) ⌝ }
+    {
+        let why = turn.why;
+        if why != 0 {
+            return self.refuse(why);
+        }
+        let next = turn.state;
+        self.state = next;
+        Reply {
+            session: self,
+            answer: Response::Accepted,
+        }
+    }
+
     // Opening; refused, the session is void.
     pub fn open(o: Opening, point: Point) -> Reply
         ensures { λ r. ⌜ r ≡ opening (handed o) point ⌝ }
@@ -131,11 +169,7 @@ impl Session {
         let turn = State::open(o, point);
         let why = turn.why;
         let state = turn.state;
-        let session = Session {
-            potentials: [0i32; MOST_VERTICES as usize],
-            balances: [0i64; MOST_VERTICES as usize],
-            state: state,
-        };
+        let session = fresh(state);
         if why != 0 {
             return Reply {
                 session: session,
@@ -149,7 +183,7 @@ impl Session {
     }
 
     // Reading a channel.
-    pub fn read_channel(mut self, a: u32, b: u32, w: u32) -> Reply
+    pub fn read_channel(self, a: u32, b: u32, w: u32) -> Reply
         ensures { λ r. ⌜ r ≡ readStep self (arcOf a b w) ⌝ }
     {
         let state = self.state;
@@ -158,52 +192,25 @@ impl Session {
             head: b,
             weight: w,
         });
-        let why = turn.why;
-        if why != 0 {
-            return self.refuse(why);
-        }
-        let next = turn.state;
-        self.state = next;
-        Reply {
-            session: self,
-            answer: Response::Accepted,
-        }
+        self.turned(turn)
     }
 
     // Ending the reading.
-    pub fn end_reading(mut self) -> Reply
+    pub fn end_reading(self) -> Reply
         ensures { λ r. ⌜ r ≡ endStep self ⌝ }
     {
         let state = self.state;
         let turn = state.end_reading();
-        let why = turn.why;
-        if why != 0 {
-            return self.refuse(why);
-        }
-        let next = turn.state;
-        self.state = next;
-        Reply {
-            session: self,
-            answer: Response::Accepted,
-        }
+        self.turned(turn)
     }
 
     // The claim.
-    pub fn claim(mut self, claim: u32) -> Reply
+    pub fn claim(self, claim: u32) -> Reply
         ensures { λ r. ⌜ r ≡ claimStep self claim ⌝ }
     {
         let state = self.state;
         let turn = state.claim(claim);
-        let why = turn.why;
-        if why != 0 {
-            return self.refuse(why);
-        }
-        let next = turn.state;
-        self.state = next;
-        Reply {
-            session: self,
-            answer: Response::Accepted,
-        }
+        self.turned(turn)
     }
 
     // A node number. With one way out, so that the session is copied as seldom as can be.
@@ -214,9 +221,9 @@ impl Session {
         let turn = state.node_number(y);
         let why = turn.why;
         let over = is_over(state, why);
-        store_accepted(state, &mut self.potentials, why, y);
-        clear_numbers(&mut self.potentials, over);
-        clear_balances(&mut self.balances, over);
+        store_accepted(state, &mut self.arrays.potentials, why, y);
+        clear_numbers(&mut self.arrays.potentials, over);
+        clear_balances(&mut self.arrays.balances, over);
         let next = turn.state;
         self.state = next.left(over);
         Reply {
@@ -235,12 +242,12 @@ impl Session {
             head: b,
             weight: w,
         };
-        let turn = state.repeat_channel(&self.potentials, arc, x);
+        let turn = state.repeat_channel(&self.arrays.potentials, arc, x);
         let why = turn.why;
         let over = is_over(state, why);
-        move_accepted(&mut self.balances, why, arc, x);
-        clear_numbers(&mut self.potentials, over);
-        clear_balances(&mut self.balances, over);
+        move_accepted(&mut self.arrays.balances, why, arc, x);
+        clear_numbers(&mut self.arrays.potentials, over);
+        clear_balances(&mut self.arrays.balances, over);
         let next = turn.state;
         self.state = next.left(over);
         Reply {
@@ -254,8 +261,8 @@ impl Session {
         ensures { λ r. ⌜ r ≡ finishStep self ⌝ }
     {
         let state = self.state;
-        let potentials = self.potentials;
-        let balances = self.balances;
+        let potentials = self.arrays.potentials;
+        let balances = self.arrays.balances;
         let why = state.finish_check(potentials, balances);
         if why != 0 {
             return self.refuse(why);

@@ -1,32 +1,34 @@
 -- `session::Session::node_number` meets its contract.
 -- Assumes nothing.
-use mathlib.Core.Path.{_≡_, _∙_, ap}
-use mathlib.Core.Bool.{Bool}
-use mathlib.Core.List.{List}
-use Prim.Native.Nat.{ℕ}
+use mathlib.Core.Path.{_∙_, ap}
 use Rattle.prelude.specs.Choice.{pick}
-use Rattle.session.proofs.TurnsToSteps.{number-handed}
 use lib.Dec.{eqb}
 use lib.IntN.{ℤ}
 use lib.ListN.{set}
 use mir.Facts.{toZ-ofZ}
 use Rattle.state.specs.Turns.{numberTurn}
+use Rattle.session.specs.Session.{withPotentials}
+use Rattle.session.proofs.TurnsToSteps.{number-replies, touched, one-way}
 use Rattle.session.proofs.Session.node_number.Statement.{statement}
 use Rattle.session.proofs.Session.node_number.Tie as tie
 
--- what is stored of a number is what is stored of an equal one
-stored-same : (b : Bool) (l : List ℤ) (i : ℕ) {m : List ℤ} {y z : ℤ} → m ≡ pick b (set l i y) l → y ≡ z → m ≡ pick b (set l i z) l
-stored-same b l i e f = e ∙ ap (λ (z : ℤ). pick b (set l i z) l) f
-
+-- e is where the session is known to be over or not, t where the turn of the state is made, s where the arguments are
 returns : tie.Need-returns
 returns c =
-    let s = c .before .before .before .before .before .before .before .before .before .before .before .before .args in
-    let x = s .t1 in
-    let back = toZ-ofZ (c .before .before .before .before .before .before .before .before .before .before .before .before .fits .y) in
-    let turn = c .before .before .before .before .before .before .before .before .before .before .node-number in
-    number-handed x (s .y) (turn .result) (turn .ensures ∙ ap (numberTurn (x .state)) back) (c .before .before .before .before .before .before .before .before .before .is-over .result) (c .before .before .before .before .before .before .before .before .before .is-over .ensures) _
-    (stored-same (eqb (turn .result .why) 0) (x .potentials) (x .state .numbering .given) (c .before .before .before .before .before .before .before .store-accepted .ensures) back)
-    (c .before .before .before .before .before .clear-numbers .ensures) (c .before .before .before .clear-balances .ensures) (c .before .left .ensures) (c .answer-to .ensures)
+    let stored = c .before .before .before .before .before .before .before in
+    let e = stored .before .before in
+    let t = e .before in
+    let s = t .before .before in
+    let x = s .args .t1 in
+    let u = t .node-number in
+    let back = toZ-ofZ (s .fits .y) in
+    let at = x .state .numbering .given in
+    let ys = x .arrays .potentials in
+    let accepted = eqb (u .result .why) 0 in
+    one-way (number-replies x (s .args .y) (u .result) (u .ensures ∙ ap (numberTurn (x .state)) back)) (withPotentials (x .arrays) _)
+    (touched (withPotentials (x .arrays)) accepted (set ys at (s .args .y)) ys (stored .store-accepted .ensures ∙ ap (λ (z : ℤ). pick accepted (set ys at z) ys) back))
+    (e .is-over .result) (e .is-over .ensures) (c .before .before .before .before .before .clear-numbers .ensures)
+    (c .before .before .before .clear-balances .ensures) (c .before .left .ensures) (c .answer-to .ensures)
 
 pub node-number-spec : {M : Type 1} → statement M
 node-number-spec =

@@ -16,7 +16,7 @@ use Rattle.session.specs.declared.Session.{Session}
 use Rattle.runs.specs.Run.{Step, step, run}
 use Rattle.runs.specs.Exchange.{outcome}
 use Rattle.runs.proofs.FirstAndLast.{outcome-alone}
-use Rattle.judging.specs.RunsTo.{RunsTo}
+use Rattle.judging_runs.specs.RunsTo.{RunsTo}
 
 -- ---- one step after the other
 

@@ -1,9 +1,9 @@
--- `judging::running::annotation_steps` meets its contract: at each place where it ends, what it gives is what the steps come out as.
+-- `judging_runs::annotation_steps` meets its contract: at each place where it ends, what it gives is what the steps come out as.
 -- Assumes nothing.
 use borrow.Author.Needs.{needs}
-use Rattle.judging.proofs.AnnotationReturns.{at-end, at-claim, at-numbers, at-repeats, at-finish, at-answer}
-use Rattle.judging.proofs.running.annotation_steps.Statement.{statement}
-use Rattle.judging.proofs.running.annotation_steps.Tie as tie
+use Rattle.judging_runs.proofs.AnnotationReturns.{at-end, at-claim, at-numbers, at-repeats, at-finish, at-answer}
+use Rattle.judging_runs.proofs.annotation_steps.Statement.{statement}
+use Rattle.judging_runs.proofs.annotation_steps.Tie as tie
 
 -- In each answer: s is where the arguments are, e where reading is ended, k where the claim is made, v where the node numbers are given, r where the arcs are repeated, f where finishing is checked.
 returns : tie.Need-returns
@@ -30,7 +30,7 @@ returns-3 c =
     let s = e .before .before .args in
     at-numbers (s .x) (s .n) (s .file .now) (e .end-reading .result) (e .end-reading .ensures)
     (k .before .before .if1 .left) (k .before .claim .result) (k .before .claim .ensures) (k .claim2 .result) (k .claim2 .ensures)
-    (v .before .before .if2 .left) (v .number-all .result .why) _ (v .number-all .result .state) (v .number-all .ensures)
+    (v .before .before .if2 .left) (v .number-all .result .why) _ (v .number-all .ensures)
     (c .if3 .taken)
 
 returns-4 : tie.Need-returns-4
@@ -42,8 +42,8 @@ returns-4 c =
     let s = e .before .before .args in
     at-repeats (s .x) (s .n) (s .file .now) (e .end-reading .result) (e .end-reading .ensures)
     (k .before .before .if1 .left) (k .before .claim .result) (k .before .claim .ensures) (k .claim2 .result) (k .claim2 .ensures)
-    (v .before .before .if2 .left) (v .number-all .result .why) _ (v .number-all .result .state) (v .number-all .ensures)
-    (r .before .before .before .if3 .left) (r .repeat-all .result .why) _ (r .repeat-all .result .state) (r .repeat-all .ensures)
+    (v .before .before .if2 .left) (v .number-all .result .why) _ (v .number-all .ensures)
+    (r .before .before .before .if3 .left) (r .repeat-all .result .why) _ (r .repeat-all .ensures)
     (c .if4 .taken)
 
 returns-5 : tie.Need-returns-5
@@ -56,8 +56,8 @@ returns-5 c =
     let s = e .before .before .args in
     at-finish (s .x) (s .n) (s .file .now) (e .end-reading .result) (e .end-reading .ensures)
     (k .before .before .if1 .left) (k .before .claim .result) (k .before .claim .ensures) (k .claim2 .result) (k .claim2 .ensures)
-    (v .before .before .if2 .left) (v .number-all .result .why) _ (v .number-all .result .state) (v .number-all .ensures)
-    (r .before .before .before .if3 .left) (r .repeat-all .result .why) _ (r .repeat-all .result .state) (r .repeat-all .ensures)
+    (v .before .before .if2 .left) (v .number-all .result .why) _ (v .number-all .ensures)
+    (r .before .before .before .if3 .left) (r .repeat-all .result .why) _ (r .repeat-all .ensures)
     (f .before .before .if4 .left) (f .finish-check .result) (f .finish-check .ensures)
     (c .if5 .taken)
 
@@ -71,8 +71,8 @@ returns-6 c =
     let s = e .before .before .args in
     at-answer (s .x) (s .n) (s .file .now) (e .end-reading .result) (e .end-reading .ensures)
     (k .before .before .if1 .left) (k .before .claim .result) (k .before .claim .ensures) (k .claim2 .result) (k .claim2 .ensures)
-    (v .before .before .if2 .left) (v .number-all .result .why) _ (v .number-all .result .state) (v .number-all .ensures)
-    (r .before .before .before .if3 .left) (r .repeat-all .result .why) _ (r .repeat-all .result .state) (r .repeat-all .ensures)
+    (v .before .before .if2 .left) (v .number-all .result .why) _ (v .number-all .ensures)
+    (r .before .before .before .if3 .left) (r .repeat-all .result .why) _ (r .repeat-all .ensures)
     (f .before .before .if4 .left) (f .finish-check .result) (f .finish-check .ensures)
     (c .before .if5 .left) (c .answer .result) (c .answer .ensures)
 

@@ -3,11 +3,11 @@ ghost use mathlib.Core.Path.{_≡_};
 ghost use mathlib.Core.List.{map};
 ghost use Rattle.format.specs.Files.{arcsIn, numbersIn, loadsIn};
 ghost use Rattle.state.specs.Answers.{said};
-ghost use Rattle.session.specs.Session.{joined, zeros};
+ghost use Rattle.session.specs.Session.{arraysOf, withPotentials, zeroArrays, joined, fresh};
 ghost use Rattle.runs.specs.Run.{read, number, repeat, run};
 ghost use Rattle.runs.specs.Exchange.{outcome};
-ghost use Rattle.judging.specs.RunsTo.{RunsTo};
-ghost use Rattle.judging.specs.Judging.{stepsIn};
+ghost use Rattle.judging_runs.specs.RunsTo.{RunsTo};
+ghost use Rattle.judging_runs.specs.FileSteps.{stepsIn};
 use arc_records::Balances;
 use arc_records::MOST_VERTICES;
 use arc_records::Potentials;
@@ -19,8 +19,8 @@ use state::Turn;
 use vertex_arrays::move_amount;
 
 // Reads the arcs of a network file.
-pub(crate) fn read_all(x: State, file: &[u8]) -> Turn
-    ensures { λ r. ⌜ RunsTo (joined zeros zeros x) (map read (arcsIn (now (file .entry)))) (r .why) (joined zeros zeros (r .state)) ⌝ }
+pub fn read_all(x: State, file: &[u8]) -> Turn
+    ensures { λ r. ⌜ RunsTo (fresh x) (map read (arcsIn (now (file .entry)))) (r .why) (fresh (r .state)) ⌝ }
 {
     let m = network_file::count(file) as usize;
     let mut y = x;
@@ -40,7 +40,7 @@ pub(crate) fn read_all(x: State, file: &[u8]) -> Turn
 
 // The n node numbers of an annotation file.
 fn number_all(x: State, potentials: &mut Potentials, file: &[u8], n: u8) -> Turn
-    ensures { λ r. ⌜ RunsTo (joined (now (potentials .entry)) zeros x) (map number (numbersIn n (now (file .entry)))) (r .why) (joined (now (potentials .exit)) zeros (r .state)) ⌝ }
+    ensures { λ r. ⌜ RunsTo (joined (withPotentials zeroArrays (now (potentials .entry))) x) (map number (numbersIn n (now (file .entry)))) (r .why) (joined (withPotentials zeroArrays (now (potentials .exit))) (r .state)) ⌝ }
 {
     let m = n as usize;
     let mut y = x;
@@ -67,7 +67,7 @@ fn repeat_all(
     file: &[u8],
     n: u8,
 ) -> Turn
-    ensures { λ r. ⌜ RunsTo (joined (now (potentials .entry)) (now (balances .entry)) x) (map repeat (loadsIn n (now (file .entry)))) (r .why) (joined (now (potentials .entry)) (now (balances .exit)) (r .state)) ⌝ }
+    ensures { λ r. ⌜ RunsTo (joined (arraysOf (now (potentials .entry)) (now (balances .entry))) x) (map repeat (loadsIn n (now (file .entry)))) (r .why) (joined (arraysOf (now (potentials .entry)) (now (balances .exit))) (r .state)) ⌝ }
 {
     let m = annotation_file::count(file) as usize;
     let mut y = x;
@@ -87,8 +87,8 @@ fn repeat_all(
 }
 
 // The steps of an annotation file with n node numbers, from the end of reading to finishing.
-pub(crate) fn annotation_steps(x: State, file: &[u8], n: u8) -> Response
-    ensures { λ r. ⌜ said r ≡ outcome (run (joined zeros zeros x) (stepsIn n (now (file .entry)))) ⌝ }
+pub fn annotation_steps(x: State, file: &[u8], n: u8) -> Response
+    ensures { λ r. ⌜ said r ≡ outcome (run (fresh x) (stepsIn n (now (file .entry)))) ⌝ }
 {
     let mut potentials = [0i32; MOST_VERTICES as usize];
     let mut balances = [0i64; MOST_VERTICES as usize];

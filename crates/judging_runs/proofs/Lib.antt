@@ -1,0 +1,2 @@
+pub mod StepLoops
+pub mod AnnotationReturns

@@ -1,0 +1,2 @@
+pub mod FileSteps
+pub mod RunsTo
