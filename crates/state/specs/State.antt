@@ -16,7 +16,7 @@ use Rattle.network.specs.Network.{Load, crosses}
 use Rattle.network.specs.Question.{Setting, asks, unitCost, unitsMost}
 use Rattle.network.specs.Certificate.{Claim, Sums}
 use Rattle.network.specs.Tests.{openingChecks, readingChecks, claimOf, claimingChecks, Numbers, numberingChecks, repeatingChecks, finishingChecks}
-use Rattle.points.specs.Points.{pointOk, samePrint, emptyStream, extendStream}
+use Rattle.points.specs.Points.{noPoint, pointOk, samePrint, emptyStream, extendStream}
 use Rattle.points.specs.declared.Point.{Point}
 use Rattle.points.specs.declared.Stream.{Stream}
 use Rattle.checks.specs.Held.{asked}
@@ -116,7 +116,7 @@ begun ph st r m = stateOf ph (record { setting = st; point = r; list = m }) (cla
 
 -- The state of a session that is over, void or ended (PANEL 6).
 abbrev pub idle : State
-idle = begun phaseOver (record { question = 0; n = 0; s = 0; t = 0 }) (record { r = 0 }) emptyStream
+idle = begun phaseOver (record { question = 0; n = 0; s = 0; t = 0 }) noPoint emptyStream
 
 -- ---- opening and the six steps: the checks in their order, and the next state
 

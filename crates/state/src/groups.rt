@@ -137,5 +137,5 @@ pub fn idle() -> State
         s: 0,
         t: 0,
     };
-    begun(OVER, setting, Point { r: 0 })
+    begun(OVER, setting, points::no_point())
 }
