@@ -20,11 +20,11 @@ use Rattle.prelude.proofs.Integers.{signed, parts-add}
 use Rattle.prelude.proofs.Settle.{settled, hold-left, Numbered, none-broken, part-refused, part-passed}
 use Rattle.arc_records.specs.Arcs.{Arc, arcHeld}
 use Rattle.network.specs.Network.{Load, loadHeld}
-use Rattle.network.specs.Question.{Question, shortestPath, maximumFlow, assignment, acyclicity, unasked, Setting, asks, EndsFor, Opened, unitCost}
+use Rattle.network.specs.Question.{Question, shortestPath, maximumFlow, assignment, acyclicity, unasked, Setting, asks, unitCost}
 use Rattle.network.specs.Certificate.{Claim, ofValue, ofNone, Ends, endsOf, Sums, Rules, rulesFor, rulesOf}
 use Rattle.network.specs.Tests.{openingChecks, arcChecks}
 use Rattle.arc_records.specs.declared.Record.{Record}
-use Rattle.network.proofs.Allowed.{asked-least, opening-rule, weight-rule}
+use Rattle.network.proofs.Allowed.{opening-rule, opened-small, weight-rule}
 use Rattle.points.specs.Points.{pointOk, samePrint, extendStream}
 use Rattle.points.specs.declared.Point.{Point}
 use Rattle.points.specs.declared.Stream.{Stream}
@@ -89,25 +89,11 @@ read-done x e m h = λ i. stateOf (x .phase) (record { setting = x .reading .set
 
 -- ---- numbers that fit eight bits, by the checks that they passed
 
--- what opening lets pass: s and t are below n, or 0
-pub open-small : (st : Setting) (r : Point) (why : ℕ) → why ≡ firstBroken (openChecks st r) → why ≡ 0 → (st .question ≤ 4) × (st .n ≤ 255) × (st .s ≤ 255) × (st .t ≤ 255)
-open-small st r why found z = let ends = go (asks st) (o .ends) in (asked-least (st .question) (h .0), ends .0, ends .1, ends .2)
-  where
-    h : Hold (openChecks st r)
-    h = none-broken (openChecks st r) (refl, (refl, (refl, (refl, tt)))) (sym found ∙ z)
-
-    o : Opened st
-    o = opening-rule st (hold-left (openingChecks st) (4 unless pointOk r ∷ []) h)
-
-    most : st .n ≤ 255
-    most = o .sized .at-most
-
-    go : (q : Question) → EndsFor q st → (st .n ≤ 255) × (st .s ≤ 255) × (st .t ≤ 255)
-    go shortestPath e = (most, omega (arith, most, e .source-below), omega (arith, most, e .sink-below))
-    go maximumFlow e = (most, omega (arith, most, e .source-below), omega (arith, most, e .sink-below))
-    go assignment e = (most, omega (arith, e .source-zero), omega (arith, e .sink-zero))
-    go acyclicity e = (most, omega (arith, e .source-zero), omega (arith, e .sink-zero))
-    go unasked e = absurd e
+pub open-small : (st : Setting) (r : Point) (why : ℕ) → why ≡ firstBroken (openChecks st r) → why ≡ 0
+    → (st .question ≤ 255) × (st .n ≤ 255) × (st .s ≤ 255) × (st .t ≤ 255)
+open-small st r why found z =
+    let h : Hold (openChecks st r) = none-broken (openChecks st r) (refl, (refl, (refl, (refl, tt)))) (sym found ∙ z) in
+    opened-small st (opening-rule st (hold-left (openingChecks st) (4 unless pointOk r ∷ []) h))
 
 -- ---- what the checks of a repeated arc say of its numbers
 
