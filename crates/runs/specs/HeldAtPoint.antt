@@ -14,7 +14,8 @@ use Rattle.network.specs.Certificate.{marked}
 use Rattle.points.specs.Points.{printOf}
 use Rattle.points.specs.declared.Point.{Point}
 use Rattle.points.specs.declared.Stream.{Stream}
-use Rattle.state.specs.State.{phaseReading, phaseRead, phaseClaimed, marksAfter, stateOf, held}
+use Rattle.session_groups.specs.Groups.{phaseReading, phaseRead, phaseClaimed, marksAfter}
+use Rattle.state.specs.State.{stateOf, held}
 use Rattle.session.specs.Session.{joined, holding, void}
 use Rattle.session.specs.declared.Session.{Session}
 use Rattle.runs.specs.AcceptedLists.{AcceptedLists, over, reading, hasRead, claimed}

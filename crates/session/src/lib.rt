@@ -13,15 +13,15 @@ ghost use Rattle.state.specs.State.{isClaimed};
 ghost use Rattle.state.specs.declared.Response.the-variants.{Accepted, Refused};
 ghost use Rattle.session.specs.Session.{zeros, void, refuse};
 ghost use Rattle.session.specs.Steps.{opening, readStep, endStep, claimStep, numberStep, repeatStep, finishStep};
-use checks::Opening;
 use arc_records::Balances;
 use arc_records::MOST_VERTICES;
 use arc_records::Potentials;
 use arc_records::Record;
+use checks::Opening;
 use points::Point;
 use state::Response;
 use state::State;
-use state::groups::idle;
+use state::idle;
 use vertex_arrays::move_amount;
 
 // The state stands last: so a step that touches nothing else is compiled without a copy of the arrays.
