@@ -5,11 +5,11 @@ ghost use Rattle.arc_records.specs.Arcs.{wordArcs};
 ghost use Rattle.network.specs.Question.{acyclicity, asks, Admissible};
 ghost use Rattle.checks.specs.Held.{asked};
 ghost use Rattle.cert_instances.specs.Certify.{findingNumber, Solution};
+use arc_records::MOST_VERTICES;
 use cert_instances::Finding;
 use cert_instances::vertices::NumberKind;
 use cert_instances::vertices::write;
 use checks::HeldSetting;
-use arc_records::MOST_VERTICES;
 use order_path::Found;
 
 // What is found, and numbers and amounts that certify it.

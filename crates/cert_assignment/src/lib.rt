@@ -5,12 +5,12 @@ ghost use Rattle.arc_records.specs.Arcs.{wordArcs};
 ghost use Rattle.network.specs.Question.{assignment, asks, Admissible};
 ghost use Rattle.checks.specs.Held.{asked};
 ghost use Rattle.cert_instances.specs.Certify.{findingNumber, Solution};
+use arc_records::MOST_VERTICES;
 use cert_instances::Finding;
 use cert_instances::vertices::NumberKind;
 use cert_instances::vertices::write;
 use checks::HeldSetting;
 use match_least_cost::Match;
-use arc_records::MOST_VERTICES;
 
 // What is found, and numbers and amounts that certify it.
 fn answer_assignment(

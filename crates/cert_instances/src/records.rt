@@ -7,15 +7,15 @@ ghost use Rattle.arc_records.specs.Arcs.{arcHeld};
 ghost use Rattle.network.specs.Question.{asks};
 ghost use Rattle.checks.specs.Held.{asked, questionHeld};
 ghost use Rattle.cert_instances.specs.Certify.{admissible, recordOk, capacityFor, packedFor};
+use arc_records::MOST_ARCS;
+use arc_records::Record;
+use arc_records::arc_in;
 use checks::HeldSetting;
 use checks::Opening;
 use checks::opening_check;
 use checks::rows::Question;
 use checks::rows::question_of;
 use checks::rows::unit_cost;
-use arc_records::MOST_ARCS;
-use arc_records::Record;
-use arc_records::arc_in;
 use reading::arc_check;
 
 // The capacity of an arc as the engine is told it.

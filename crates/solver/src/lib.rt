@@ -2,15 +2,15 @@
 ghost use mathlib.Core.Path.{_≡_};
 ghost use Rattle.checks.specs.Held.{asked};
 ghost use Rattle.cert_instances.specs.Certify.{findingNumber, CertifyOutcome};
+use cert_acyclicity::certify_acyclicity;
 use cert_assignment::certify_assignment;
+use cert_flow::certify_flow;
 use cert_instances::Finding;
 use cert_instances::records::is_admissible;
+use cert_path::certify_path;
 use checks::HeldSetting;
 use checks::rows::Question;
 use checks::rows::question_of;
-use cert_flow::certify_flow;
-use cert_flow::certify_path;
-use cert_acyclicity::certify_acyclicity;
 
 // The number of the claim: 1 for a value, 2 for none; 0 for a refusal.
 pub fn claim_number(finding: Finding) -> u8

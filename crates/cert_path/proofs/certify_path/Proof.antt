@@ -1,9 +1,9 @@
--- `solver::answers::certify_path` meets its contract.
+-- `cert_path::certify_path` meets its contract.
 -- Assumes nothing.
 use borrow.Author.Needs.{needs}
 use Rattle.cert_instances.proofs.CertifyCases.{one-each, lent}
-use Rattle.cert_flow.proofs.certify_path.Statement.{statement}
-use Rattle.cert_flow.proofs.certify_path.Tie as tie
+use Rattle.cert_path.proofs.certify_path.Statement.{statement}
+use Rattle.cert_path.proofs.certify_path.Tie as tie
 
 slice-aggregate-answer-path : tie.Need-slice-aggregate-answer-path
 slice-aggregate-answer-path c = let s = c .before .before .before in lent (s .pre .0 .0) _ (s .pre .1 .1)

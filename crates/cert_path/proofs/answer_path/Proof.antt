@@ -1,4 +1,4 @@
--- `solver::answers::answer_path` meets its contract: the part of the array that is lent is as long as the records, what is sent is what the question asks, and what comes of it is a solution.
+-- `cert_path::answer_path` meets its contract: the part of the array that is lent is as long as the records, what is sent is what the question asks, and what comes of it is a solution.
 -- Assumes nothing.
 use mathlib.Core.Path.{_≡_, sym, _∙_, subst}
 use mathlib.Core.List.{List, _++_}
@@ -14,9 +14,9 @@ use Rattle.flow_maximum.specs.declared.Sent.{Sent}
 use Rattle.packed_arcs.proofs.LentParts.{zero-list-length, lent-again, back-within, back-length}
 use Rattle.cert_instances.specs.Instance.{VertexList, single}
 use Rattle.cert_instances.proofs.EngineInputs.{few-records, packed-length, mark-low}
-use Rattle.cert_flow.proofs.PathAnswer.{PathInputs, SentCase, sent-case, keys-length, distances-low, path-answer, no-path-answer}
-use Rattle.cert_flow.proofs.answer_path.Statement.{statement}
-use Rattle.cert_flow.proofs.answer_path.Tie as tie
+use Rattle.cert_path.proofs.PathAnswer.{PathInputs, SentCase, sent-case, keys-length, distances-low, path-answer, no-path-answer}
+use Rattle.cert_path.proofs.answer_path.Statement.{statement}
+use Rattle.cert_path.proofs.answer_path.Tie as tie
 
 -- the start: the question, and the records
 abbrev St : tie.Start → Setting
@@ -114,6 +114,9 @@ returns-3 : tie.Need-returns-3
 returns-3 c = absurd (sent-as (c .before .before .before .before .before .before .before .before) _ (c .enum-told3 .given .1))
 
 -- what is called keeps the lengths of the arrays
+stood : (c : tie.After-send) → length (Left' c) ≡ length (now (at-start c .args .left))
+stood c = c .send .kept .1 .1 .1 .1 .0 ∙ at-stand c .stand .kept .1 .0
+
 pub answer-path-spec : {M : Type 1} → statement M
 answer-path-spec =
     tie.close
@@ -131,17 +134,17 @@ answer-path-spec =
     (λ c. search needs)
     write-requires-2
     (λ c. search needs)
-    (λ c. c .before .before .before .before .before .before .before .before .before .before .before .before .send .kept .1 .1 .1 .1 .0 ∙ c .before .before .before .before .before .before .before .before .before .before .before .before .before .before .before .before .before .before .before .stand .kept .1 .0)
+    (λ c. stood (c .before .before .before .before .before .before .before .before .before .before .before .before))
     (λ c. c .before .before .before .before .before .before .before .before .before .before .before .before .send .kept .1 .1 .1 .1 .1 .0)
     (λ c. c .before .write .kept .1 .1 .0)
     (λ c. c .before .before .before .before .before .before .before .before .before .before .before .before .send .kept .1 .1 .1 .0)
     returns
-    (λ c. c .before .before .before .before .before .before .before .before .before .before .before .before .send .kept .1 .1 .1 .1 .0 ∙ c .before .before .before .before .before .before .before .before .before .before .before .before .before .before .before .before .before .before .before .stand .kept .1 .0)
+    (λ c. stood (c .before .before .before .before .before .before .before .before .before .before .before .before))
     (λ c. c .before .before .before .before .before .before .before .before .before .before .before .before .send .kept .1 .1 .1 .1 .1 .0)
     (λ c. c .before .write2 .kept .1 .1 .0)
     (λ c. c .before .before .before .before .before .before .before .before .before .before .before .before .send .kept .1 .1 .1 .0)
     returns-2
-    (λ c. c .before .before .before .before .before .before .before .before .send .kept .1 .1 .1 .1 .0 ∙ c .before .before .before .before .before .before .before .before .before .before .before .before .before .before .before .stand .kept .1 .0)
+    (λ c. stood (c .before .before .before .before .before .before .before .before))
     (λ c. c .before .before .before .before .before .before .before .before .send .kept .1 .1 .1 .1 .1 .0)
     (λ c. c .before .before .before .before .before .before .before .before .send .kept .1 .1 .1 .0)
     returns-3)
