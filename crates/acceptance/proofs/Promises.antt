@@ -2,15 +2,15 @@
 -- Assumes nothing.
 use mathlib.Core.Path.{_≡_, sym, subst}
 use mathlib.Core.List.{List}
-use Prim.Native.Nat.{ℕ, _<_}
+use Prim.Native.Nat.{ℕ}
 use native.Mathlib.Omega.{arith}
 use Rattle.prelude.specs.Checks.{Hold}
 use Rattle.prelude.specs.Lists.{Every}
 use Rattle.prelude.proofs.Lists.{every-map}
 use Rattle.arc_records.specs.Arcs.{Arc}
-use Rattle.network.specs.Question.{Question, shortestPath, maximumFlow, assignment, acyclicity, unasked, Setting, asks, EndsFor, Opened, Allowed, Admissible}
+use Rattle.network.specs.Question.{Setting, Opened, Allowed, Admissible}
 use Rattle.network.specs.Tests.{openingChecks, readingAll}
-use Rattle.network.proofs.Allowed.{asked-least, opening-test, reading-test}
+use Rattle.network.proofs.Allowed.{opened-small, opening-test, reading-test}
 use Rattle.format.specs.Files.{settingIn, networkFile, arcsIn}
 use Rattle.format.specs.Promises.{ArcFits, NetworkRead}
 use Rattle.format.proofs.Promises.{network-round-trip}
@@ -19,31 +19,23 @@ use Rattle.acceptance.proofs.AcceptedFiles.{accepted, file-opened, file
 
 -- ---- what may be read fits its fields
 
-module _ (st : Setting) (o : Opened st) where
-  ends-below : (q : Question) → EndsFor q st → (st .s < 255) × (st .t < 255)
-  ends-below shortestPath e = (omega (arith, o .sized .at-most, e .source-below), omega (arith, o .sized .at-most, e .sink-below))
-  ends-below maximumFlow e = (omega (arith, o .sized .at-most, e .source-below), omega (arith, o .sized .at-most, e .sink-below))
-  ends-below assignment e = (omega (arith, e .source-zero), omega (arith, e .sink-zero))
-  ends-below acyclicity e = (omega (arith, e .source-zero), omega (arith, e .sink-zero))
-  ends-below unasked e = absurd e
-
-  pub arc-fits : (a : Arc) → Allowed st a → ArcFits a
-  arc-fits a h = record {
-    tail = omega (arith, o .sized .at-most, h .joins .tail-below);
-    head = omega (arith, o .sized .at-most, h .joins .head-below);
-    weight = omega (arith, h .weight-within);
-  }
+pub arc-fits : (st : Setting) → Opened st → (a : Arc) → Allowed st a → ArcFits a
+arc-fits st o a h = record {
+  tail = omega (arith, o .sized .at-most, h .joins .tail-below);
+  head = omega (arith, o .sized .at-most, h .joins .head-below);
+  weight = omega (arith, h .weight-within);
+}
 
 written-read : (st : Setting) (net : List Arc) → Admissible st net → NetworkRead st net (networkFile st net)
 written-read st net r =
     let o = r .opened in
-    let ends = ends-below st o (asks st) (o .ends) in
+    let small = opened-small st o in
     network-round-trip st net
     (record {
-      question = omega (arith, asked-least (st .question) (opening-test st o .0));
-      n = omega (arith, o .sized .at-most);
-      s = omega (arith, ends .0);
-      t = omega (arith, ends .1);
+      question = omega (arith, small .0);
+      n = omega (arith, small .1);
+      s = omega (arith, small .2);
+      t = omega (arith, small .3);
     })
     (omega (arith, r .few)) (every-map (arc-fits st o) net (r .allowed))
 

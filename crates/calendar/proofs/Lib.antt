@@ -1,5 +1,3 @@
-pub mod LeftArcs
-pub mod LeftRecords
-pub mod EmptyArcs
+pub mod MinuteFile
 pub mod Promises
 pub mod ScheduleReturns

@@ -23,11 +23,12 @@ use Rattle.acceptance.specs.Acceptance.{acceptanceChecks, AcceptedFile}
 use Rattle.acceptance.proofs.AcceptedFiles.{layout-held}
 use Rattle.acceptance.proofs.Promises.{written-accepted, accepted-means}
 use Rattle.tide_windows.specs.Windows.{Window, mostWindows, lastMinute, isOpen, windowOk, windowsChecks}
-use Rattle.calendar.specs.Schedule.{arcsAt, fileAt, requestChecks, scheduleChecks, scheduleReply, bufferAfter}
+use Rattle.calendar_records.specs.MinuteNetwork.{arcsAt}
+use Rattle.calendar.specs.Schedule.{fileAt, requestChecks, scheduleChecks, scheduleReply, bufferAfter}
 use Rattle.calendar.specs.Promises.{FileAccepted, NoWindows, Writes, RefusalWritesNothing, FirstDecide, OpenAlone}
 use Rattle.tide_windows.proofs.OpenTests.{window-rule}
-use Rattle.calendar.proofs.LeftArcs.{left-length, left-allowed, left-all}
-use Rattle.calendar.proofs.EmptyArcs.{open-alone-for}
+use Rattle.calendar_records.proofs.LeftArcs.{left-length, left-allowed, left-all}
+use Rattle.calendar_records.proofs.EmptyArcs.{open-alone-for}
 
 -- ---- the file of a minute
 

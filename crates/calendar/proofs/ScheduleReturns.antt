@@ -17,8 +17,9 @@ use Rattle.format.specs.Replies.{WriterSaid, wrote, declined}
 use Rattle.acceptance.specs.Acceptance.{acceptanceChecks}
 use Rattle.acceptance.proofs.AcceptedFiles.{acceptance-numbered}
 use Rattle.tide_windows.specs.Windows.{Window, windowsChecks}
-use Rattle.calendar.specs.Schedule.{arcsAt, fileAt, requestChecks, scheduleReply, bufferAfter}
-use Rattle.calendar.proofs.LeftRecords.{file-size}
+use Rattle.calendar_records.specs.MinuteNetwork.{arcsAt}
+use Rattle.calendar.specs.Schedule.{fileAt, requestChecks, scheduleReply, bufferAfter}
+use Rattle.calendar.proofs.MinuteFile.{file-size}
 use Rattle.calendar.proofs.Promises.{minute-admissible}
 
 module _ (net : List ℕ) (ws : List Window) (t : ℕ) (before : List ℕ) (why : ℕ) (found : why ≡ firstBroken (requestChecks net ws t)) where

@@ -14,7 +14,8 @@ use Rattle.format.specs.Replies.{wrote, declined}
 use Rattle.acceptance.specs.Acceptance.{AcceptedFile}
 use Rattle.acceptance.specs.Promises.{Says}
 use Rattle.tide_windows.specs.Windows.{Window, mostWindows, lastMinute, WindowFits}
-use Rattle.calendar.specs.Schedule.{scheduled, openAlone, arcsAt, fileAt, scheduleReply, bufferAfter}
+use Rattle.calendar_records.specs.MinuteNetwork.{scheduled, openAlone, arcsAt}
+use Rattle.calendar.specs.Schedule.{fileAt, scheduleReply, bufferAfter}
 
 -- The file of a minute is accepted by the panel, and says the network of that minute under the same question, n, s and t.
 abbrev pub FileAccepted : Type 0

@@ -6,14 +6,13 @@ ghost use lib.Seq.{sets};
 ghost use Rattle.prelude.specs.Checks.{firstBroken};
 ghost use Rattle.format.specs.Replies.{writerSaid};
 ghost use Rattle.tide_windows.specs.Windows.{windowsIn};
-ghost use Rattle.calendar.specs.Schedule.{arcsAt, fileAt, requestChecks, scheduleReply, bufferAfter};
+ghost use Rattle.calendar_records.specs.MinuteNetwork.{arcsAt};
+ghost use Rattle.calendar.specs.Schedule.{fileAt, requestChecks, scheduleReply, bufferAfter};
 use acceptance::acceptance_check;
+use calendar_records::write_records;
 use format::Written;
 use format::network_file;
-use records::write_records;
 use tide_windows::windows_check;
-
-mod records;
 
 // 0, or the number of the first check that refuses the file, the windows or the minute.
 fn request_check(net: &[u8], windows: &[[u32; 3]], minute: u32) -> u8

@@ -24,7 +24,8 @@ use Rattle.network.specs.Certificate.{Claim, ofValue, ofNone, rulesFor, Certifi
 use Rattle.network.specs.Tests.{claimNumber}
 use Rattle.network.proofs.Promises.{one-answer, self-loops-change-nothing}
 use Rattle.network.proofs.SelfLoops.{admissible-without}
-use Rattle.points.specs.Points.{IsPoint, misleadingPoints}
+use Rattle.points.specs.Points.{IsPoint, noPoint, misleadingPoints}
+use Rattle.points.proofs.Prints.{no-point}
 use Rattle.points.specs.declared.Point.{Point}
 use Rattle.state.specs.Answers.{gives}
 use Rattle.format.specs.Files.{settingIn, arcsIn, annotationFile}
@@ -38,7 +39,8 @@ use Rattle.judging.specs.Judging.{judged}
 use Rattle.judging.proofs.Promises.{judged-by-steps, few-judged-wrong, certificates-judged}
 use Rattle.format.specs.Replies.{WriterSaid, wrote, declined}
 use Rattle.helper.specs.Helper.{sizeFor, annotateChecks, Annotation, BufferAfter}
-use Rattle.calendar.specs.Schedule.{arcsAt, fileAt}
+use Rattle.calendar_records.specs.MinuteNetwork.{arcsAt}
+use Rattle.calendar.specs.Schedule.{fileAt}
 use Rattle.calendar.proofs.Promises.{file-accepted, writes, open-alone}
 use Rattle.demands.specs.Promises.{JudgedTruly, HelperServes, fileWithout, SelfLoopsServed, ScheduleServes, FewScheduledWrong}
 
@@ -101,7 +103,7 @@ loads-fit st f o h b =
 pub annotation-judged : (net ann : List ℕ) → AcceptedFile net → Annotation net ann → JudgedTruly net ann
 annotation-judged net ann h A = record {
   answer = A .answer;
-  is-true = at-point (record { r = 0 }) (omega arith) .1;
+  is-true = at-point noPoint no-point .1;
   at-every-point = answered;
   by-steps = λ r hr. sym (judged-by-steps net ann r) ∙ answered r hr;
 }

@@ -18,7 +18,8 @@ use Rattle.judging.specs.Judging.{judged, judgedBySteps}
 use Rattle.format.specs.Replies.{WriterSaid, wrote}
 use Rattle.helper.specs.Helper.{annotated, sizeFor, Annotation, BufferAfter}
 use Rattle.tide_windows.specs.Windows.{Window}
-use Rattle.calendar.specs.Schedule.{openAlone, arcsAt, fileAt, scheduleReply, bufferAfter}
+use Rattle.calendar_records.specs.MinuteNetwork.{openAlone, arcsAt}
+use Rattle.calendar.specs.Schedule.{fileAt, scheduleReply, bufferAfter}
 
 -- At every point the file and the annotation come out as the true answer, by judging and by the steps of a session.
 pub record JudgedTruly (net ann : List ℕ) : Type 0 where

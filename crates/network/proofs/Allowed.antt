@@ -4,7 +4,7 @@ use mathlib.Core.Path.{_≡_, refl, sym, _∙_, ap}
 use mathlib.Core.Logic.{_≢_, _⊎_, inl, inr}
 use mathlib.Core.Bool.{Bool, not, _&&_}
 use mathlib.Core.List.{List, [], _∷_, _++_}
-use Prim.Native.Nat.{ℕ, suc, _+_, _%_, _≤_}
+use Prim.Native.Nat.{ℕ, suc, _+_, _%_, _≤_, _<_}
 use native.Mathlib.Nat.{add-zero}
 use native.Mathlib.Omega.{arith}
 use native.Mathlib.Decide.{ℕ-discrete, decLe}
@@ -225,6 +225,24 @@ opening-rule st h = record { asked = asked-rule (asks st) (h .0); sized = size-r
 
 pub opening-test : (st : Setting) → Opened st → Hold (openingChecks st)
 opening-test st o = (asked-test (asks st) (o .asked), (size-test st (o .sized), (ends-test st (o .ends), tt)))
+
+-- s and t are vertices: two of them, or 0
+pub ends-below : (st : Setting) → Opened st → (st .s < st .n) × (st .t < st .n)
+ends-below st o = go (asks st) (o .ends)
+  where
+    go : (q : Question) → EndsFor q st → (st .s < st .n) × (st .t < st .n)
+    go shortestPath e = (e .source-below, e .sink-below)
+    go maximumFlow e = (e .source-below, e .sink-below)
+    go assignment e = (omega (arith, e .source-zero, o .sized .at-least), omega (arith, e .sink-zero, o .sized .at-least))
+    go acyclicity e = (omega (arith, e .source-zero, o .sized .at-least), omega (arith, e .sink-zero, o .sized .at-least))
+    go unasked e = absurd e
+
+-- each number of a setting fits a byte
+pub opened-small : (st : Setting) → Opened st → (st .question ≤ 255) × (st .n ≤ 255) × (st .s ≤ 255) × (st .t ≤ 255)
+opened-small st o =
+    let ends = ends-below st o in
+    let most = o .sized .at-most in
+    (omega (arith, asked-least (st .question) (asked-test (asks st) (o .asked))), most, omega (arith, most, ends .0), omega (arith, most, ends .1))
 
 pub arc-rule : (st : Setting) (e : Arc) → Hold (arcChecks st e) → Allowed st e
 arc-rule st e h = record { joins = joins-rule st e (h .0); weight-within = weight-rule e (h .1 .0) }

@@ -15,7 +15,7 @@ use Rattle.format.specs.Replies.{wrote, declined}
 use Rattle.acceptance.specs.Acceptance.{acceptanceChecks}
 use Rattle.tide_windows.specs.Windows.{windowsChecks}
 use Rattle.calendar.specs.Schedule.{fileAt, requestChecks}
-use Rattle.calendar.proofs.LeftRecords.{file-size}
+use Rattle.calendar.proofs.MinuteFile.{file-size}
 use Rattle.calendar.proofs.Promises.{minute-admissible}
 use Rattle.plan_schedules.specs.Promises.{RoomEnough}
 

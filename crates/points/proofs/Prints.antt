@@ -14,7 +14,7 @@ use Rattle.field.proofs.Promises.{few-bad}
 use Rattle.field.proofs.Step.{fingerprint-snoc}
 use Rattle.arc_records.specs.Arcs.{Arc}
 use Rattle.network.specs.Network.{key}
-use Rattle.points.specs.Points.{IsPoint, pointOk, printOf, emptyPrint, extendPrint, samePrint, misleadingPoints}
+use Rattle.points.specs.Points.{IsPoint, noPoint, pointOk, printOf, emptyPrint, extendPrint, samePrint, misleadingPoints}
 use Rattle.points.specs.declared.Point.{Point}
 use Rattle.points.specs.declared.Print.{Print}
 
@@ -38,6 +38,10 @@ point-rule x t = ltb→lt (x .r) p t
 
 pub point-test : (x : Point) → IsPoint x → T (pointOk x)
 point-test x h = lt→ltb (x .r) p h
+
+-- a session that is void holds a point, too: there is one
+pub no-point : IsPoint noPoint
+no-point = omega arith
 
 -- check 14: the test tells equal fingerprints
 pub same-print : (f g : Print) → T (samePrint f g) → f ≡ g

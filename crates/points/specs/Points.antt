@@ -16,6 +16,10 @@ use Rattle.points.specs.declared.Stream.{Stream}
 abbrev pub IsPoint : Point → Type 0
 IsPoint x = x .r < p
 
+-- The point that a session holds while it is void: nothing is done at it.
+abbrev pub noPoint : Point
+noPoint = record { r = 0 }
+
 -- Is it a point? (PANEL 6, check 4)
 abbrev pub pointOk : Point → Bool
 pointOk x = ltb (x .r) p

@@ -5,7 +5,7 @@ ghost use lib.Dec.{leb};
 ghost use Rattle.prelude.specs.Checks.{_unless_, firstBroken};
 ghost use Rattle.arc_records.specs.Arcs.{arcHeld};
 ghost use Rattle.network.specs.Network.{key};
-ghost use Rattle.points.specs.Points.{pointOk, emptyPrint, extendPrint, samePrint};
+ghost use Rattle.points.specs.Points.{noPoint, pointOk, emptyPrint, extendPrint, samePrint};
 use arc_records::Record;
 
 // The point: a number below p.
@@ -22,6 +22,13 @@ pub struct Print {
 pub struct Stream {
     pub count: u32,
     pub print: Print,
+}
+
+// The point that a session holds while it is void.
+pub fn no_point() -> Point
+    ensures { λ r. ⌜ r ≡ noPoint ⌝ }
+{
+    Point { r: 0 }
 }
 
 // 4: is it a point?

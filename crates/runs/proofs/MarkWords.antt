@@ -16,7 +16,7 @@ use Rattle.words.specs.Marks.{isMarked, withMark}
 use Rattle.words.proofs.MarkLaws.{marked-same, marked-other}
 use Rattle.arc_records.specs.Limits.{mostVertices}
 use Rattle.network.specs.Certificate.{marked}
-use Rattle.state.specs.State.{marksAfter}
+use Rattle.session_groups.specs.Groups.{marksAfter}
 use Rattle.runs.specs.HeldAtPoint.{marksFrom, marksOf}
 
 -- ---- one node number more

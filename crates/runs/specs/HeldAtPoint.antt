@@ -14,7 +14,8 @@ use Rattle.network.specs.Certificate.{marked}
 use Rattle.points.specs.Points.{printOf}
 use Rattle.points.specs.declared.Point.{Point}
 use Rattle.points.specs.declared.Stream.{Stream}
-use Rattle.state.specs.State.{phaseReading, phaseRead, phaseClaimed, marksAfter, stateOf, held}
+use Rattle.session_groups.specs.Groups.{phaseReading, phaseRead, phaseClaimed, marksAfter}
+use Rattle.state.specs.State.{stateOf, held}
 use Rattle.session.specs.Session.{arraysOf, joined, holding, void}
 use Rattle.session.specs.declared.Arrays.{Arrays}
 use Rattle.session.specs.declared.Session.{Session}

@@ -22,7 +22,7 @@ use points::Point;
 use state::Response;
 use state::State;
 use state::Turn;
-use state::groups::idle;
+use state::idle;
 use vertex_arrays::move_amount;
 
 // What a session holds of each vertex: its node number and its balance.

@@ -1,65 +1,35 @@
--- Laws that the proofs of the steps cite: a group after an accepted step, checks that follow other checks, and a turn by the number that its checks gave.
+-- Laws that the proofs of the steps cite: a turn by the number that its checks gave, and what its checks say.
 -- Assumes nothing.
 use mathlib.Core.Path.{_≡_, refl, sym, _∙_, ap}
-use mathlib.Core.Bool.{Bool, true, false, _&&_}
+use mathlib.Core.Bool.{Bool, true}
 use mathlib.Core.List.{List, [], _∷_, _++_, append-nil}
-use Prim.Native.Nat.{ℕ, _+_, _*_, _≤_, _<_}
-use native.Mathlib.Nat.{mul-le-mul, le-trans}
-use native.Mathlib.Omega.{arith}
+use Prim.Native.Nat.{ℕ, _*_, _≤_, _<_}
+use native.Mathlib.Nat.{le-trans}
 use lib.Dec.{T, eqb, leb, ltb, leb→le, ltb→lt, lit≤}
-use lib.IntN.{ℤ, pos, _+ℤ_}
-use mir.Syntax.{w32}
-use mir.Val.{Fits}
+use lib.IntN.{ℤ, pos}
 use Rattle.prelude.specs.Checks.{Check, _unless_, settle, firstBroken, Hold}
-use Rattle.prelude.specs.Choice.{pick, indicator}
+use Rattle.prelude.specs.Choice.{indicator}
 use Rattle.prelude.specs.Lists.{at}
 use Rattle.prelude.specs.Sums.{allTo}
-use Rattle.words.specs.Bounded.{small, boundedSum}
+use Rattle.words.specs.Bounded.{boundedSum}
 use Rattle.prelude.proofs.Choice.{on}
-use Rattle.prelude.proofs.Integers.{signed, parts-add}
 use Rattle.prelude.proofs.Settle.{settled, hold-left, Numbered, none-broken, part-refused, part-passed}
 use Rattle.arc_records.specs.Arcs.{Arc, arcHeld}
 use Rattle.network.specs.Network.{Load, loadHeld}
-use Rattle.network.specs.Question.{Question, shortestPath, maximumFlow, assignment, acyclicity, unasked, Setting, asks, EndsFor, Opened, unitCost}
+use Rattle.network.specs.Question.{Question, shortestPath, maximumFlow, assignment, acyclicity, unasked, Setting, asks, unitCost}
 use Rattle.network.specs.Certificate.{Claim, ofValue, ofNone, Ends, endsOf, Sums, Rules, rulesFor, rulesOf}
 use Rattle.network.specs.Tests.{openingChecks, arcChecks}
 use Rattle.arc_records.specs.declared.Record.{Record}
-use Rattle.network.proofs.Allowed.{asked-least, opening-rule, weight-rule}
+use Rattle.network.proofs.Allowed.{opening-rule, opened-small, weight-rule}
 use Rattle.points.specs.Points.{pointOk, samePrint, extendStream}
 use Rattle.points.specs.declared.Point.{Point}
 use Rattle.points.specs.declared.Stream.{Stream}
 use Rattle.totals.specs.Held.{sumsHeld}
-use Rattle.state.specs.State.{isClaimed, settingHeld, claimHeld, marksHeld, marksAfter, numberMore, repeatMore, stateOf, openChecks, withRead, repeatChecks, withRepeat, finishChecks}
+use Rattle.session_groups.proofs.GroupLaws.{broken-first, broken-later}
+use Rattle.state.specs.State.{isClaimed, settingHeld, claimHeld, marksHeld, repeatMore, stateOf, openChecks, withRead, repeatChecks, withRepeat, finishChecks}
 use Rattle.state.specs.Turns.{turned}
-use Rattle.state.specs.declared.Numbering.{Numbering}
 use Rattle.state.specs.declared.State.{State}
 use Rattle.state.specs.declared.Turn.{Turn}
-
--- ---- groups
-
-pub number-done : (g : Numbering) (z : ℤ) (words : List ℕ) → words ≡ marksAfter (g .marks) (g .given) z
-    → record { claim = g .claim; given = g .given + 1; marks = words } ≡ numberMore g z
-number-done g z words f = λ i. record { claim = g .claim; given = g .given + 1; marks = f i }
-
-pub product-fits : (x w : ℕ) → w ≤ 32767 → x ≤ 32767 → Fits w32 (x * w)
-product-fits x w h k = omega (arith, mul-le-mul k h)
-
--- nothing more
-pub plus-zero : (c : ℤ) (w : ℕ) → c ≡ boundedSum c (pos (w * 0))
-plus-zero c w = go (small c && small (pos (w * 0)))
-  where
-    go : (b : Bool) → c ≡ pick b (c +ℤ pos (w * 0)) c
-    go true = omega (signed, parts-add c (pos (w * 0)))
-    go false = refl
-
--- ---- checks that follow others, by the number that a function found of the first ones
-
-module _ (cs ds : List Check) (n : Numbered cs) (why : ℕ) (found : why ≡ firstBroken cs) where
-  pub broken-first : (why ≡ 0 → ⊥) → why ≡ firstBroken (cs ++ ds)
-  broken-first h = part-refused (λ k. k) cs ds 0 n why found h
-
-  pub broken-later : why ≡ 0 → (r : ℕ) → r ≡ firstBroken ds → r ≡ firstBroken (cs ++ ds)
-  broken-later z r e = part-passed (λ k. k) cs ds 0 n why found z r e
 
 -- ---- a turn by the number that its checks gave
 
@@ -89,25 +59,11 @@ read-done x e m h = λ i. stateOf (x .phase) (record { setting = x .reading .set
 
 -- ---- numbers that fit eight bits, by the checks that they passed
 
--- what opening lets pass: s and t are below n, or 0
-pub open-small : (st : Setting) (r : Point) (why : ℕ) → why ≡ firstBroken (openChecks st r) → why ≡ 0 → (st .question ≤ 4) × (st .n ≤ 255) × (st .s ≤ 255) × (st .t ≤ 255)
-open-small st r why found z = let ends = go (asks st) (o .ends) in (asked-least (st .question) (h .0), ends .0, ends .1, ends .2)
-  where
-    h : Hold (openChecks st r)
-    h = none-broken (openChecks st r) (refl, (refl, (refl, (refl, tt)))) (sym found ∙ z)
-
-    o : Opened st
-    o = opening-rule st (hold-left (openingChecks st) (4 unless pointOk r ∷ []) h)
-
-    most : st .n ≤ 255
-    most = o .sized .at-most
-
-    go : (q : Question) → EndsFor q st → (st .n ≤ 255) × (st .s ≤ 255) × (st .t ≤ 255)
-    go shortestPath e = (most, omega (arith, most, e .source-below), omega (arith, most, e .sink-below))
-    go maximumFlow e = (most, omega (arith, most, e .source-below), omega (arith, most, e .sink-below))
-    go assignment e = (most, omega (arith, e .source-zero), omega (arith, e .sink-zero))
-    go acyclicity e = (most, omega (arith, e .source-zero), omega (arith, e .sink-zero))
-    go unasked e = absurd e
+pub open-small : (st : Setting) (r : Point) (why : ℕ) → why ≡ firstBroken (openChecks st r) → why ≡ 0
+    → (st .question ≤ 255) × (st .n ≤ 255) × (st .s ≤ 255) × (st .t ≤ 255)
+open-small st r why found z =
+    let h : Hold (openChecks st r) = none-broken (openChecks st r) (refl, (refl, (refl, (refl, tt)))) (sym found ∙ z) in
+    opened-small st (opening-rule st (hold-left (openingChecks st) (4 unless pointOk r ∷ []) h))
 
 -- ---- what the checks of a repeated arc say of its numbers
 

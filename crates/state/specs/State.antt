@@ -2,47 +2,28 @@
 -- Assumes nothing.
 use mathlib.Core.Bool.{Bool}
 use mathlib.Core.List.{List, [], _∷_, _++_}
-use Prim.Native.Nat.{ℕ, _+_, _*_}
+use Prim.Native.Nat.{ℕ, _*_}
 use lib.Dec.{eqb}
 use lib.IntN.{ℤ, pos}
-use lib.ListN.{replicate}
 use Rattle.prelude.specs.Checks.{Check, _unless_}
-use Rattle.prelude.specs.Choice.{pick, indicator}
-use Rattle.prelude.specs.Integers.{eqZ}
+use Rattle.prelude.specs.Choice.{indicator}
 use Rattle.words.specs.Bounded.{boundedSum}
-use Rattle.words.specs.Marks.{isMarked, withMark}
+use Rattle.words.specs.Marks.{isMarked}
 use Rattle.arc_records.specs.Arcs.{Arc}
 use Rattle.network.specs.Network.{Load, crosses}
 use Rattle.network.specs.Question.{Setting, asks, unitCost, unitsMost}
 use Rattle.network.specs.Certificate.{Claim, Sums}
 use Rattle.network.specs.Tests.{openingChecks, readingChecks, claimOf, claimingChecks, Numbers, numberingChecks, repeatingChecks, finishingChecks}
-use Rattle.points.specs.Points.{pointOk, samePrint, emptyStream, extendStream}
+use Rattle.points.specs.Points.{noPoint, pointOk, samePrint, emptyStream, extendStream}
 use Rattle.points.specs.declared.Point.{Point}
 use Rattle.points.specs.declared.Stream.{Stream}
 use Rattle.checks.specs.Held.{asked}
 use Rattle.checks.specs.declared.HeldSetting.{HeldSetting}
-use Rattle.state.specs.declared.Numbering.{Numbering}
-use Rattle.state.specs.declared.Reading.{Reading}
-use Rattle.state.specs.declared.Repeating.{Repeating}
+use Rattle.session_groups.specs.Groups.{phaseOver, phaseReading, phaseRead, phaseClaimed, readMore, claimed, numberMore, unrepeated}
+use Rattle.session_groups.specs.declared.Numbering.{Numbering}
+use Rattle.session_groups.specs.declared.Reading.{Reading}
+use Rattle.session_groups.specs.declared.Repeating.{Repeating}
 use Rattle.state.specs.declared.State.{State}
-
--- ---- the phases, each with its number (PANEL 6)
-
--- Over; so is a session with any number but the other three.
-abbrev pub phaseOver : ℕ
-phaseOver = 0
-
--- Reading: arcs are read.
-abbrev pub phaseReading : ℕ
-phaseReading = 1
-
--- Read: the reading has ended, and no claim stands yet.
-abbrev pub phaseRead : ℕ
-phaseRead = 2
-
--- Claimed: a claim stands.
-abbrev pub phaseClaimed : ℕ
-phaseClaimed = 3
 
 -- ---- what a state says
 
@@ -74,23 +55,7 @@ marksHeld x = isMarked (x .numbering .marks)
 abbrev pub numbersHeld : State → (ℕ → ℤ) → Numbers
 numbersHeld x y = record { claim = claimHeld x; given = x .numbering .given; number = y; mark = marksHeld x }
 
--- ---- what a step makes of each group
-
--- One arc more is read.
-abbrev pub readMore : Reading → Arc → Reading
-readMore g e = record { setting = g .setting; point = g .point; list = extendStream (g .point) (g .list) e }
-
--- The claim k stands, with no node number yet.
-abbrev pub claimed : ℕ → Numbering
-claimed k = record { claim = k; given = 0; marks = replicate 4 0 }
-
--- The marks with the number z of the vertex v. The number 1 sets the mark, also where the numbers are potentials: no rule then looks at marks (PANEL 5).
-abbrev pub marksAfter : List ℕ → ℕ → ℤ → List ℕ
-marksAfter words v z = pick (eqZ z (pos 1)) (withMark words v) words
-
--- One node number more is given.
-abbrev pub numberMore : Numbering → ℤ → Numbering
-numberMore g z = record { claim = g .claim; given = g .given + 1; marks = marksAfter (g .marks) (g .given) z }
+-- ---- what repeating makes of its group
 
 -- One arc more is repeated: it joins the list, the total cost, and, where it leads out of the marked side, the capacity of the cut.
 abbrev pub repeatMore : State → Load → Repeating
@@ -99,10 +64,6 @@ repeatMore x l = record {
   cost = boundedSum (x .repeating .cost) (pos (l .amount * unitCost (asks (settingHeld x)) (l .arc)));
   cut = boundedSum (x .repeating .cut) (pos (unitsMost (asks (settingHeld x)) (l .arc) * indicator (crosses (marksHeld x) (l .arc))));
 }
-
--- Nothing is repeated yet.
-abbrev pub unrepeated : Repeating
-unrepeated = record { list = emptyStream; cost = pos 0; cut = pos 0 }
 
 -- ---- states
 
@@ -116,7 +77,7 @@ begun ph st r m = stateOf ph (record { setting = st; point = r; list = m }) (cla
 
 -- The state of a session that is over, void or ended (PANEL 6).
 abbrev pub idle : State
-idle = begun phaseOver (record { question = 0; n = 0; s = 0; t = 0 }) (record { r = 0 }) emptyStream
+idle = begun phaseOver (record { question = 0; n = 0; s = 0; t = 0 }) noPoint emptyStream
 
 -- ---- opening and the six steps: the checks in their order, and the next state
 

@@ -1,20 +1,20 @@
 // What a session knows but for the node numbers and the balances of the vertices, and its steps on that alone: a caller who keeps the two arrays in place copies only this.
 ghost use mathlib.Core.Path.{_≡_};
 ghost use mathlib.Core.Bool.{not, _&&_};
-ghost use mathlib.Core.List.{_∷_};
 ghost use Prim.Native.Nat.{_≤_, _<_};
-ghost use lib.Dec.{eqb, ltb};
+ghost use lib.Dec.{eqb};
 ghost use lib.ListN.{set};
-ghost use Rattle.prelude.specs.Checks.{_unless_, firstBroken};
+ghost use Rattle.prelude.specs.Checks.{firstBroken};
 ghost use Rattle.prelude.specs.Choice.{pick};
 ghost use Rattle.prelude.specs.Lists.{at};
 ghost use Rattle.arc_records.specs.Arcs.{arcHeld};
 ghost use Rattle.network.specs.Network.{loadHeld, crosses};
-ghost use Rattle.network.specs.Tests.{arcChecks, answerOf};
+ghost use Rattle.network.specs.Tests.{answerOf};
+ghost use Rattle.points.specs.Points.{emptyStream};
 ghost use Rattle.checks.specs.Held.{handed, rulesHeld};
 ghost use Rattle.totals.specs.Held.{sumsHeld};
 ghost use Rattle.state.specs.Answers.{answered};
-ghost use Rattle.state.specs.State.{isClaimed, settingHeld, claimHeld, marksHeld, idle, withRepeat, finishChecks};
+ghost use Rattle.state.specs.State.{isClaimed, settingHeld, claimHeld, marksHeld, begun, idle, withRepeat, finishChecks};
 ghost use Rattle.state.specs.Turns.{openTurn, readTurn, endTurn, claimTurn, numberTurn, repeatTurn};
 use arc_records::Balances;
 use arc_records::Potentials;
@@ -26,30 +26,35 @@ use checks::rows::question_of;
 use checks::rows::row_of;
 use checks::rows::unit_cost;
 use checks::rows::units_most;
-use groups::begun;
-use groups::claimed;
-use groups::cost_after;
-use groups::cut_after;
-use groups::idle;
-use groups::leads_out;
-use groups::with_arc;
-use groups::with_number;
 use points::Point;
 use points::Stream;
 use points::lists_check;
-use reading::arc_check;
-use refusals::number_check;
-use refusals::open_check;
-use refusals::read_check;
 use rules::annotation::claim_ok;
 use rules::annotation::load_check;
+use session_groups::CLAIMED;
+use session_groups::Numbering;
+use session_groups::OVER;
+use session_groups::READ;
+use session_groups::READING;
+use session_groups::Reading;
+use session_groups::Repeating;
+use session_groups::claimed;
+use session_groups::cost_after;
+use session_groups::cut_after;
+use session_groups::leads_out;
+use session_groups::no_list;
+use session_groups::refusals;
+use session_groups::refusals::number_check;
+use session_groups::refusals::open_check;
+use session_groups::refusals::read_check;
+use session_groups::refusals::repeat_check;
+use session_groups::unrepeated;
+use session_groups::with_arc;
+use session_groups::with_number;
 use totals::totals_check;
 use vertex_arrays::ends_of;
 use vertex_arrays::store_at;
 use words::signed::to_unsigned;
-
-pub mod groups;
-mod refusals;
 
 // What a step answers.
 pub enum Response {
@@ -59,37 +64,7 @@ pub enum Response {
     Refused(u8),
 }
 
-// What opening and reading fix.
-pub struct Reading {
-    setting: HeldSetting,
-    point: Point,
-    list: Stream,
-}
-
-// The claim, how many node numbers are given, and the marks.
-pub struct Numbering {
-    claim: u32,
-    given: u32,
-    marks: [u64; 4],
-}
-
-// The arcs that are repeated: their list, their cost, and the capacity of the cut that the marks make.
-pub struct Repeating {
-    list: Stream,
-    cost: i64,
-    cut: i64,
-}
-
-// The phases of a session (PANEL 6); one with any other number is over, too.
-pub(crate) const OVER: u64 = 0;
-
-pub(crate) const READING: u64 = 1;
-
-pub(crate) const READ: u64 = 2;
-
-pub(crate) const CLAIMED: u64 = 3;
-
-// Every group fills whole words: a gap would be copied in pieces at each step.
+// What a session knows but for the two arrays, in its groups.
 pub struct State {
     phase: u64,
     reading: Reading,
@@ -101,6 +76,36 @@ pub struct State {
 pub struct Turn {
     pub state: State,
     pub why: u8,
+}
+
+// The state before the claim that has read nothing.
+fn begun(phase: u64, setting: HeldSetting, point: Point) -> State
+    ensures { λ r. ⌜ r ≡ begun phase setting point emptyStream ⌝ }
+{
+    let reading = Reading {
+        setting: setting,
+        point: point,
+        list: no_list(),
+    };
+    State {
+        phase: phase,
+        reading: reading,
+        numbering: claimed(0),
+        repeating: unrepeated(),
+    }
+}
+
+// The state of a void session.
+pub fn idle() -> State
+    ensures { λ r. ⌜ r ≡ idle ⌝ }
+{
+    let setting = HeldSetting {
+        question: 0,
+        n: 0,
+        s: 0,
+        t: 0,
+    };
+    begun(OVER, setting, points::no_point())
 }
 
 // The answer of an annotation that passes.
@@ -247,11 +252,7 @@ impl State {
     pub fn is_ended_by(self, why: u8) -> bool
         ensures { λ r. ⌜ r ≡ (isClaimed self && not (eqb why 5)) ⌝ }
     {
-        let phase = self.phase;
-        if phase != CLAIMED {
-            return false;
-        }
-        why != 5
+        refusals::is_ended_by(self.phase, why)
     }
 
     // The state, or that of a void session where the session is over.
@@ -262,26 +263,6 @@ impl State {
             return idle();
         }
         self
-    }
-
-    // 0, or the number of the first check that refuses an arc to be repeated, whatever its amount: 5 to 8.
-    fn repeat_check(self, arc: Record) -> u8
-        ensures { λ r. ⌜ r ≡ firstBroken (5 unless isClaimed self ∷ 5 unless eqb (self .numbering .given) (self .reading .setting .n) ∷ 6 unless ltb (self .repeating .list .count) (self .reading .list .count) ∷ arcChecks (settingHeld self) (arcHeld arc)) ⌝ }
-    {
-        let reading = self.reading;
-        let numbering = self.numbering;
-        let repeating = self.repeating;
-        let st = reading.setting;
-        if self.phase != CLAIMED {
-            return 5;
-        }
-        if numbering.given != st.n as u32 {
-            return 5;
-        }
-        if reading.list.count <= repeating.list.count {
-            return 6;
-        }
-        arc_check(st, arc)
     }
 
     // The state with one arc more repeated, which leads out of the marked side or does not.
@@ -316,7 +297,15 @@ impl State {
     {
         let reading = self.reading;
         let numbering = self.numbering;
-        let refused = self.repeat_check(arc);
+        let repeating = self.repeating;
+        let refused = repeat_check(
+            self.phase,
+            reading.setting,
+            numbering.given,
+            reading.list.count,
+            repeating.list.count,
+            arc,
+        );
         if refused != 0 {
             return Turn {
                 state: self,

@@ -2,7 +2,7 @@
 -- Assumes nothing.
 use borrow.Author.Needs.{needs}
 use Rattle.tide_windows.specs.Windows.{windowsIn}
-use Rattle.calendar.proofs.LeftRecords.{file-written}
+use Rattle.calendar.proofs.MinuteFile.{file-written}
 use Rattle.calendar.proofs.write_file.Statement.{statement}
 use Rattle.calendar.proofs.write_file.Tie as tie
 

@@ -1,4 +1,4 @@
--- `solver::answers::answer_flow` meets its contract.
+-- `cert_flow::answer_flow` meets its contract.
 -- Assumes nothing.
 use borrow.Author.Needs.{needs}
 use mathlib.Core.Path.{_≡_}
@@ -9,10 +9,22 @@ use Rattle.cert_flow.proofs.answer_flow.Statement.{statement}
 use Rattle.cert_flow.proofs.answer_flow.Tie as tie
 
 write-requires : tie.Need-write-requires
-write-requires c κs = let s = c .before .before .before .before .before .before .before .before .before .before .before .before .before .before .before .before .before .before .before .before in marks-writable (flow-run (asked (s .args .st)) (s .args .records .now) (s .pre .0 .0) (s .pre .0 .1) (c .before .before .before .before .before .before .before .before .before .before .before .before .pack .ensures) (s .pre .1 .0 .0) (s .pre .1 .1 .1) (c .before .before .before .before .before .before .solve .ensures)) (s .pre .1 .0 .1)
+write-requires c κs =
+    let solved = c .before .before .before .before .before .before in
+    let packed = solved .before .before .before .before .before .before in
+    let s = packed .before .before .before .before .before .before .before .before in
+    let run = flow-run (asked (s .args .st)) (s .args .records .now) (s .pre .0 .0) (s .pre .0 .1) (packed .pack .ensures) (s .pre .1 .0 .0) (s .pre .1 .1 .1)
+    (solved .solve .ensures) in
+    marks-writable run (s .pre .1 .0 .1)
 
 returns : tie.Need-returns
-returns c = let s = c .before .before .before .before .before .before .before .before .before .before .before .before .before .before .before .before .before .before .before .before .before .before in flow-solution (s .pre .0 .0) (s .pre .0 .1) (flow-run (asked (s .args .st)) (s .args .records .now) (s .pre .0 .0) (s .pre .0 .1) (c .before .before .before .before .before .before .before .before .before .before .before .before .before .before .pack .ensures) (s .pre .1 .0 .0) (s .pre .1 .1 .1) (c .before .before .before .before .before .before .before .before .solve .ensures)) (c .before .write .ensures)
+returns c =
+    let solved = c .before .before .before .before .before .before .before .before in
+    let packed = solved .before .before .before .before .before .before in
+    let s = packed .before .before .before .before .before .before .before .before in
+    let run = flow-run (asked (s .args .st)) (s .args .records .now) (s .pre .0 .0) (s .pre .0 .1) (packed .pack .ensures) (s .pre .1 .0 .0) (s .pre .1 .1 .1)
+    (solved .solve .ensures) in
+    flow-solution (s .pre .0 .0) (s .pre .0 .1) run (c .before .write .ensures)
 
 pub answer-flow-spec : {M : Type 1} → statement M
 answer-flow-spec =

@@ -1,4 +1,4 @@
--- `solver::answers::certify_flow` meets its contract.
+-- `cert_flow::certify_flow` meets its contract.
 -- Assumes nothing.
 use borrow.Author.Needs.{needs}
 use mathlib.Core.Path.{sym}

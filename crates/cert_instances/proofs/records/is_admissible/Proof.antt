@@ -1,4 +1,4 @@
--- `solver::records::is_admissible` meets its contract.
+-- `cert_instances::records::is_admissible` meets its contract.
 -- Assumes nothing.
 use mathlib.Core.Path.{sym, _∙_}
 use borrow.Author.Needs.{needs}
@@ -22,4 +22,7 @@ is-admissible-spec =
     (λ c. rw (eq-eqb _ 0 (sym (c .before .before .before .opening-check .ensures) ∙ c .before .before .if1 .left), le-leb _ _ (c .before .if2 .left), ne-eqb _ _ (c .if3 .taken)))
     (λ c. rw (eq-eqb _ 0 (sym (c .before .before .before .before .opening-check .ensures) ∙ c .before .before .before .if1 .left), le-leb _ _ (c .before .before .if2 .left), eq-eqb _ _ (c .before .if3 .left), ne-eqb _ _ (c .if4 .taken)))
     (λ c κs. tt)
-    (λ c. rw (eq-eqb _ 0 (sym (c .before .before .before .before .before .opening-check .ensures) ∙ c .before .before .before .before .if1 .left), le-leb _ _ (c .before .before .before .if2 .left), eq-eqb _ _ (c .before .before .if3 .left), eq-eqb _ _ (c .before .if4 .left)) (c .records-ok .ensures)))
+    (λ c.
+    let opened = sym (c .before .before .before .before .before .opening-check .ensures) ∙ c .before .before .before .before .if1 .left in
+    rw (eq-eqb _ 0 opened, le-leb _ _ (c .before .before .before .if2 .left), eq-eqb _ _ (c .before .before .if3 .left), eq-eqb _ _ (c .before .if4 .left))
+    (c .records-ok .ensures)))

@@ -38,8 +38,11 @@ returns-4 c =
     let s = c .before .before .before .before .before .before .before .before .before .before .before .before .before .before .before .before .args in let x = s .self in
     let w = c .before .before .before .before .before .before .lists-check in
     let l = c .totals-check in
-    totals-broken x (s .potentials) (s .balances) (eq-eqb (x .phase) 3 (c .before .before .before .before .before .before .before .before .before .before .if1 .left)) (eq-eqb (x .numbering .given) (x .reading .setting .n) (c .before .before .before .before .before .before .before .if2 .left)) (w .result) (w .ensures) (c .before .before .before .before .before .if3 .left)
-    (c .before .before .before .before .row-of .ensures) (back w64 (x .repeating .cost) (omega (arith, c .before .before .struct-told .given))) (back w64 (x .repeating .cut) (omega (arith, c .before .struct-told2 .given))) (l .result) (l .ensures)
+    totals-broken x (s .potentials) (s .balances) (eq-eqb (x .phase) 3 (c .before .before .before .before .before .before .before .before .before .before .if1 .left))
+    (eq-eqb (x .numbering .given) (x .reading .setting .n) (c .before .before .before .before .before .before .before .if2 .left)) (w .result) (w .ensures) (c .before .before .before .before .before .if3 .left)
+    (c .before .before .before .before .row-of .ensures)
+    (back w64 (x .repeating .cost) (omega (arith, c .before .before .struct-told .given))) (back w64 (x .repeating .cut) (omega (arith, c .before .struct-told2 .given)))
+    (l .result) (l .ensures)
 
 pub finish-check-spec : {M : Type 1} → statement M
 finish-check-spec = tie.close (tie.spec returns cast-if2 returns-2 lists-check-requires returns-3 row-of-requires totals-check-requires returns-4)

@@ -5,9 +5,10 @@ use native.Mathlib.Omega.{arith}
 use lib.Dec.{ltb→lt}
 use lib.IntN.{ℤ}
 use mir.Facts.{toZ-ofZ}
-use Rattle.state.specs.State.{stateOf, numberMore, numberChecks, withNumber}
+use Rattle.state.specs.State.{stateOf, numberChecks, withNumber}
 use Rattle.state.specs.Turns.{numberTurn}
-use Rattle.state.specs.declared.Numbering.{Numbering}
+use Rattle.session_groups.specs.Groups.{numberMore}
+use Rattle.session_groups.specs.declared.Numbering.{Numbering}
 use Rattle.state.proofs.Laws.{turn-refused, turn-holds, turn-accepted}
 use Rattle.state.proofs.State.node_number.Statement.{statement}
 use Rattle.state.proofs.State.node_number.Tie as tie

@@ -1,6 +1,7 @@
 -- `state::State::open` meets its contract.
 -- Assumes nothing.
-use mathlib.Core.Path.{refl, _∙_, ap}
+use mathlib.Core.Path.{_≡_, refl, _∙_, ap}
+use Prim.Native.Nat.{_≤_}
 use native.Mathlib.Omega.{arith}
 use Rattle.checks.specs.Held.{handed}
 use Rattle.state.specs.State.{idle, openChecks, opened}
@@ -24,17 +25,22 @@ returns c =
     ap (λ (x : State). stays x (check .result)) (c .idle .ensures)
     ∙ turn-refused idle (opened (handed (s .o)) (s .point)) (openChecks (handed (s .o)) (s .point)) (refl, (refl, (refl, (refl, tt)))) (check .result) (check .ensures) (c .before .if1 .taken)
 
+-- what opening lets pass fits a byte each
+small : (c : tie.After-open-check) → c .open-check .result ≡ 0
+    → let st = handed (c .before .args .o) in (st .question ≤ 255) × (st .n ≤ 255) × (st .s ≤ 255) × (st .t ≤ 255)
+small c = open-small (handed (c .before .args .o)) (c .before .args .point) (c .open-check .result) (c .open-check .ensures)
+
 cast-t7 : tie.Need-cast-t7
-cast-t7 c = let s = c .before .before .before in omega (arith, open-small (handed (s .args .o)) (s .args .point) (c .before .before .open-check .result) (c .before .before .open-check .ensures) (c .before .if1 .left) .0)
+cast-t7 c = omega (arith, small (c .before .before) (c .before .if1 .left) .0)
 
 cast-t8 : tie.Need-cast-t8
-cast-t8 c = let s = c .before .before .before .before in omega (arith, open-small (handed (s .args .o)) (s .args .point) (c .before .before .before .open-check .result) (c .before .before .before .open-check .ensures) (c .before .before .if1 .left) .1)
+cast-t8 c = omega (arith, small (c .before .before .before) (c .before .before .if1 .left) .1)
 
 cast-t9 : tie.Need-cast-t9
-cast-t9 c = let s = c .before .before .before .before .before in omega (arith, open-small (handed (s .args .o)) (s .args .point) (c .before .before .before .before .open-check .result) (c .before .before .before .before .open-check .ensures) (c .before .before .before .if1 .left) .2)
+cast-t9 c = omega (arith, small (c .before .before .before .before) (c .before .before .before .if1 .left) .2)
 
 cast-t10 : tie.Need-cast-t10
-cast-t10 c = let s = c .before .before .before .before .before .before in omega (arith, open-small (handed (s .args .o)) (s .args .point) (c .before .before .before .before .before .open-check .result) (c .before .before .before .before .before .open-check .ensures) (c .before .before .before .before .if1 .left) .3)
+cast-t10 c = omega (arith, small (c .before .before .before .before .before) (c .before .before .before .before .if1 .left) .3)
 
 begun-requires : tie.Need-begun-requires
 begun-requires c κs = tt

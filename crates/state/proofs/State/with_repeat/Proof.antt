@@ -50,7 +50,8 @@ returns c =
     let cost = c .before .before .before .cost-after in
     repeat-done x (loadHeld (s .args .arc) (s .args .x)) (λ i. record { count = x .repeating .list .count + 1; print = c .before .before .before .before .before .before .with-arc .ensures i })
     (back w64 (cost .result) (cost .ok) ∙ cost .ensures
-    ∙ ap₂ (λ (z : ℤ) (u : ℕ). boundedSum z (pos (s .args .x * u))) (back w64 (x .repeating .cost) (omega (arith, c .before .before .before .before .struct-told .given))) (c .before .before .before .before .before .unit-cost .ensures ∙ ap (λ (k : Question). unitCost k (arcHeld (s .args .arc))) q))
+    ∙ ap₂ (λ (z : ℤ) (u : ℕ). boundedSum z (pos (s .args .x * u))) (back w64 (x .repeating .cost) (omega (arith, c .before .before .before .before .struct-told .given)))
+    (c .before .before .before .before .before .unit-cost .ensures ∙ ap (λ (k : Question). unitCost k (arcHeld (s .args .arc))) q))
     (back w64 (c .cut-after .result) (c .cut-after .ok) ∙ c .cut-after .ensures
     ∙ cut-read (back w64 (x .repeating .cut) (omega (arith, c .before .struct-told2 .given))) (c .before .before .units-most .ensures ∙ ap (λ (k : Question). unitsMost k (arcHeld (s .args .arc))) q) (s .pre .1 .1 .1))
 

@@ -1,0 +1,3 @@
+pub mod LeftArcs
+pub mod LeftRecords
+pub mod EmptyArcs

@@ -1,0 +1,2 @@
+pub mod MinuteNetwork
+pub mod Records

@@ -1,0 +1,13 @@
+-- `session_groups::with_arc` meets its contract.
+-- Assumes nothing.
+use borrow.Author.Needs.{needs}
+use Rattle.session_groups.proofs.with_arc.Statement.{statement}
+use Rattle.session_groups.proofs.with_arc.Tie as tie
+
+pub with-arc-spec : {M : Type 1} → statement M
+with-arc-spec =
+    tie.close
+    (tie.spec
+    (λ c. search needs)
+    (λ c κs. tt)
+    (λ c. rw (c .with-arc .ensures)))

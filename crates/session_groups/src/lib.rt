@@ -1,0 +1,140 @@
+// The groups of what a session knows, and what each step makes of a group.
+ghost use mathlib.Core.Path.{_≡_};
+ghost use mathlib.Core.Bool.{not, _&&_};
+ghost use Prim.Native.Nat.{_*_, _≤_, _<_};
+ghost use lib.IntN.{pos};
+ghost use Rattle.prelude.specs.Choice.{indicator};
+ghost use Rattle.words.specs.Bounded.{boundedSum};
+ghost use Rattle.arc_records.specs.Arcs.{arcHeld};
+ghost use Rattle.points.specs.Points.{emptyStream, extendStream};
+ghost use Rattle.session_groups.specs.Groups.{claimed, numberMore, unrepeated};
+use arc_records::Record;
+use checks::HeldSetting;
+use points::Point;
+use points::Stream;
+use words::marks::with_mark;
+use words::signed::increase;
+
+pub mod refusals;
+
+// Every group fills whole words: a gap would be copied in pieces at each step.
+
+// What opening and reading fix.
+pub struct Reading {
+    pub setting: HeldSetting,
+    pub point: Point,
+    pub list: Stream,
+}
+
+// The claim, how many node numbers are given, and the marks.
+pub struct Numbering {
+    pub claim: u32,
+    pub given: u32,
+    pub marks: [u64; 4],
+}
+
+// The arcs that are repeated: their list, their cost, and the capacity of the cut that the marks make.
+pub struct Repeating {
+    pub list: Stream,
+    pub cost: i64,
+    pub cut: i64,
+}
+
+// The phases of a session (PANEL 6); one with any other number is over, too.
+pub const OVER: u64 = 0;
+
+pub const READING: u64 = 1;
+
+pub const READ: u64 = 2;
+
+pub const CLAIMED: u64 = 3;
+
+// The list of no arc.
+pub fn no_list() -> Stream
+    ensures { λ r. ⌜ r ≡ emptyStream ⌝ }
+{
+    Stream {
+        count: 0,
+        print: points::no_arcs(),
+    }
+}
+
+// The list with one arc more, which has fewer than `most`.
+pub fn with_arc(point: Point, list: Stream, most: u32, arc: Record) -> Stream
+    requires { ⌜ list .count < most ⌝ }
+    ensures { λ r. ⌜ r ≡ extendStream point list (arcHeld arc) ⌝ }
+{
+    let count = list.count;
+    let print = list.print;
+    Stream {
+        count: count + 1,
+        print: points::with_arc(point, print, arc),
+    }
+}
+
+// A claim with no node number yet.
+pub fn claimed(claim: u32) -> Numbering
+    ensures { λ r. ⌜ r ≡ claimed claim ⌝ }
+{
+    Numbering {
+        claim: claim,
+        given: 0,
+        marks: [0u64; 4],
+    }
+}
+
+// One node number more, of n.
+pub fn with_number(mut g: Numbering, n: u8, y: i32) -> Numbering
+    requires { ⌜ g .given < n ⌝ }
+    ensures { λ r. ⌜ r ≡ numberMore g y ⌝ }
+{
+    let given = g.given;
+    g.given = given + 1;
+    if y == 1 {
+        let marks = g.marks;
+        let next = with_mark(marks, given);
+        g.marks = next;
+        return g;
+    }
+    g
+}
+
+// Nothing is repeated yet.
+pub fn unrepeated() -> Repeating
+    ensures { λ r. ⌜ r ≡ unrepeated ⌝ }
+{
+    Repeating {
+        list: no_list(),
+        cost: 0,
+        cut: 0,
+    }
+}
+
+// The total cost with one arc more, whose unit costs so much.
+pub fn cost_after(cost: i64, unit: u32, x: u32) -> i64
+    requires { ⌜ unit ≤ 32767 ⌝ }
+    requires { ⌜ x ≤ 32767 ⌝ }
+    ensures { λ r. ⌜ r ≡ boundedSum cost (pos (x * unit)) ⌝ }
+{
+    increase(cost, x * unit)
+}
+
+// Does an arc lead out of the marked side?
+pub fn leads_out(from: bool, to: bool) -> bool
+    ensures { λ r. ⌜ r ≡ (from && not to) ⌝ }
+{
+    if from {
+        return !to;
+    }
+    false
+}
+
+// The capacity of the cut with one arc more, which may carry so many units.
+pub fn cut_after(cut: i64, units: u32, crossing: bool) -> i64
+    ensures { λ r. ⌜ r ≡ boundedSum cut (pos (units * indicator crossing)) ⌝ }
+{
+    if crossing {
+        return increase(cut, units);
+    }
+    cut
+}
