@@ -1,18 +1,15 @@
 // The groups of what a session knows, and what each step makes of a group.
 ghost use mathlib.Core.Path.{_≡_};
 ghost use mathlib.Core.Bool.{not, _&&_};
-ghost use Prim.Native.Nat.{_*_, _≤_, _<_};
+ghost use Prim.Native.Nat.{_*_};
 ghost use lib.IntN.{pos};
 ghost use Rattle.prelude.specs.Choice.{indicator};
 ghost use Rattle.words.specs.Bounded.{boundedSum};
-ghost use Rattle.arc_records.specs.Arcs.{arcHeld};
-ghost use Rattle.points.specs.Points.{emptyStream, extendStream};
-ghost use Rattle.session_groups.specs.Groups.{claimed, numberMore, unrepeated};
-use arc_records::Record;
+ghost use Rattle.points.specs.Points.{emptyStream};
+ghost use Rattle.session_groups.specs.Groups.{claimed, unrepeated};
 use checks::HeldSetting;
 use points::Point;
 use points::Stream;
-use words::marks::with_mark;
 use words::signed::increase;
 
 pub mod refusals;
@@ -59,19 +56,6 @@ pub fn no_list() -> Stream
     }
 }
 
-// The list with one arc more, which has fewer than `most`.
-pub fn with_arc(point: Point, list: Stream, most: u32, arc: Record) -> Stream
-    requires { ⌜ list .count < most ⌝ }
-    ensures { λ r. ⌜ r ≡ extendStream point list (arcHeld arc) ⌝ }
-{
-    let count = list.count;
-    let print = list.print;
-    Stream {
-        count: count + 1,
-        print: points::with_arc(point, print, arc),
-    }
-}
-
 // A claim with no node number yet.
 pub fn claimed(claim: u32) -> Numbering
     ensures { λ r. ⌜ r ≡ claimed claim ⌝ }
@@ -83,22 +67,6 @@ pub fn claimed(claim: u32) -> Numbering
     }
 }
 
-// One node number more, of n.
-pub fn with_number(mut g: Numbering, n: u8, y: i32) -> Numbering
-    requires { ⌜ g .given < n ⌝ }
-    ensures { λ r. ⌜ r ≡ numberMore g y ⌝ }
-{
-    let given = g.given;
-    g.given = given + 1;
-    if y == 1 {
-        let marks = g.marks;
-        let next = with_mark(marks, given);
-        g.marks = next;
-        return g;
-    }
-    g
-}
-
 // Nothing is repeated yet.
 pub fn unrepeated() -> Repeating
     ensures { λ r. ⌜ r ≡ unrepeated ⌝ }
@@ -108,15 +76,6 @@ pub fn unrepeated() -> Repeating
         cost: 0,
         cut: 0,
     }
-}
-
-// The total cost with one arc more, whose unit costs so much.
-pub fn cost_after(cost: i64, unit: u32, x: u32) -> i64
-    requires { ⌜ unit ≤ 32767 ⌝ }
-    requires { ⌜ x ≤ 32767 ⌝ }
-    ensures { λ r. ⌜ r ≡ boundedSum cost (pos (x * unit)) ⌝ }
-{
-    increase(cost, x * unit)
 }
 
 // Does an arc lead out of the marked side?

@@ -16,6 +16,9 @@ ghost use Rattle.totals.specs.Held.{sumsHeld};
 ghost use Rattle.state.specs.Answers.{answered};
 ghost use Rattle.state.specs.State.{isClaimed, settingHeld, claimHeld, marksHeld, begun, idle, withRepeat, finishChecks};
 ghost use Rattle.state.specs.Turns.{openTurn, readTurn, endTurn, claimTurn, numberTurn, repeatTurn};
+use additions::cost_after;
+use additions::with_arc;
+use additions::with_number;
 use arc_records::Balances;
 use arc_records::Potentials;
 use arc_records::Record;
@@ -39,7 +42,6 @@ use session_groups::READING;
 use session_groups::Reading;
 use session_groups::Repeating;
 use session_groups::claimed;
-use session_groups::cost_after;
 use session_groups::cut_after;
 use session_groups::leads_out;
 use session_groups::no_list;
@@ -49,12 +51,12 @@ use session_groups::refusals::open_check;
 use session_groups::refusals::read_check;
 use session_groups::refusals::repeat_check;
 use session_groups::unrepeated;
-use session_groups::with_arc;
-use session_groups::with_number;
 use totals::totals_check;
 use vertex_arrays::ends_of;
 use vertex_arrays::store_at;
 use words::signed::to_unsigned;
+
+mod additions;
 
 // What a step answers.
 pub enum Response {

@@ -1,8 +1,8 @@
--- `session_groups::with_arc` meets its contract.
+-- `state::additions::with_arc` meets its contract.
 -- Assumes nothing.
 use borrow.Author.Needs.{needs}
-use Rattle.session_groups.proofs.with_arc.Statement.{statement}
-use Rattle.session_groups.proofs.with_arc.Tie as tie
+use Rattle.state.proofs.additions.with_arc.Statement.{statement}
+use Rattle.state.proofs.additions.with_arc.Tie as tie
 
 pub with-arc-spec : {M : Type 1} → statement M
 with-arc-spec =

@@ -1,11 +1,11 @@
--- `session_groups::with_number` meets its contract.
+-- `state::additions::with_number` meets its contract.
 -- Assumes nothing.
 use Rattle.prelude.proofs.Choice.{checks}
 use Rattle.words.proofs.Signs.{signs}
 use Rattle.session_groups.proofs.GroupLaws.{number-done}
 use borrow.Author.Needs.{needs}
-use Rattle.session_groups.proofs.with_number.Statement.{statement}
-use Rattle.session_groups.proofs.with_number.Tie as tie
+use Rattle.state.proofs.additions.with_number.Statement.{statement}
+use Rattle.state.proofs.additions.with_number.Tie as tie
 
 pub with-number-spec : {M : Type 1} → statement M
 with-number-spec =

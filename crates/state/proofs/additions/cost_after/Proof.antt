@@ -1,4 +1,4 @@
--- `session_groups::cost_after` meets its contract.
+-- `state::additions::cost_after` meets its contract.
 -- Assumes nothing.
 use mathlib.Core.Path.{_∙_, ap}
 use Prim.Native.Nat.{_*_}
@@ -8,9 +8,9 @@ use mir.Syntax.{w64}
 use mir.Facts.{toZ-ofZ}
 use Rattle.words.specs.Bounded.{boundedSum}
 use Rattle.words.proofs.Signs.{back}
 use Rattle.session_groups.proofs.GroupLaws.{product-fits}
-use Rattle.session_groups.proofs.cost_after.Statement.{statement}
-use Rattle.session_groups.proofs.cost_after.Tie as tie
+use Rattle.state.proofs.additions.cost_after.Statement.{statement}
+use Rattle.state.proofs.additions.cost_after.Tie as tie
 
 pub cost-after-spec : {M : Type 1} → statement M
 cost-after-spec =
