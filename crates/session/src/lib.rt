@@ -27,8 +27,8 @@ use vertex_arrays::move_amount;
 
 // What a session holds of each vertex: its node number and its balance.
 pub struct Arrays {
-    pub potentials: Potentials,
-    pub balances: Balances,
+    potentials: Potentials,
+    balances: Balances,
 }
 
 // The state stands last: so a step that touches nothing else is compiled without a copy of the arrays.
@@ -43,7 +43,7 @@ pub struct Reply {
 }
 
 // 0 for each vertex in every array.
-pub fn zero_arrays() -> Arrays
+fn zero_arrays() -> Arrays
     ensures { λ r. ⌜ r ≡ zeroArrays ⌝ }
 {
     Arrays {
