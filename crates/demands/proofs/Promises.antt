@@ -38,7 +38,8 @@ use Rattle.runs.specs.Run.{Wrong}
 use Rattle.judging.specs.Judging.{judged}
 use Rattle.judging.proofs.Promises.{judged-by-steps, few-judged-wrong, certificates-judged}
 use Rattle.format.specs.Replies.{WriterSaid, wrote, declined}
-use Rattle.helper.specs.Helper.{sizeFor, annotateChecks, Annotation, BufferAfter}
+use Rattle.annotation_writing.specs.Requests.{sizeFor, annotateChecks}
+use Rattle.helper.specs.Helper.{Annotation, BufferAfter}
 use Rattle.calendar_records.specs.MinuteNetwork.{arcsAt}
 use Rattle.calendar.specs.Schedule.{fileAt}
 use Rattle.calendar.proofs.Promises.{file-accepted, writes, open-alone}

@@ -16,7 +16,8 @@ use Rattle.acceptance.specs.Acceptance.{AcceptedFile}
 use Rattle.runs.specs.Run.{Wrong}
 use Rattle.judging.specs.Judging.{judged, judgedBySteps}
 use Rattle.format.specs.Replies.{WriterSaid, wrote}
-use Rattle.helper.specs.Helper.{annotated, sizeFor, Annotation, BufferAfter}
+use Rattle.annotation_writing.specs.Requests.{sizeFor}
+use Rattle.helper.specs.Helper.{annotated, Annotation, BufferAfter}
 use Rattle.tide_windows.specs.Windows.{Window}
 use Rattle.calendar_records.specs.MinuteNetwork.{openAlone, arcsAt}
 use Rattle.calendar.specs.Schedule.{fileAt, scheduleReply, bufferAfter}

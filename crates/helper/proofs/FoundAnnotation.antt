@@ -32,8 +32,9 @@ use Rattle.packed_arcs.specs.Entries.{zeroList}
 use Rattle.packed_arcs.proofs.LentParts.{zero-list-length, lent-again}
 use Rattle.cert_instances.specs.Certify.{recordOk, admissible, Solution, CertifyOutcome, refused, solved}
 use Rattle.cert_instances.proofs.ColumnsAndLoads.{loads-arcs}
-use Rattle.helper.specs.Helper.{sizeFor, AnnotationIn}
-use Rattle.helper.proofs.WrittenParts.{loads-length}
+use Rattle.annotation_writing.specs.Requests.{sizeFor}
+use Rattle.annotation_writing.proofs.WrittenParts.{loads-length}
+use Rattle.helper.specs.Helper.{AnnotationIn}
 
 -- ---- what was gathered is admissible
 

@@ -1,29 +1,20 @@
 -- What the helper replies and what it leaves in the buffer (PANEL 9).
 -- Assumes nothing.
 use mathlib.Core.Path.{_≡_}
-use mathlib.Core.List.{List, [], _∷_, _++_}
+use mathlib.Core.List.{List}
 use Prim.Native.Nat.{ℕ}
-use lib.Dec.{leb}
 use lib.IntN.{ℤ}
 use lib.ListN.{length, take, drop}
-use Rattle.prelude.specs.Checks.{Check, _unless_, settle}
+use Rattle.prelude.specs.Checks.{settle}
 use Rattle.prelude.specs.Lists.{at}
 use Rattle.network.specs.Network.{Load, arcs}
 use Rattle.network.specs.Question.{asks, Answer}
 use Rattle.network.specs.Certificate.{claimFor, Certified}
 use Rattle.network.specs.Tests.{claimNumber}
-use Rattle.format.specs.Files.{settingIn, nIn, countIn, arcsIn, annotationFile, annotationSize}
+use Rattle.format.specs.Files.{settingIn, nIn, arcsIn, annotationFile}
 use Rattle.format.specs.Replies.{WriterSaid, wrote, declined}
-use Rattle.acceptance.specs.Acceptance.{acceptanceChecks}
+use Rattle.annotation_writing.specs.Requests.{sizeFor, annotateChecks}
 use Rattle.cert_instances.specs.Certify.{LengthsFor}
-
--- The length of the annotation of a network file (PANEL 7).
-abbrev pub sizeFor : List ℕ → ℕ
-sizeFor net = annotationSize (nIn net) (countIn net)
-
--- The checks by which the panel accepts the file, then 20 (PANEL 9): is there room for the annotation?
-abbrev pub annotateChecks : List ℕ → ℕ → List Check
-annotateChecks net room = acceptanceChecks net ++ (20 unless leb (sizeFor net) room ∷ [])
 
 -- The reply (PANEL 9): the first refusal, or the length.
 abbrev pub annotated : List ℕ → ℕ → WriterSaid

@@ -3,9 +3,9 @@ ghost use mathlib.Core.Path.{_≡_};
 ghost use lib.ListN.{length};
 ghost use Rattle.format.specs.Replies.{writerSaid};
 ghost use Rattle.helper.specs.Helper.{annotated, BufferAfter};
-use acceptance::acceptance_check;
+use annotation_writing::annotate_check;
+use annotation_writing::annotation_size;
 use format::Written;
-use format::network_file;
 use writing::write_annotation;
 
 mod writing;
@@ -14,16 +14,10 @@ mod writing;
 pub fn annotate(net: &[u8], buffer: &mut [u8]) -> Written
     ensures { λ r. ⌜ (writerSaid r ≡ annotated (now (net .entry)) (length (now (buffer .entry)))) × BufferAfter (writerSaid r) (now (net .entry)) (now (buffer .entry)) (now (buffer .exit)) ⌝ }
 {
-    let why = acceptance_check(net);
+    let why = annotate_check(net, buffer.len());
     if why != 0 {
         return Written::Refused(why);
     }
-    let n = network_file::vertices(net) as usize;
-    let m = network_file::count(net) as usize;
-    let size = 8 + 4 * n + 6 * m;
-    if buffer.len() < size {
-        return Written::Refused(20);
-    }
     write_annotation(net, buffer);
-    Written::Length(size as u32)
+    Written::Length(annotation_size(net))
 }

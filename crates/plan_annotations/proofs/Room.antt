@@ -15,7 +15,8 @@ use Rattle.prelude.proofs.Lists.{listTo-length}
 use Rattle.acceptance.specs.Acceptance.{acceptanceChecks, AcceptedFile}
 use Rattle.acceptance.proofs.AcceptedFiles.{file-opened, file-few}
 use Rattle.format.specs.Replies.{wrote, declined}
-use Rattle.helper.specs.Helper.{annotated, sizeFor}
+use Rattle.annotation_writing.specs.Requests.{sizeFor}
+use Rattle.helper.specs.Helper.{annotated}
 
 -- at most 8 + 4 * 255 + 6 * 4096 bytes
 small : (net : List ℕ) → AcceptedFile net → sizeFor net ≤ 25604

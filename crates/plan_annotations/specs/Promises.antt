@@ -6,7 +6,7 @@ use Prim.Native.Nat.{ℕ}
 use Rattle.prelude.specs.Checks.{settle}
 use Rattle.acceptance.specs.Acceptance.{acceptanceChecks}
 use Rattle.format.specs.Replies.{wrote, declined}
-use Rattle.helper.specs.Helper.{sizeFor}
+use Rattle.annotation_writing.specs.Requests.{sizeFor}
 use Rattle.program_io.specs.Counted.{counted}
 use Rattle.plan_annotations.specs.AnnotationLine.{fileReply}
 

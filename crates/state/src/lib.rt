@@ -66,7 +66,7 @@ pub enum Response {
     Refused(u8),
 }
 
-// What a session knows but for the two arrays, in its groups.
+// What a session knows but for the two arrays: the phase, which fills a whole word as every group does, and the groups.
 pub struct State {
     phase: u64,
     reading: Reading,

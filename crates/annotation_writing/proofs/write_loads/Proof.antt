@@ -1,4 +1,4 @@
--- `helper::writing::write_loads` meets its contract. The loop's invariant: the records below e are written.
+-- `annotation_writing::write_loads` meets its contract. The loop's invariant: the records below e are written.
 -- Assumes nothing.
 use Prim.Native.Nat.{_-_}
 use lib.ListN.{length}
@@ -8,9 +8,9 @@ use Rattle.network.specs.Network.{loadsOf}
 use Rattle.format.specs.Files.{loadBytes, loadAt}
 use Rattle.format.specs.Promises.{LoadFits}
 use Rattle.format.proofs.Codings.{loads-coded}
-use Rattle.helper.proofs.WrittenParts.{Loading, loadAmong, loads-listed, write-none, write-turn, write-length, write-end}
-use Rattle.helper.proofs.writing.write_loads.Statement.{statement}
-use Rattle.helper.proofs.writing.write_loads.Tie as tie
+use Rattle.annotation_writing.proofs.WrittenParts.{Loading, loadAmong, loads-listed, write-none, write-turn, write-length, write-end}
+use Rattle.annotation_writing.proofs.write_loads.Statement.{statement}
+use Rattle.annotation_writing.proofs.write_loads.Tie as tie
 
 abbrev Inv-loop : tie.InvT-loop
 Inv-loop part₀ records amounts e₀ part e = Loading part₀ records amounts part e

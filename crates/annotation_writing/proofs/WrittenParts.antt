@@ -13,7 +13,6 @@ use Rattle.prelude.specs.Lists.{at, listTo}
 use Rattle.prelude.proofs.Lists.{listTo-length, listTo-take}
 use Rattle.arc_records.specs.Arcs.{Arc, wordArc, wordArcs}
 use Rattle.network.specs.Network.{Load, wordLoad, loadsOf}
-use Rattle.cert_instances.proofs.ColumnsAndLoads.{loads-arcs}
 use Rattle.file_fields.specs.Bytes.{byte32, readSigned}
 use Rattle.file_fields.proofs.Writing.{then-sets}
 use Rattle.format.specs.Files.{loadBytes, loadAt}
@@ -84,7 +83,10 @@ load-at (r ∷ rs) (x ∷ xs) zero h = refl
 load-at (r ∷ rs) (x ∷ xs) (suc e) h = load-at rs xs e (omega arith)
 
 pub loads-length : (es : List Arc) (xs : List ℕ) → length (loadsOf es xs) ≡ length es
-loads-length es xs = sym (length-map (loadsOf es xs) (λ l. l .arc)) ∙ ap length (loads-arcs es xs)
+unfolding loadsOf
+loads-length [] xs = refl
+loads-length (e ∷ es) [] = ap suc (loads-length es [])
+loads-length (e ∷ es) (x ∷ xs) = ap suc (loads-length es xs)
 
 pub loads-listed : (rs xs : List ℕ) → length rs ≡ length xs → listTo (length xs) (loadAmong rs xs) ≡ loadsOf (wordArcs rs) xs
 loads-listed rs xs same =

@@ -1,4 +1,4 @@
--- `helper::writing::write_numbers` meets its contract. The loop's invariant: the numbers below v are written.
+-- `annotation_writing::write_numbers` meets its contract. The loop's invariant: the numbers below v are written.
 -- Assumes nothing.
 use mathlib.Core.Path.{_∙_, ap}
 use Prim.Native.Nat.{_-_, _*_}
@@ -12,9 +12,9 @@ use Rattle.words.proofs.Signs.{back}
 use Rattle.file_fields.specs.Bytes.{byte32, readSigned}
 use Rattle.format.specs.Promises.{Signed32}
 use Rattle.format.proofs.Codings.{numbers-coded}
-use Rattle.helper.proofs.WrittenParts.{Numbering, numbers-listed, write-none, write-turn, write-length, write-end}
-use Rattle.helper.proofs.writing.write_numbers.Statement.{statement}
-use Rattle.helper.proofs.writing.write_numbers.Tie as tie
+use Rattle.annotation_writing.proofs.WrittenParts.{Numbering, numbers-listed, write-none, write-turn, write-length, write-end}
+use Rattle.annotation_writing.proofs.write_numbers.Statement.{statement}
+use Rattle.annotation_writing.proofs.write_numbers.Tie as tie
 
 abbrev Inv-loop : tie.InvT-loop
 Inv-loop part₀ numbers v₀ part v = Numbering part₀ numbers part v

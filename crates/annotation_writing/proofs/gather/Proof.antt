@@ -1,4 +1,4 @@
--- `helper::writing::gather` meets its contract. The loop's invariant: the records below e are those of the file.
+-- `annotation_writing::gather` meets its contract. The loop's invariant: the records below e are those of the file.
 -- Assumes nothing.
 use mathlib.Core.Path.{_≡_}
 use Prim.Native.Nat.{_-_}
@@ -8,9 +8,9 @@ use borrow.Author.Needs.{needs}
 use Rattle.prelude.proofs.Filling.{Filling, fill-start, fill-turn, fill-end}
 use Rattle.arc_records.specs.Arcs.{wordArc}
 use Rattle.format.specs.Files.{arcIn}
-use Rattle.helper.proofs.WrittenParts.{gathered}
-use Rattle.helper.proofs.writing.gather.Statement.{statement}
-use Rattle.helper.proofs.writing.gather.Tie as tie
+use Rattle.annotation_writing.proofs.WrittenParts.{gathered}
+use Rattle.annotation_writing.proofs.gather.Statement.{statement}
+use Rattle.annotation_writing.proofs.gather.Tie as tie
 
 abbrev Inv-loop : tie.InvT-loop
 Inv-loop net records₀ e₀ records e = Filling (λ i w. wordArc w ≡ arcIn net i) 0 records₀ records e

@@ -1,4 +1,4 @@
--- `helper::writing::write_body` meets its contract.
+-- `annotation_writing::write_body` meets its contract.
 -- Assumes nothing.
 use mathlib.Core.List.{flatMap}
 use Prim.Native.Nat.{_*_}
@@ -9,9 +9,9 @@ use Rattle.network.specs.Network.{loadsOf}
 use Rattle.file_fields.specs.Bytes.{byte32}
 use Rattle.format.specs.Files.{loadBytes}
 use Rattle.format.proofs.LentRests.{front-and-rest}
-use Rattle.helper.proofs.WrittenParts.{numbers-length}
-use Rattle.helper.proofs.writing.write_body.Statement.{statement}
-use Rattle.helper.proofs.writing.write_body.Tie as tie
+use Rattle.annotation_writing.proofs.WrittenParts.{numbers-length}
+use Rattle.annotation_writing.proofs.write_body.Statement.{statement}
+use Rattle.annotation_writing.proofs.write_body.Tie as tie
 
 returns : tie.Need-returns
 returns c =

@@ -1,4 +1,4 @@
--- `helper::writing::write_file` meets its contract.
+-- `annotation_writing::write_file` meets its contract.
 -- Assumes nothing.
 use mathlib.Core.Path.{refl}
 use mathlib.Core.List.{_++_, flatMap}
@@ -8,8 +8,8 @@ use Rattle.network.specs.Network.{loadsOf}
 use Rattle.file_fields.specs.Bytes.{byte32}
 use Rattle.format.specs.Files.{annotationHeader, loadBytes}
 use Rattle.format.proofs.LentRests.{front-and-rest}
-use Rattle.helper.proofs.writing.write_file.Statement.{statement}
-use Rattle.helper.proofs.writing.write_file.Tie as tie
+use Rattle.annotation_writing.proofs.write_file.Statement.{statement}
+use Rattle.annotation_writing.proofs.write_file.Tie as tie
 
 returns : tie.Need-returns
 returns c =
