@@ -1,8 +1,8 @@
 // One network: the helper annotates it, and what judging says of its annotation at a point is compared with the true answer.
 use super::families::record;
-use judged_files::LONGEST;
-use judged_files::annotated;
-use judged_files::judged;
+use test_calls::judged_files::LONGEST;
+use test_calls::judged_files::annotated;
+use test_calls::judged_files::judged;
 use reference::instances::Net;
 use reference::network_files;
 use reference::network_files::size;
