@@ -2,8 +2,8 @@
 use super::print::reply;
 use super::windows::add;
 use file_fields::bytes::byte;
-use scheduled_files::Windows;
-use scheduled_files::scheduled;
+use test_calls::scheduled_files::Windows;
+use test_calls::scheduled_files::scheduled;
 use testing::changes::change;
 use testing::files::Files;
 use testing::numbers::plus;

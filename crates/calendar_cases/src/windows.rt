@@ -1,6 +1,6 @@
 // The windows of a case.
-use scheduled_files::Windows;
-use scheduled_files::put_window;
+use test_calls::scheduled_files::Windows;
+use test_calls::scheduled_files::put_window;
 use testing::numbers::plus;
 use testing::script::listed;
 use testing::script::times;

@@ -1,7 +1,7 @@
 // Calls of judging and of the helper on the two files, and what comes of each as one number.
 use super::files::Sizes;
-use judged_files::annotated;
-use judged_files::judged;
+use test_calls::judged_files::annotated;
+use test_calls::judged_files::judged;
 use testing::answers::ACCEPTED;
 use testing::answers::NONE;
 use testing::files::Files;

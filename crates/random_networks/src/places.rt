@@ -1,9 +1,9 @@
 // What is known of a network besides its files, the points to judge at, and what judging says there as one number.
 use super::annotations::record_at;
-use judged_files::judged;
 use reference::instances::Net;
 use reference::network_files::size;
 use reference::random::below;
+use test_calls::judged_files::judged;
 use testing::files::Files;
 use testing::files::START;
 use testing::numbers::minus;

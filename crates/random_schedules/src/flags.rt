@@ -3,7 +3,7 @@ use reference::rows::Rows;
 use reference::rows::joined;
 use reference::rows::put_record;
 use reference::rows::record;
-use scheduled_files::Windows;
+use test_calls::scheduled_files::Windows;
 use testing::numbers::plus;
 
 // Above the bits of a record stands its flag: 0 it has no window, CLOSED it has windows and none has the minute, OPEN one has.

@@ -1,7 +1,7 @@
 // Windows and minutes that look random.
 use reference::random::below;
-use scheduled_files::Windows;
-use scheduled_files::put_window;
+use test_calls::scheduled_files::Windows;
+use test_calls::scheduled_files::put_window;
 use testing::numbers::low_word;
 use testing::numbers::minus;
 use testing::numbers::plus;

@@ -1,4 +1,5 @@
 // The lines of the script, and the words of a line.
+use super::answers::code;
 use super::runs::Run;
 use super::runs::none_yet;
 use super::runs::show;
@@ -7,7 +8,6 @@ use super::steps::Arguments;
 use super::steps::step;
 use super::steps::void;
 use file_fields::bytes::byte;
-use response_codes::code;
 use session::Session;
 use testing::numbers::plus;
 use testing::print;

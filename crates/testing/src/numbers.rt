@@ -51,10 +51,6 @@ pub fn low_byte(x: usize) -> u8 {
     (x % 256) as u8
 }
 
-pub fn low_half(x: usize) -> u16 {
-    (x % 65536) as u16
-}
-
 pub fn low_word(x: usize) -> u32 {
     (x % 4294967296) as u32
 }

@@ -1,5 +1,5 @@
 // The calendar on an array of two files, for the test programs: the network stands at the front, and the annotation's part is the buffer.
-use response_codes::written;
+use super::response_codes::written;
 use testing::answers::NONE;
 use testing::files::Files;
 use testing::files::START;

@@ -1,7 +1,7 @@
 // Judging and the helper on the two files of one array, for the test programs.
+use super::response_codes::code;
+use super::response_codes::written;
 use points::Point;
-use response_codes::code;
-use response_codes::written;
 use testing::answers::NONE;
 use testing::files::Files;
 use testing::files::START;

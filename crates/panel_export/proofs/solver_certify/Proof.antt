@@ -1,9 +1,9 @@
--- `solver_export::solver_certify` meets its contract.
+-- `panel_export::solver_certify` meets its contract.
 -- Assumes nothing.
 use borrow.Author.Needs.{needs}
 use Rattle.cert_instances.proofs.CertifyCases.{by-number}
-use Rattle.solver_export.proofs.solver_certify.Statement.{statement}
-use Rattle.solver_export.proofs.solver_certify.Tie as tie
+use Rattle.panel_export.proofs.solver_certify.Statement.{statement}
+use Rattle.panel_export.proofs.solver_certify.Tie as tie
 
 pub solver-certify-spec : {M : Type 1} → statement M
 solver-certify-spec =
