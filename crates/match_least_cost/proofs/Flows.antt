@@ -54,36 +54,6 @@ listed-at (suc n) g i h = go (λ b. listed-at n g i b) (ℕ-discrete i n)
     go rest (yes q) = getD-at (listTo n g) (g n) [] 0 i (listTo-length n g ∙ sym q) ∙ ap g (sym q)
     go rest (no q) = List·getD-append (listTo n g) (g n ∷ []) 0 i (omega (arith, listTo-length n g)) ∙ rest (omega arith)
 
--- ---- over vertices
-
-pub sum-less : (n : ℕ) (g k : ℕ → ℕ) → ((v : ℕ) → v < n → g v ≤ k v) → sumTo n g ≤ sumTo n k
-unfolding sumTo
-sum-less zero g k f = omega arith
-sum-less (suc n) g k f = omega (arith, sum-less n g k (λ v h. f v (omega arith)), f n (omega arith))
-
--- strictly, where one is less
-pub sum-strict : (n : ℕ) (g k : ℕ → ℕ) (w : ℕ) → ((v : ℕ) → v < n → g v ≤ k v) → w < n → g w < k w → sumTo n g < sumTo n k
-unfolding sumTo
-sum-strict zero g k w f h s = absurd (omega arith)
-sum-strict (suc n) g k w f h s = go (λ b. sum-strict n g k w (λ v i. f v (omega arith)) b s) (ℕ-discrete w n)
-  where
-    go : (w < n → sumTo n g < sumTo n k) → Dec (w ≡ n) → sumTo n g + g n < sumTo n k + k n
-    go rest (yes q) = omega (arith, sum-less n g k (λ v i. f v (omega arith)), ap g q, ap k q)
-    go rest (no q) = omega (arith, rest (omega arith), f n (omega arith))
-
-pub sum-ones : (n : ℕ) → sumTo n (λ i. 1) ≡ n
-unfolding sumTo
-sum-ones zero = refl
-sum-ones (suc n) = omega (arith, sum-ones n)
-
--- n numbers that are at most 1 and sum to n are all 1
-pub sum-full : (n : ℕ) (g : ℕ → ℕ) → ((v : ℕ) → v < n → g v ≤ 1) → n ≤ sumTo n g → (v : ℕ) → v < n → g v ≡ 1
-sum-full n g f s v h = go (ℕ-discrete (g v) 1)
-  where
-    go : Dec (g v ≡ 1) → g v ≡ 1
-    go (yes q) = q
-    go (no q) = absurd (omega (arith, sum-strict n g (λ i. 1) v f h (omega (arith, f v h)), sum-ones n))
-
 -- ---- over arcs
 
 -- The sum over the arcs of what each carries times the value at its vertex.

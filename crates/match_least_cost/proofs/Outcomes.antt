@@ -13,7 +13,7 @@ use Rattle.prelude.specs.Lists.{listTo}
 use Rattle.prelude.specs.Sums.{sumTo}
 use Rattle.prelude.proofs.Choice.{ltb-on, ltb-off, eqb-on, eqb-off, leb-on, leb-off}
 use Rattle.prelude.proofs.Lists.{listTo-length}
-use Rattle.prelude.proofs.Sums.{sumTo-ext, sumTo-none, sumTo-split}
+use Rattle.prelude.proofs.Sums.{sumTo-ext, sumTo-none, sumTo-split, sumTo-le, sumTo-less, sumTo-same, sumTo-full}
 use Rattle.packed_arcs.specs.Entries.{entry, flowAt}
 use Rattle.arc_index.specs.ArcIndex.{noArc}
 use Rattle.vertex_queue.specs.VertexQueue.{waitsNot}
@@ -21,7 +21,7 @@ use Rattle.match_state.specs.Matching.{Bipartite, Noted, Matching, State}
 use Rattle.match_search.specs.Tree.{InTree, root, matched, Tree}
 use Rattle.match_least_cost.specs.Outcome.{matchedAmount, Amounts, Perfect, farMark, Marks, Deficient}
 use Rattle.match_state.proofs.Pairs.{noted, left-end, right-end}
-use Rattle.match_least_cost.proofs.Flows.{flow-none, flow-one, sum-less, sum-strict, sum-full, sum-weighted, weighted-same, sum-ones, listed-at}
+use Rattle.match_least_cost.proofs.Flows.{flow-none, flow-one, sum-weighted, weighted-same, listed-at}
 
 -- ---- amounts of a matching
 
@@ -149,11 +149,11 @@ perfect {h} {n} {T} {H} {W} {links} {mate} {pi} {x} S all even A =
     let M = S .pairs in
     let right : (b : ℕ) → h ≤ b → b < n → flowAt H x b ≡ 1 = λ b l i. right-matched G M A b l i (all b l i) in
     let full = both-sides G M A (λ v. 1) (λ e l N. refl) in
-    let ones = sumTo-ext (n - h) (λ i. 1 * flowAt H x (h + i)) (λ i. 1) (λ i l. omega (arith, right (h + i) (omega arith) (omega arith))) ∙ sum-ones (n - h) in
+    let ones = sumTo-ext (n - h) (λ i. 1 * flowAt H x (h + i)) (λ i. 1) (λ i l. omega (arith, right (h + i) (omega arith) (omega arith))) ∙ sumTo-same (n - h) 1 in
     record {
       x-len = A .len ∙ G .heads-len;
       zero-or-one = zero-or-one G M A;
-      left-one = λ a l. omega (arith, sum-full h (λ v. 1 * flowAt T x v) (λ v k. omega (arith, left-most G M A v k)) (omega (arith, full, ones)) a l);
+      left-one = λ a l. omega (arith, sumTo-full h (λ v. 1 * flowAt T x v) (λ v k. omega (arith, left-most G M A v k)) (omega (arith, full, ones)) a l);
       right-one = right;
       pi-len = S .priced .len;
       feasible = S .priced .feasible;
@@ -281,8 +281,8 @@ module _ {h n : ℕ} {T H W links mate pi : List ℕ} {t : ℕ} {dist par order 
       omega (
         arith,
         both-sides G M A g same-ends,
-        sum-less h g (λ a. g a * flowAt T x a) (λ a l. taken-once x A a l (left-cases a l)),
-        sum-strict (n - h) (λ i. g (h + i) * flowAt H x (h + i)) (λ i. g (h + i)) (t - h)
+        sumTo-le h g (λ a. g a * flowAt T x a) (λ a l. taken-once x A a l (left-cases a l)),
+        sumTo-less (n - h) (λ i. g (h + i) * flowAt H x (h + i)) (λ i. g (h + i)) (t - h)
             (λ i l. at-most (1 - entry marks (h + i)) (flowAt H x (h + i)) (right-most G M A (h + i) (omega arith) (omega arith))) (omega (arith, F .target, F .right))
             (subst (λ (v : ℕ). g v * flowAt H x v < g v) (sym back) (none-at (entry marks t) (flowAt H x t) root-mark (right-exposed G M A t (F .bare)))),
       )
