@@ -9,8 +9,8 @@ ghost use Rattle.arc_index.specs.Columns.{recordTails, recordHeads, recordWeigh
 ghost use Rattle.match_state.specs.Matching.{State};
 ghost use Rattle.match_search.specs.Tree.{Lowered, Relaxable, Scanned, SearchedBack};
 use arc_index::NO_ARC;
+use arc_index::place;
 use match_state::head_at;
-use match_state::place;
 use match_state::tail_at;
 use match_state::weight_at;
 use vertex_queue::WAITS_NOT;

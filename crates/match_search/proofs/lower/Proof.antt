@@ -11,10 +11,16 @@ use Rattle.match_search.proofs.lower.Statement.{statement}
 use Rattle.match_search.proofs.lower.Tie as tie
 
 returns : tie.Need-returns
-returns c = let p = c .before .before .put .ensures in Lowered.nearer (c .before .before .before .before .before .if1 .taken) refl refl (p .keys-are) (p .low-are) (λ t. (omega arith, eqb→eq _ _ (true→T _ t)))
+returns c =
+    let at-if1 = c .before .before .before .before .before in
+    let p = c .before .before .put .ensures in
+    Lowered.nearer (at-if1 .if1 .taken) refl refl (p .keys-are) (p .low-are) (λ t. (omega arith, eqb→eq _ _ (true→T _ t)))
 
 returns-2 : tie.Need-returns-2
-returns-2 c = let p = c .before .put .ensures in Lowered.nearer (c .before .before .before .before .if1 .taken) refl refl (p .keys-are) (p .low-are) (λ t. absurd (false≢true t))
+returns-2 c =
+    let at-if1 = c .before .before .before .before in
+    let p = c .before .put .ensures in
+    Lowered.nearer (at-if1 .if1 .taken) refl refl (p .keys-are) (p .low-are) (λ t. absurd (false≢true t))
 
 returns-3 : tie.Need-returns-3
 returns-3 c = Lowered.kept (omega (arith, c .if1 .left)) refl refl refl refl

@@ -1,4 +1,4 @@
--- `match_least_cost::results::amount_of` meets its contract.
+-- `match_results::amount_of` meets its contract.
 -- Assumes nothing.
 use mathlib.Core.Path.{_≡_, refl, ap, _∙_}
 use Prim.Native.Nat.{ℕ}
@@ -6,8 +6,8 @@ use borrow.Author.Needs.{needs}
 use Rattle.packed_arcs.specs.Entries.{entry}
 use Rattle.prelude.proofs.Choice.{via-eqb-on, via-eqb-off}
 use Rattle.arc_index.specs.Columns.{recordHeads}
-use Rattle.match_least_cost.proofs.results.amount_of.Statement.{statement}
-use Rattle.match_least_cost.proofs.results.amount_of.Tie as tie
+use Rattle.match_results.proofs.amount_of.Statement.{statement}
+use Rattle.match_results.proofs.amount_of.Tie as tie
 
 -- what was read is what is noted at the head
 here : (c : tie.After-place) → let a = c .before .before .before .before .before .args in c .place .result ≡ entry (a .mate .now) (entry (recordHeads (a .records .now)) (a .e))

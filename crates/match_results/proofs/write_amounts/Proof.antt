@@ -1,4 +1,4 @@
--- `match_least_cost::results::write_amounts` meets its contract. The loop's invariant: the amounts below e are written.
+-- `match_results::write_amounts` meets its contract. The loop's invariant: the amounts below e are written.
 -- Assumes nothing.
 use mathlib.Core.Path.{_≡_, sym, _∙_}
 use Prim.Native.Nat.{_-_}
@@ -7,10 +7,10 @@ use lib.ListN.{length}
 use borrow.Author.Needs.{needs}
 use Rattle.prelude.proofs.Filling.{Filling, fill-start, fill-turn, fill-end}
 use Rattle.arc_index.specs.Columns.{recordHeads}
-use Rattle.match_least_cost.specs.Outcome.{matchedAmount}
+use Rattle.match_results.specs.Results.{matchedAmount}
 use Rattle.arc_index.proofs.Columns.{heads-len}
-use Rattle.match_least_cost.proofs.results.write_amounts.Statement.{statement}
-use Rattle.match_least_cost.proofs.results.write_amounts.Tie as tie
+use Rattle.match_results.proofs.write_amounts.Statement.{statement}
+use Rattle.match_results.proofs.write_amounts.Tie as tie
 
 abbrev Inv-loop : tie.InvT-loop
 Inv-loop records mate x₀ e₀ x e = Filling (λ i k. k ≡ matchedAmount (recordHeads records) mate i) 0 x₀ x e
@@ -19,7 +19,10 @@ abbrev μ-loop : tie.MeasureT-loop
 μ-loop records mate x₀ e₀ x e = length records - e
 
 loop-again : tie.Need-loop-again Inv-loop μ-loop
-loop-again c = let l = c .before .before .loop in fill-turn _ 0 _ (l .x) (l .e) _ (omega (arith, c .before .loop-test .taken, c .before .before .before .before .before .before .pre .0)) (c .amount-of .ensures) (l .inv)
+loop-again c =
+    let start = c .before .before .before .before .before .before in
+    let l = c .before .before .loop in
+    fill-turn _ 0 _ (l .x) (l .e) _ (omega (arith, c .before .loop-test .taken, start .pre .0)) (c .amount-of .ensures) (l .inv)
 
 returns : tie.Need-returns Inv-loop μ-loop
 returns c =

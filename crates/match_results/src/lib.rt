@@ -5,10 +5,10 @@ ghost use lib.ListN.{length};
 ghost use Rattle.packed_arcs.specs.Entries.{entry};
 ghost use Rattle.arc_index.specs.Columns.{recordTails, recordHeads, recordWeights};
 ghost use Rattle.match_state.specs.Matching.{Bipartite, Matching};
-ghost use Rattle.match_least_cost.specs.Outcome.{matchedAmount, Amounts, farMark, unreachedMark, Marks};
+ghost use Rattle.match_results.specs.Results.{matchedAmount, Amounts, farMark, unreachedMark, Marks};
 use arc_index::NO_ARC;
+use arc_index::place;
 use match_state::head_at;
-use match_state::place;
 use match_state::tail_at;
 use vertex_queue::WAITS_NOT;
 
@@ -25,7 +25,7 @@ fn amount_of(e: usize, records: &[u32], mate: &[u16]) -> u16
 }
 
 // The amounts of the matching on the arcs.
-pub(crate) fn write_amounts(records: &[u32], mate: &[u16], x: &mut [u16])
+pub fn write_amounts(records: &[u32], mate: &[u16], x: &mut [u16])
     requires { ⌜ (length (now x) ≡ length (now records)) × ((e : ℕ) → e < length (now records) → entry (recordHeads (now records)) e < length (now mate)) ⌝ }
     ensures { λ _. ⌜ Amounts (recordHeads (now (records .entry))) (now (mate .entry)) (now (x .exit)) ⌝ }
 {
@@ -67,7 +67,7 @@ fn mark_of(v: usize, t: usize, records: &[u32], mate: &[u16], dist: &[u32]) -> u
 }
 
 // The marks of all vertices after a search from t, in place of their potentials.
-pub(crate) fn write_marks(t: usize, records: &[u32], mate: &[u16], dist: &[u32], pi: &mut [u32])
+pub fn write_marks(t: usize, records: &[u32], mate: &[u16], dist: &[u32], pi: &mut [u32])
     requires { ⌜ Bipartite (length (now dist)) (length (now pi)) (recordTails (now records)) (recordHeads (now records)) (recordWeights (now records)) ⌝ }
     requires { ⌜ Matching (length (now pi)) (recordTails (now records)) (recordHeads (now records)) (now mate) ⌝ }
     ensures { λ _. ⌜ Marks (length (now (pi .entry))) (recordTails (now (records .entry))) (now (mate .entry)) (now (dist .entry)) t (now (pi .exit)) ⌝ }

@@ -1,4 +1,4 @@
--- `match_least_cost::results::write_marks` meets its contract. The loop's invariant: the vertices below v have their marks.
+-- `match_results::write_marks` meets its contract. The loop's invariant: the vertices below v have their marks.
 -- Assumes nothing.
 use mathlib.Core.Path.{_≡_, sym, subst}
 use Prim.Native.Nat.{ℕ, _-_}
@@ -8,9 +8,9 @@ use borrow.Author.Needs.{needs}
 use Rattle.prelude.proofs.Filling.{Filling, fill-start, fill-turn, fill-end}
 use Rattle.arc_index.specs.Columns.{recordTails, recordHeads, recordWeights}
 use Rattle.match_state.specs.Matching.{Bipartite, Matching}
-use Rattle.match_least_cost.specs.Outcome.{unreachedMark}
-use Rattle.match_least_cost.proofs.results.write_marks.Statement.{statement}
-use Rattle.match_least_cost.proofs.results.write_marks.Tie as tie
+use Rattle.match_results.specs.Results.{unreachedMark}
+use Rattle.match_results.proofs.write_marks.Statement.{statement}
+use Rattle.match_results.proofs.write_marks.Tie as tie
 
 abbrev Inv-loop : tie.InvT-loop
 Inv-loop t records mate dist pi₀ v₀ pi v = Filling (λ i k. k ≡ unreachedMark (recordTails records) mate dist t i) 0 pi₀ pi v
@@ -36,13 +36,19 @@ slice-write-pi : tie.Need-slice-write-pi Inv-loop μ-loop
 slice-write-pi c = omega (arith, c .before .before .loop .inv .len, c .before .before .before .before .before .before .before .pre .1 .len)
 
 loop-again : tie.Need-loop-again Inv-loop μ-loop
-loop-again c = let l = c .before .before .loop in fill-turn _ 0 _ (l .pi) (l .v) _ (omega (arith, c .before .loop-test .taken, c .before .before .before .before .before .before .before .pre .1 .len)) (c .mark-of .ensures) (l .inv)
+loop-again c =
+    let start = c .before .before .before .before .before .before .before in
+    let l = c .before .before .loop in
+    fill-turn _ 0 _ (l .pi) (l .v) _ (omega (arith, c .before .loop-test .taken, start .pre .1 .len)) (c .mark-of .ensures) (l .inv)
 
 same-length : tie.Need-same-length Inv-loop μ-loop
 same-length c = c .before .loop .inv .len
 
 returns : tie.Need-returns Inv-loop μ-loop
-returns c = let l = c .before .loop in record { len = l .inv .len; by = fill-end _ 0 _ (l .pi) (l .v) (omega (arith, c .loop-test .left, c .before .before .before .before .before .before .pre .1 .len)) (l .inv) }
+returns c =
+    let start = c .before .before .before .before .before .before in
+    let l = c .before .loop in
+    record { len = l .inv .len; by = fill-end _ 0 _ (l .pi) (l .v) (omega (arith, c .loop-test .left, start .pre .1 .len)) (l .inv) }
 
 pub write-marks-spec : {M : Type 1} → statement M
 write-marks-spec =
