@@ -7,7 +7,7 @@ use native.Mathlib.Omega.{arith}
 use lib.ListN.{length, set, length-set}
 use Rattle.packed_arcs.specs.Entries.{entry}
 use Rattle.match_state.specs.Matching.{State}
-use Rattle.match_search.specs.Tree.{SearchedBack}
+use Rattle.match_tree.specs.Tree.{SearchedBack}
 use Rattle.match_augmenting.specs.Augmenting.{Raised, Alternating, Augmented}
 use Rattle.match_augmenting.proofs.Raising as raising
 

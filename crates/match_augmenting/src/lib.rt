@@ -4,7 +4,7 @@ ghost use Prim.Native.Nat.{_<_};
 ghost use lib.ListN.{length};
 ghost use Rattle.arc_index.specs.Columns.{recordTails, recordHeads, recordWeights};
 ghost use Rattle.match_state.specs.Matching.{State};
-ghost use Rattle.match_search.specs.Tree.{SearchedBack};
+ghost use Rattle.match_tree.specs.Tree.{SearchedBack};
 ghost use Rattle.match_augmenting.specs.Augmenting.{Augmented};
 use augment::augment;
 use raise::raise;

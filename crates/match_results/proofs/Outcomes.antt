@@ -18,7 +18,7 @@ use Rattle.packed_arcs.specs.Entries.{entry, flowAt}
 use Rattle.arc_index.specs.ArcIndex.{noArc}
 use Rattle.vertex_queue.specs.VertexQueue.{waitsNot}
 use Rattle.match_state.specs.Matching.{Bipartite, Noted, Matching, State}
-use Rattle.match_search.specs.Tree.{InTree, root, matched, Tree}
+use Rattle.match_tree.specs.Tree.{InTree, root, matched, Tree}
 use Rattle.match_results.specs.Results.{matchedAmount, Amounts, Perfect, farMark, Marks, Deficient}
 use Rattle.match_state.proofs.Pairs.{noted, left-end, right-end}
 use Rattle.match_results.proofs.Flows.{flow-none, flow-one, sum-weighted, weighted-same, listed-at}

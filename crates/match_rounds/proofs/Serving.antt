@@ -11,7 +11,7 @@ use lib.ListN.{length}
 use Rattle.packed_arcs.specs.Entries.{entry}
 use Rattle.arc_index.specs.ArcIndex.{noArc}
 use Rattle.match_state.specs.Matching.{Noted, State}
-use Rattle.match_search.specs.Tree.{SearchedBack}
+use Rattle.match_tree.specs.Tree.{SearchedBack}
 use Rattle.match_augmenting.specs.Augmenting.{Augmented}
 use Rattle.match_rounds.specs.Serving.{Stuck, Served, PassOutcome}
 use Rattle.match_augmenting.proofs.Reached.{search-lengths}

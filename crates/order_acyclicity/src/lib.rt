@@ -5,38 +5,17 @@ ghost use lib.ListN.{length};
 ghost use Rattle.packed_arcs.specs.Entries.{zeroList};
 ghost use Rattle.arc_index.specs.Columns.{recordTails, recordHeads};
 ghost use Rattle.order_path.specs.Search.{SearchOutcome};
-ghost use Rattle.order_path.specs.Steps.{Arcs, Searched, OrderOrCycle};
-use arc_index::End;
-use arc_index::index;
+ghost use Rattle.order_path.specs.Steps.{Arcs, OrderOrCycle};
 use arc_records::MOST_ARCS;
 use arc_records::MOST_VERTICES;
 use limits::is_searchable;
 use order_cycle::mark;
 use order_path::Found;
-use order_path::index::first_arcs;
-use order_ranking::rank_all;
+use order_ranking::index_and_rank;
 use packed_arcs::clearing::clear_amounts;
 use packed_arcs::clearing::clear_potentials;
 
 mod limits;
-
-// Indexes the arcs by head, and ranks the vertices: 0, or the length of a path that closes a cycle.
-fn rank(
-    records: &[u32],
-    ranks: &mut [u32],
-    links: &mut [u16],
-    into: &mut [u16],
-    path: &mut [usize],
-    spot: &mut [usize],
-) -> usize
-    requires { ⌜ Arcs (length (now ranks)) (recordTails (now records)) (recordHeads (now records)) × (length (now links) ≡ 256 + length (now records)) ⌝ }
-    requires { ⌜ (now ranks ≡ zeroList (length (now ranks))) × (length (now into) ≡ length (now ranks)) × (length (now path) ≡ length (now ranks)) × (now spot ≡ zeroList (length (now ranks))) ⌝ }
-    ensures { λ r. ⌜ Searched (recordTails (now (records .entry))) (recordHeads (now (records .entry))) (now (ranks .exit)) (now (into .exit)) (now (path .exit)) (now (spot .exit)) r ⌝ }
-{
-    index(records, End::Head, links);
-    first_arcs(links, into);
-    rank_all(records, links, ranks, into, path, spot)
-}
 
 // The search on arrays that are 0: an order, or a cycle.
 fn decide(
@@ -53,7 +32,7 @@ fn decide(
     requires { ⌜ (length (now into) ≡ length (now ranks)) × (length (now path) ≡ length (now ranks)) × (now spot ≡ zeroList (length (now ranks))) ⌝ }
     ensures { λ r. ⌜ OrderOrCycle (recordTails (now (records .entry))) (recordHeads (now (records .entry))) (now (ranks .entry)) (now (marks .entry)) (now (ranks .exit)) (now (marks .exit)) r ⌝ }
 {
-    let len = rank(records, ranks, links, into, path, spot);
+    let len = index_and_rank(records, ranks, links, into, path, spot);
     if len == 0 {
         return Found::Order;
     }

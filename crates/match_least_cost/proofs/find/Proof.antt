@@ -25,10 +25,36 @@ write-found-requires c κs =
       (omega (arith, dist-len, pi-len, after-bids .index-and-bid .kept .1 .1 .1 .1 .0, p .0 .1), p .1 .0 .3),
     )
 
+-- the lengths of links, mate and pi stay
+same-length : tie.Need-same-length
+same-length c =
+    let after-index-and-bid = c .before .before .before .before .before .before .before .before .before .before .before .before .before .before
+    .before .before .before .before .before .before .before .before .before .before .before .before .before .before .before .before .before .before
+    .before in
+    after-index-and-bid .index-and-bid .kept .1 .1 .0
+
+same-length-2 : tie.Need-same-length-2
+same-length-2 c =
+    let after-serve-all = c .before .before .before .before .before .before .before .before .before .before .before .before .before .before .before
+    .before .before .before .before .before in
+    after-serve-all .serve-all .kept .1 .1 .0 ∙
+    after-serve-all .before .before .before .before .before .before .before .before .before .before .before .before .before .index-and-bid .kept .1 .1
+    .1 .0
+
+same-length-3 : tie.Need-same-length-3
+same-length-3 c =
+    let after-write-found = c .before .before .before .before in
+    let after-serve-all = after-write-found .before .before .before .before .before .before .before .before .before .before .before .before .before
+    .before .before .before in
+    after-write-found .write-found .kept .1 .1 .1 .1 .1 .0 ∙ after-serve-all .serve-all .kept .1 .1 .1 .0 ∙
+    after-serve-all .before .before .before .before .before .before .before .before .before .before .before .before .before .index-and-bid .kept .1 .1
+    .1 .1 .0
+
 returns : tie.Need-returns
 returns c =
     let after-write-found = c .before .before .before .before in
-    let after-serve-all = after-write-found .before .before .before .before .before .before .before .before .before .before .before .before .before .before .before .before in
+    let after-serve-all = after-write-found .before .before .before .before .before .before .before .before .before .before .before .before .before
+    .before .before .before in
     let after-bids = after-serve-all .before .before .before .before .before .before .before .before .before .before .before .before .before in
     outcome-at (after-serve-all .serve-all .kept .1 .1 .1 .1 .0)
     (after-serve-all .serve-all .kept .1 .1 .1 .0 ∙ after-bids .index-and-bid .kept .1 .1 .1 .1 .0) (after-write-found .write-found .ensures)
@@ -40,11 +66,20 @@ find-spec =
     (λ c κs. search needs)
     serve-all-requires
     write-found-requires
-    (λ c. search needs)
-    (λ c. search needs)
-    (λ c. search needs)
-    (λ c. search needs)
-    (λ c. search needs)
-    (λ c. search needs)
-    (λ c. search needs)
+    same-length
+    same-length-2
+    same-length-3
+    (λ c.
+    let after-serve-all = c .before .before .before .before .before .before .before .before .before .before .before .before .before .before
+    .before .before .before .before .before .before in
+    after-serve-all .serve-all .kept .1 .1 .1 .1 .0)
+    (λ c.
+    let after-serve-all = c .before .before .before .before .before .before .before .before .before .before .before .before .before .before
+    .before .before .before .before .before .before in
+    after-serve-all .serve-all .kept .1 .1 .1 .1 .1 .0)
+    (λ c.
+    let after-serve-all = c .before .before .before .before .before .before .before .before .before .before .before .before .before .before
+    .before .before .before .before .before .before in
+    after-serve-all .serve-all .kept .1 .1 .1 .1 .1 .1 .0)
+    (λ c. c .before .before .before .before .write-found .kept .1 .1 .1 .1 .1 .1 .0)
     returns)

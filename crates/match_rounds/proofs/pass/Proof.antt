@@ -1,4 +1,4 @@
--- `match_least_cost::serve::pass` meets its contract.
+-- `match_rounds::pass` meets its contract.
 -- Assumes nothing.
 use mathlib.Core.Path.{_≡_, refl, subst, _∙_}
 use Prim.Native.Nat.{ℕ, _-_}

@@ -1,4 +1,4 @@
--- `match_least_cost::serve::serve_exposed` meets its contract.
+-- `match_rounds::serve_exposed` meets its contract.
 -- Assumes nothing.
 use mathlib.Core.Path.{refl}
 use native.Mathlib.Omega.{arith}

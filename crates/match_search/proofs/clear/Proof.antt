@@ -1,4 +1,4 @@
--- `match_least_cost::tree::clear` meets its contract.
+-- `match_search::clear` meets its contract.
 -- Assumes nothing.
 use mathlib.Core.Path.{_≡_, refl, ap, _∙_}
 use Prim.Native.Nat.{ℕ, _-_}

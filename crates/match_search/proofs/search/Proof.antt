@@ -1,4 +1,4 @@
--- `match_least_cost::tree::search` meets its contract.
+-- `match_search::search` meets its contract.
 -- Assumes nothing.
 use mathlib.Core.Path.{_≡_, refl, sym, ap, subst}
 use Prim.Native.Nat.{ℕ, _-_}

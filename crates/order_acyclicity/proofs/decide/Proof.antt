@@ -10,47 +10,47 @@ use Rattle.order_acyclicity.proofs.Outcomes.{closed-as}
 use Rattle.order_acyclicity.proofs.decide.Statement.{statement}
 use Rattle.order_acyclicity.proofs.decide.Tie as tie
 
-rank-requires : tie.Need-rank-requires
-rank-requires c κs =
+index-and-rank-requires : tie.Need-index-and-rank-requires
+index-and-rank-requires c κs =
     let start = c .before .before .before .before .before .before .before .before .before .before .before .before in
     let p = start .pre in
     (p .0, (p .1 .0 .0, p .1 .1 .0, p .1 .1 .1, p .1 .1 .2))
 
 returns : tie.Need-returns
-returns c = ordered (c .before .before .before .before .before .before .before .before .before .before .before .rank .ensures .order (c .if1 .taken)) refl
+returns c = ordered (c .before .before .before .before .before .before .before .before .before .before .before .index-and-rank .ensures .order (c .if1 .taken)) refl
 
 mark-requires : tie.Need-mark-requires
 mark-requires c κs =
     let at-if1 = c .before .before .before .before in
-    let after-rank = at-if1 .before .before .before .before .before .before .before .before .before .before .before in
-    let start = after-rank .before .before .before .before .before .before .before .before .before .before .before .before .before in
-    let closed = after-rank .rank .ensures .cycle (omega (arith, at-if1 .if1 .left)) in
-    (arcs-as (closed .into-len ∙ after-rank .rank .kept .1 .0) (start .pre .0 .0), (closed-as (closed .into-len) closed, start .pre .1 .0 .1))
+    let after-index-and-rank = at-if1 .before .before .before .before .before .before .before .before .before .before .before in
+    let start = after-index-and-rank .before .before .before .before .before .before .before .before .before .before .before .before .before in
+    let closed = after-index-and-rank .index-and-rank .ensures .cycle (omega (arith, at-if1 .if1 .left)) in
+    (arcs-as (closed .into-len ∙ after-index-and-rank .index-and-rank .kept .1 .0) (start .pre .0 .0), (closed-as (closed .into-len) closed, start .pre .1 .0 .1))
 
 returns-2 : tie.Need-returns-2
 returns-2 c =
     let after-mark = c .before .before .before .before .before .before in
-    let after-rank = after-mark .before .before .before .before .before .before .before .before .before .before .before .before .before .before
+    let after-index-and-rank = after-mark .before .before .before .before .before .before .before .before .before .before .before .before .before .before
     .before .before in
-    cyclic (c .before .before .clear-potentials .ensures ∙ ap zeroList (after-rank .rank .kept .1 .0)) (after-mark .mark .ensures)
+    cyclic (c .before .before .clear-potentials .ensures ∙ ap zeroList (after-index-and-rank .index-and-rank .kept .1 .0)) (after-mark .mark .ensures)
 
 pub decide-spec : {M : Type 1} → statement M
 decide-spec =
     tie.close
     (tie.spec
-    rank-requires
-    (λ c. search needs)
-    (λ c. search needs)
-    (λ c. search needs)
-    (λ c. search needs)
-    (λ c. search needs)
+    index-and-rank-requires
+    (λ c. c .before .before .before .before .before .before .before .before .before .before .before .index-and-rank .kept .1 .0)
+    (λ c. c .before .before .before .before .before .before .before .before .before .before .before .index-and-rank .kept .1 .1 .0)
+    (λ c. c .before .before .before .before .before .before .before .before .before .before .before .index-and-rank .kept .1 .1 .1 .0)
+    (λ c. c .before .before .before .before .before .before .before .before .before .before .before .index-and-rank .kept .1 .1 .1 .1 .0)
+    (λ c. c .before .before .before .before .before .before .before .before .before .before .before .index-and-rank .kept .1 .1 .1 .1 .1 .0)
     returns
     mark-requires
-    (λ c κs. search needs)
-    (λ c. search needs)
-    (λ c. search needs)
-    (λ c. search needs)
-    (λ c. search needs)
-    (λ c. search needs)
-    (λ c. search needs)
+    (λ c κs. tt)
+    (λ c. c .before .before .clear-potentials .kept .0 ∙ c .before .before .before .before .before .before .before .before .before .before .before .before .before .before .before .before .before .before .before .before .before .before .index-and-rank .kept .1 .0)
+    (λ c. c .before .before .before .before .before .before .mark .kept .1 .1 .1 .1 .1 .0)
+    (λ c. c .before .before .before .before .before .before .before .before .before .before .before .before .before .before .before .before .before .before .before .before .before .before .index-and-rank .kept .1 .1 .0)
+    (λ c. c .before .before .before .before .before .before .before .before .before .before .before .before .before .before .before .before .before .before .before .before .before .before .index-and-rank .kept .1 .1 .1 .0)
+    (λ c. c .before .before .before .before .before .before .before .before .before .before .before .before .before .before .before .before .before .before .before .before .before .before .index-and-rank .kept .1 .1 .1 .1 .0)
+    (λ c. c .before .before .before .before .before .before .before .before .before .before .before .before .before .before .before .before .before .before .before .before .before .before .index-and-rank .kept .1 .1 .1 .1 .1 .0)
     returns-2)

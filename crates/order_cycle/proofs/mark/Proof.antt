@@ -1,4 +1,4 @@
--- `order_acyclicity::cycle::mark` meets its contract. The loop's invariant: the arcs into the vertices of the path, from where the cycle starts up to i, are marked.
+-- `order_cycle::mark` meets its contract. The loop's invariant: the arcs into the vertices of the path, from where the cycle starts up to i, are marked.
 -- Assumes nothing.
 use mathlib.Core.Path.{_≡_, refl, _∙_, sym, ap}
 use Prim.Native.Nat.{ℕ, _-_, _<_}

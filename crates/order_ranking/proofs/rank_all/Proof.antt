@@ -1,4 +1,4 @@
--- `order_acyclicity::ranking::rank_all` meets its contract. The loop's invariant: r vertices have a rank, and those on the path have none. Each turn gives one.
+-- `order_ranking::rank_all` meets its contract. The loop's invariant: r vertices have a rank, and those on the path have none. Each turn gives one.
 -- Assumes nothing.
 use mathlib.Core.Path.{refl}
 use Prim.Native.Nat.{_-_}

@@ -1,4 +1,4 @@
--- `match_least_cost::augment::augment` meets its contract.
+-- `match_augmenting::augment::augment` meets its contract.
 -- Assumes nothing.
 use mathlib.Core.Path.{_≡_, refl, sym, ap, subst, _∙_}
 use Prim.Native.Nat.{ℕ, _<_, _≤_}

@@ -1,4 +1,4 @@
--- `match_least_cost::raise::raise` meets its contract.
+-- `match_augmenting::raise::raise` meets its contract.
 -- Assumes nothing.
 use mathlib.Core.Path.{_≡_, ap}
 use Prim.Native.Nat.{ℕ, _-_}

@@ -1,4 +1,4 @@
--- `match_least_cost::raise::rise` meets its contract.
+-- `match_augmenting::raise::rise` meets its contract.
 -- Assumes nothing.
 use mathlib.Core.Path.{_≡_, refl, sym, ap, _∙_}
 use Prim.Native.Nat.{ℕ}

@@ -1,4 +1,4 @@
--- `order_acyclicity::path::climb` meets its contract. The loop's invariant: a path of vertices without a rank, that is not empty. There is room for one vertex fewer at each turn.
+-- `order_path::path::climb` meets its contract. The loop's invariant: a path of vertices without a rank, that is not empty. There is room for one vertex fewer at each turn.
 -- Assumes nothing.
 use mathlib.Core.Path.{refl, _∙_, sym, ap}
 use Prim.Native.Nat.{_-_, _<_}

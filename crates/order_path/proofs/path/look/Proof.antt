@@ -1,4 +1,4 @@
--- `order_acyclicity::path::look` meets its contract. The loop's invariant: only the current arc of v moved on. Fewer arcs are left at each turn.
+-- `order_path::path::look` meets its contract. The loop's invariant: only the current arc of v moved on. Fewer arcs are left at each turn.
 -- Assumes nothing.
 use mathlib.Core.Path.{_∙_, sym, ap}
 use Prim.Native.Nat.{_-_}

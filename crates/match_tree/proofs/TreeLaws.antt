@@ -13,7 +13,7 @@ use Rattle.packed_arcs.proofs.ListLoops.{set-cases}
 use Rattle.arc_index.specs.ArcIndex.{noArc}
 use Rattle.vertex_queue.specs.VertexQueue.{waitsNot}
 use Rattle.match_state.specs.Matching.{Bipartite, Noted, Matching, Priced, State}
-use Rattle.match_search.specs.Tree.{InTree, Parent, TakenLeft, Tree}
+use Rattle.match_tree.specs.Tree.{InTree, Parent, TakenLeft, Tree}
 use Rattle.match_state.proofs.Pairs as pairs
 use Rattle.match_state.proofs.Pairs.{noted}
 

@@ -1,17 +1,17 @@
--- `match_least_cost::tree::scan` meets its contract.
+-- `match_tree::scan` meets its contract.
 -- Assumes nothing.
 use mathlib.Core.Path.{_≡_, refl, sym, subst}
 use Prim.Native.Nat.{ℕ, _-_}
 use native.Mathlib.Omega.{arith}
 use lib.ListN.{length}
 use borrow.Author.Needs.{needs}
-use Rattle.match_search.specs.Tree.{Lowered}
+use Rattle.match_tree.specs.Tree.{Lowered}
 use Rattle.arc_index.specs.Columns.{recordTails, recordHeads, recordWeights}
 use Rattle.arc_index.proofs.ChainSteps.{in-links, shrinks}
 use Rattle.arc_index.proofs.Columns.{tails-len, heads-len}
-use Rattle.match_search.proofs.Scans.{Scanning, ready, here, scan-start, scan-step, scan-found, scan-end}
-use Rattle.match_search.proofs.scan.Statement.{statement}
-use Rattle.match_search.proofs.scan.Tie as tie
+use Rattle.match_tree.proofs.Scans.{Scanning, ready, here, scan-start, scan-step, scan-found, scan-end}
+use Rattle.match_tree.proofs.scan.Statement.{statement}
+use Rattle.match_tree.proofs.scan.Tie as tie
 
 abbrev Inv-loop : tie.InvT-loop
 Inv-loop b k records links mate pi dist₀ par₀ keys₀ low₀ price e₀ dist par keys low e =

@@ -16,8 +16,8 @@ use Rattle.arc_index.proofs.ChainSteps.{is-arc, none-between, none-left, next-a
 use Rattle.vertex_queue.specs.VertexQueue.{Kept}
 use Rattle.vertex_queue.proofs.Laws.{put-kept}
 use Rattle.match_state.specs.Matching.{State}
-use Rattle.match_search.specs.Tree.{InTree, Tree, Lowered, Relaxable, ScanEnd, Scanned}
-use Rattle.match_search.proofs.TreeLaws.{looked-kept, looked-nearer, in-on, fresh}
+use Rattle.match_tree.specs.Tree.{InTree, Tree, Lowered, Relaxable, ScanEnd, Scanned}
+use Rattle.match_tree.proofs.TreeLaws.{looked-kept, looked-nearer, in-on, fresh}
 
 -- what holds before the arc e, which is the next one to b from lo on
 pub record Scanning (h n : ℕ) (T H W mate pi dist₀ par₀ keys₀ low₀ : List ℕ) (b k : ℕ) (dist par keys low : List ℕ) (e : ℕ) : Type 0 where

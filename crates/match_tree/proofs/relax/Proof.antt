@@ -1,11 +1,11 @@
--- `match_least_cost::tree::relax` meets its contract.
+-- `match_tree::relax` meets its contract.
 -- Assumes nothing.
 use mathlib.Core.Path.{refl, ap}
 use native.Mathlib.Omega.{arith}
 use borrow.Author.Needs.{needs}
 use Rattle.packed_arcs.specs.Entries.{entry}
-use Rattle.match_search.proofs.relax.Statement.{statement}
-use Rattle.match_search.proofs.relax.Tie as tie
+use Rattle.match_tree.proofs.relax.Statement.{statement}
+use Rattle.match_tree.proofs.relax.Tie as tie
 
 add-up : tie.Need-add-up
 add-up c =

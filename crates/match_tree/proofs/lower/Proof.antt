@@ -1,14 +1,14 @@
--- `match_least_cost::tree::lower` meets its contract.
+-- `match_tree::lower` meets its contract.
 -- Assumes nothing.
 use mathlib.Core.Path.{refl}
 use mathlib.Core.Bool.{false≢true}
 use native.Mathlib.Omega.{arith}
 use lib.Dec.{eqb→eq}
 use borrow.Author.Needs.{needs}
-use Rattle.match_search.specs.Tree.{Lowered}
+use Rattle.match_tree.specs.Tree.{Lowered}
 use Rattle.prelude.proofs.Booleans.{true→T}
-use Rattle.match_search.proofs.lower.Statement.{statement}
-use Rattle.match_search.proofs.lower.Tie as tie
+use Rattle.match_tree.proofs.lower.Statement.{statement}
+use Rattle.match_tree.proofs.lower.Tie as tie
 
 returns : tie.Need-returns
 returns c =
