@@ -51,8 +51,8 @@ pub fn begin(links: &mut [u16], last: &mut [u16; 256])
     *last = first_places();
 }
 
-// A place as an index of an array.
-fn place(k: u16) -> usize
+// A place in links, or an arc, as an index of an array.
+pub fn place(k: u16) -> usize
     ensures { λ r. ⌜ r ≡ k ⌝ }
 {
     k as usize

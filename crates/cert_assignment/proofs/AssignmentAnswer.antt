@@ -29,7 +29,8 @@ use Rattle.network.proofs.Sound.{balance-parts}
 use Rattle.packed_arcs.specs.Entries.{entry, zeroList, flowAt}
 use Rattle.packed_arcs.proofs.LentParts.{zero-at}
 use Rattle.arc_index.specs.Columns.{recordTails, recordHeads, recordWeights}
-use Rattle.match_least_cost.specs.Outcome.{leadsAcross, matchable, Perfect, Deficient, FindOutcome, MatchOutcome}
+use Rattle.match_results.specs.Results.{Perfect, Deficient}
+use Rattle.match_least_cost.specs.Outcome.{leadsAcross, matchable, FindOutcome, MatchOutcome}
 use Rattle.match_least_cost.specs.declared.Match.{Match}
 use Rattle.match_least_cost.specs.declared.Match.the-variants.{Perfect as PerfectMatch, Deficient as NoMatch, Refused}
 use Rattle.cert_instances.specs.Instance.{numberOf}

@@ -11,7 +11,8 @@ use lib.ListN.{length}
 use lib.Dec.{leb}
 use borrow.Author.Tests.{le-leb, lt-leb}
 use Rattle.prelude.specs.Choice.{indicator}
-use Rattle.prelude.specs.Sums.{sumTo, count}
+use Rattle.prelude.specs.Sums.{count}
+use Rattle.prelude.proofs.Sums.{sumTo-le, sumTo-less, sumTo-same}
 use Rattle.packed_arcs.specs.Entries.{entry}
 use Rattle.flow_residual.specs.Residual.{unreached, ResidualNetwork, residual, tail, head, raisedCost, headPotential, WithinLimits, NonnegativeReducedCosts, keyBeyond, ParentArc, ParentTree, AllRelaxed, RaisedPotentials}
 use Rattle.flow_residual.specs.Push.{ParentArcWithin}
@@ -20,26 +21,6 @@ use Rattle.flow_residual.specs.Push.{ParentArcWithin}
 
 upTo : List ℕ → ℕ → ℕ
 upTo key k = count (λ v. leb (entry key v) k) (length key)
-
-sum-most : (n : ℕ) (g : ℕ → ℕ) → ((v : ℕ) → g v ≤ 1) → sumTo n g ≤ n
-unfolding sumTo
-sum-most zero g e = omega arith
-sum-most (suc n) g e = omega (arith, sum-most n g e, e n)
-
-sum-below : (n : ℕ) (g h : ℕ → ℕ) → ((v : ℕ) → g v ≤ h v) → sumTo n g ≤ sumTo n h
-unfolding sumTo
-sum-below zero g h e = omega arith
-sum-below (suc n) g h e = omega (arith, sum-below n g h e, e n)
-
--- where one number is less
-sum-less : (n v : ℕ) (g h : ℕ → ℕ) → ((w : ℕ) → g w ≤ h w) → v < n → g v < h v → sumTo n g < sumTo n h
-unfolding sumTo
-sum-less zero v g h e l d = absurd (omega arith)
-sum-less (suc n) v g h e l d = go (ℕ-discrete v n) (sum-less n v g h e)
-  where
-    go : Dec (v ≡ n) → (v < n → g v < h v → sumTo n g < sumTo n h) → sumTo n g + g n < sumTo n h + h n
-    go (yes q) below = omega (arith, sum-below n g h e, ap g q, ap h q)
-    go (no q) below = omega (arith, below (omega arith) d, e n)
 
 in-order : (a j k : ℕ) → j ≤ k → indicator (leb a j) ≤ indicator (leb a k)
 in-order a j k h = go (decLe a j)
@@ -50,7 +31,8 @@ in-order a j k h = go (decLe a j)
 
 up-to-length : (key : List ℕ) (k : ℕ) → upTo key k ≤ length key
 unfolding upTo
-up-to-length key k = sum-most (length key) (λ v. indicator (leb (entry key v) k)) (λ v. one (leb (entry key v) k))
+up-to-length key k =
+    omega (arith, sumTo-le (length key) (λ v. indicator (leb (entry key v) k)) (λ v. 1) (λ v h. one (leb (entry key v) k)), sumTo-same (length key) 1)
   where
     one : (b : Bool) → indicator b ≤ 1
     one true = omega arith
@@ -60,14 +42,15 @@ up-to-length key k = sum-most (length key) (λ v. indicator (leb (entry key v) k
 up-to-more : (key : List ℕ) (v j : ℕ) → v < length key → j < entry key v → upTo key j < upTo key (entry key v)
 unfolding upTo
 up-to-more key v j h l =
-    sum-less (length key) v (λ w. indicator (leb (entry key w) j)) (λ w. indicator (leb (entry key w) (entry key v)))
-    (λ w. in-order (entry key w) j (entry key v) (omega arith)) h
+    sumTo-less (length key) (λ w. indicator (leb (entry key w) j)) (λ w. indicator (leb (entry key w) (entry key v))) v
+    (λ w i. in-order (entry key w) j (entry key v) (omega arith)) h
     (rw (lt-leb (entry key v) j l, le-leb (entry key v) (entry key v) (omega arith)) (omega arith))
 
 up-to-self : (key : List ℕ) (v : ℕ) → v < length key → 1 ≤ upTo key (entry key v)
 unfolding upTo
 up-to-self key v h =
-    let some = sum-less (length key) v (λ w. 0) (λ w. indicator (leb (entry key w) (entry key v))) (λ w. omega arith) h (rw (le-leb (entry key v) (entry key v) (omega arith)) (omega arith)) in
+    let some = sumTo-less (length key) (λ w. 0) (λ w. indicator (leb (entry key w) (entry key v))) v (λ w i. omega arith) h
+    (rw (le-leb (entry key v) (entry key v) (omega arith)) (omega arith)) in
     omega arith
 
 -- ---- keys and potentials at a fixpoint

@@ -1,3 +1,4 @@
 pub mod Raising
 pub mod Augmentation
 pub mod RaiseLoop
+pub mod Reached

@@ -17,9 +17,9 @@ use Rattle.packed_arcs.proofs.Zeros.{zeros-fewer}
 use Rattle.arc_index.specs.ArcIndex.{noArc}
 use Rattle.vertex_queue.specs.VertexQueue.{waitsNot}
 use Rattle.match_state.specs.Matching.{Noted, State}
-use Rattle.match_search.specs.Tree.{InTree, Parent, TakenLeft, Tree}
+use Rattle.match_tree.specs.Tree.{InTree, Parent, TakenLeft, Tree}
 use Rattle.match_augmenting.specs.Augmenting.{riseOf, Raised, Onward, Alternating}
-use Rattle.match_search.proofs.TreeLaws.{right-end, left-end, partner, in-tree-near}
+use Rattle.match_tree.proofs.TreeLaws.{right-end, left-end, partner, in-tree-near}
 use Rattle.match_state.proofs.Pairs.{noted}
 
 -- nobody rises by more than the distance

@@ -8,7 +8,7 @@ ghost use Rattle.arc_index.specs.Columns.{recordTails, recordHeads, recordWeigh
 ghost use Rattle.match_state.specs.Matching.{State};
 ghost use Rattle.match_augmenting.specs.Augmenting.{riseOf, Raised};
 use arc_index::NO_ARC;
-use match_state::place;
+use arc_index::place;
 use match_state::tail_at;
 
 // By how much less far than d.
@@ -41,7 +41,7 @@ fn rise(v: usize, t: usize, d: u32, records: &[u32], mate: &[u16], dist: &[u32])
 }
 
 // Every potential rises, where the search from the root t reached the distance d.
-pub fn raise(
+pub(crate) fn raise(
     t: usize,
     d: u32,
     records: &[u32],

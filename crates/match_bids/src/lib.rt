@@ -10,8 +10,8 @@ ghost use Rattle.match_bids.specs.Bidding.{bidCost, costUnless, Affordab
 ghost use Rattle.arc_index.specs.Columns.{recordTails, recordHeads, recordWeights};
 ghost use Rattle.match_state.specs.Matching.{State};
 use arc_index::NO_ARC;
+use arc_index::place;
 use match_state::head_at;
-use match_state::place;
 use match_state::tail_at;
 use match_state::weight_at;
 

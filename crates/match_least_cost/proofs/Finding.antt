@@ -22,12 +22,13 @@ use Rattle.arc_index.proofs.Building.{Built, links-built}
 use Rattle.arc_index.proofs.Ends.{record-chains}
 use Rattle.arc_index.specs.Columns.{recordTails, recordHeads, recordWeights}
 use Rattle.match_state.specs.Matching.{Bipartite, Noted, State}
-use Rattle.match_least_cost.specs.Outcome.{leadsAcross, matchable, Amounts, Marks, Perfect, Deficient, FindOutcome}
+use Rattle.match_results.specs.Results.{Amounts, Marks}
+use Rattle.match_least_cost.specs.Outcome.{leadsAcross, matchable, FindOutcome}
 use Rattle.match_rounds.specs.Serving.{PassOutcome}
 use Rattle.match_least_cost.specs.declared.Match.{Match}
 use Rattle.match_least_cost.specs.declared.Match.the-variants.{Perfect as PerfectMatch, Deficient as NoMatch}
 use Rattle.arc_index.proofs.Columns.{tails-len, heads-len, weights-len, tail-is, head-is, weight-is}
-use Rattle.match_least_cost.proofs.Outcomes.{perfect, deficient}
+use Rattle.match_results.proofs.Outcomes.{perfect, deficient}
 
 -- ---- what is handed over
 

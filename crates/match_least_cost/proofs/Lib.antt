@@ -1,3 +1,1 @@
-pub mod Flows
-pub mod Outcomes
 pub mod Finding

@@ -6,27 +6,60 @@ ghost use lib.ListN.{length, replicate};
 ghost use Rattle.packed_arcs.specs.Entries.{zeroList};
 ghost use Rattle.arc_index.specs.ArcIndex.{noArc};
 ghost use Rattle.arc_index.specs.Columns.{recordTails, recordHeads, recordWeights};
-ghost use Rattle.match_state.specs.Matching.{Bipartite};
+ghost use Rattle.match_state.specs.Matching.{Bipartite, State};
+ghost use Rattle.match_rounds.specs.Serving.{PassOutcome};
 ghost use Rattle.match_least_cost.specs.Outcome.{FindOutcome, MatchOutcome};
 use arc_index::End;
 use arc_index::NO_ARC;
 use arc_index::index;
 use limits::is_matchable;
 use match_bids::bid_all;
+use match_results::write_amounts;
+use match_results::write_marks;
 use match_rounds::serve_all;
 use packed_arcs::clearing::clear_amounts;
 use packed_arcs::clearing::clear_potentials;
-use results::write_amounts;
-use results::write_marks;
 
 mod limits;
-mod results;
 
 // What was found: a perfect matching, that there is none, or that the input is not within the limits.
 pub enum Match {
     Perfect,
     Deficient,
     Refused,
+}
+
+// Indexes the arcs by head, and matches by bids, where nothing is matched.
+fn index_and_bid(h: usize, records: &[u32], links: &mut [u16], mate: &mut [u16], pi: &mut [u32])
+    requires { ⌜ Bipartite h (length (now pi)) (recordTails (now records)) (recordHeads (now records)) (recordWeights (now records)) × (length (now links) ≡ 256 + length (now records)) ⌝ }
+    requires { ⌜ (now mate ≡ replicate (length (now pi)) noArc) × (now pi ≡ zeroList (length (now pi))) ⌝ }
+    ensures { λ _. ⌜ State h (length (now (pi .entry))) (recordTails (now (records .entry))) (recordHeads (now (records .entry))) (recordWeights (now (records .entry))) (now (links .exit)) (now (mate .exit)) (now (pi .exit)) ⌝ }
+{
+    index(records, End::Head, links);
+    bid_all(h, records, links, mate, pi);
+}
+
+// Writes what the search found: t is a vertex that cannot be matched, or the number of vertices.
+fn write_found(
+    t: usize,
+    records: &[u32],
+    links: &[u16],
+    mate: &[u16],
+    dist: &[u32],
+    pi: &mut [u32],
+    x: &mut [u16],
+) -> Match
+    requires { ⌜ PassOutcome (length (now dist)) (length (now pi)) (recordTails (now records)) (recordHeads (now records)) (recordWeights (now records)) (now links) 1 (now dist) (now mate) (now pi) t ⌝ }
+    requires { ⌜ (length (now pi) ≡ length (now dist) + length (now dist)) × (length (now x) ≡ length (now records)) ⌝ }
+    ensures { λ r. ⌜ FindOutcome (length (now (dist .entry))) (length (now (pi .entry))) (recordTails (now (records .entry))) (recordHeads (now (records .entry))) (recordWeights (now (records .entry))) (now (pi .exit)) (now (x .exit)) r ⌝ }
+{
+    if t < mate.len() {
+        write_marks(t, records, mate, dist, pi);
+        clear_amounts(x);
+        return Match::Deficient;
+    }
+    write_amounts(records, mate, x);
+    Match::Perfect
 }
 
 // The search on arrays in which nothing is matched.
@@ -45,17 +78,9 @@ fn find(
     requires { ⌜ (now mate ≡ replicate (length (now pi)) noArc) × (now pi ≡ zeroList (length (now pi))) ⌝ }
     ensures { λ r. ⌜ FindOutcome (length (now (dist .entry))) (length (now (pi .entry))) (recordTails (now (records .entry))) (recordHeads (now (records .entry))) (recordWeights (now (records .entry))) (now (pi .exit)) (now (x .exit)) r ⌝ }
 {
-    let h = dist.len();
-    index(records, End::Head, links);
-    bid_all(h, records, links, mate, pi);
+    index_and_bid(dist.len(), records, links, mate, pi);
     let t = serve_all(records, links, mate, pi, dist, par, order);
-    if t < mate.len() {
-        write_marks(t, records, mate, dist, pi);
-        clear_amounts(x);
-        return Match::Deficient;
-    }
-    write_amounts(records, mate, x);
-    Match::Perfect
+    write_found(t, records, links, mate, dist, pi, x)
 }
 
 // For a perfect matching its amounts, and potentials that show that none is cheaper; for none amounts of 0, and in place of potentials marks that show it.

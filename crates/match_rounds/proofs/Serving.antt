@@ -4,18 +4,17 @@ use mathlib.Core.Path.{_≡_, refl, sym, _∙_, ap, subst}
 use mathlib.Core.Bool.{true, false}
 use mathlib.Core.List.{List}
 use mathlib.Core.Logic.{_⊎_, inl, inr, _≢_}
-use Prim.Native.Nat.{ℕ, _+_, _*_, _<_, _≤_}
+use Prim.Native.Nat.{ℕ, _+_, _/_, _<_, _≤_}
 use native.Mathlib.Omega.{arith}
 use native.Mathlib.Decide.{decLt}
-use lib.ListN.{length, set, length-set}
+use lib.ListN.{length}
 use Rattle.packed_arcs.specs.Entries.{entry}
 use Rattle.arc_index.specs.ArcIndex.{noArc}
-use Rattle.vertex_queue.specs.VertexQueue.{waitsNot}
 use Rattle.match_state.specs.Matching.{Noted, State}
-use Rattle.match_search.specs.Tree.{InTree, Tree, SearchedBack}
-use Rattle.match_augmenting.specs.Augmenting.{Raised, Alternating, Augmented}
+use Rattle.match_tree.specs.Tree.{SearchedBack}
+use Rattle.match_augmenting.specs.Augmenting.{Augmented}
 use Rattle.match_rounds.specs.Serving.{Stuck, Served, PassOutcome}
-use Rattle.match_augmenting.proofs.Raising as raising
+use Rattle.match_augmenting.proofs.Reached.{search-lengths}
 
 -- a state with h and n as the lengths of other lists
 pub state-at : {h n h' n' : ℕ} {T H W links mate pi : List ℕ} → h' ≡ h → n' ≡ n → State h n T H W links mate pi → State h' n' T H W links mate pi
@@ -23,43 +22,20 @@ state-at {h} {n} {h'} {n'} {T} {H} {W} {links} {mate} {pi} p q S =
     subst (λ (z : ℕ). State z n' T H W links mate pi) (sym p) (subst (λ (z : ℕ). State h z T H W links mate pi) (sym q) S)
 
 module _ {h n : ℕ} {T H W links mate pi : List ℕ} (S : State h n T H W links mate pi) {t r : ℕ} {dist par order : List ℕ} (X : SearchedBack h n T H W mate pi t dist par order r) where
-  pub search-lengths : (length dist ≡ h) × (length par ≡ h) × (length order ≡ h)
-  search-lengths = go X
-    where
-      go : SearchedBack h n T H W mate pi t dist par order r → (length dist ≡ h) × (length par ≡ h) × (length order ≡ h)
-      go (SearchedBack.reached a b c keys nd cur lo R l) = (R .dist-len, R .par-len, R .order-len)
-      go (SearchedBack.stuck a keys k nd R f) = (R .dist-len, R .par-len, R .order-len)
-
-  pub search-stuck : h ≤ r → Stuck h n T H W mate pi t dist
-  search-stuck g = go X
+  pub search-stuck : h ≤ r → Served h n T H W links mate t dist mate pi false
+  search-stuck g = Served.stuck (search-lengths X .0) S (go X)
     where
       go : SearchedBack h n T H W mate pi t dist par order r → Stuck h n T H W mate pi t dist
       go (SearchedBack.reached a b c keys nd cur lo R l) = absurd (omega arith)
       go (SearchedBack.stuck a keys k nd R f) = record { par = par; order = order; keys = keys; k = k; nd = nd; tree = R; none = f }
 
-  module _ (hr : r < h) where
-    pub small : entry dist r ≤ 2000000000
-    small = go X
-      where
-        go : SearchedBack h n T H W mate pi t dist par order r → entry dist r ≤ 2000000000
-        go (SearchedBack.reached a b c keys nd cur lo R l) = omega (arith, R .near r hr c, S .range r (omega (arith, S .graph .within)), R .count, S .graph .half)
-        go (SearchedBack.stuck a keys k nd R f) = absurd (omega (arith, S .graph .half))
+  pub served : {pi' mate' : List ℕ} {h' n' : ℕ} → h' ≡ h → n' ≡ n → Augmented h' n' T H W links mate pi' t mate' → Served h n T H W links mate t dist mate' pi' true
+  served p q A = Served.grown (search-lengths X .0) (state-at (sym p) (sym q) (A .state)) (A .root) (λ b g l m. A .kept b (omega arith) (omega arith) m)
 
-    order-long : {h₂ : ℕ} → h₂ ≡ length (set order r 255) → h₂ ≡ h
-    order-long e = e ∙ length-set order r 255 ∙ search-lengths .2
-
-    pub path-found : {pi' : List ℕ} {h₁ h₂ n₂ : ℕ} → h₁ ≡ h → h₂ ≡ length (set order r 255) → n₂ ≡ n → Raised h₁ T mate dist t (entry dist r) pi pi' → Alternating h₂ n₂ T H W links mate pi' par (set order r 255) t r
-    path-found {pi'} {h₁} {h₂} {n₂} e₁ e₂ e₃ U =
-        subst (λ (z : ℕ). Alternating z n₂ T H W links mate pi' par (set order r 255) t r) (sym (order-long e₂))
-        (subst (λ (z : ℕ). Alternating h z T H W links mate pi' par (set order r 255) t r) (sym e₃) (go X))
-      where
-        go : SearchedBack h n T H W mate pi t dist par order r → Alternating h n T H W links mate pi' par (set order r 255) t r
-        go (SearchedBack.reached a b c keys nd cur lo R l) = raising.alternating S r hr b c R l (subst (λ (z : ℕ). Raised z T mate dist t (entry dist r) pi pi') e₁ U)
-        go (SearchedBack.stuck a keys k nd R f) = absurd (omega (arith, S .graph .half))
-
-    pub served : {pi' mate' : List ℕ} {h₂ n₂ : ℕ} → h₂ ≡ length (set order r 255) → n₂ ≡ n → Augmented h₂ n₂ T H W links mate pi' t mate' → Served h n T H W links mate t dist mate' pi' true
-    served {pi'} {mate'} {h₂} {n₂} e₂ e₃ A = Served.grown (search-lengths .0) (state-at (sym (order-long e₂)) (sym e₃) (A .state)) (A .root)
-        (λ b g l m. A .kept b (omega (arith, order-long e₂)) (omega arith) m)
+-- a search with h as the length of another list
+pub searched-at : {h n h' : ℕ} {T H W mate pi dist par order : List ℕ} {t r : ℕ} → h' ≡ h → SearchedBack h n T H W mate pi t dist par order r
+    → SearchedBack h' n T H W mate pi t dist par order r
+searched-at {h} {n} {h'} {T} {H} {W} {mate} {pi} {dist} {par} {order} {t} {r} p X = subst (λ (z : ℕ). SearchedBack z n T H W mate pi t dist par order r) (sym p) X
 
 -- it was matched already
 pub was-matched : {h n : ℕ} {T H W links mate pi : List ℕ} {t : ℕ} {dist : List ℕ} → State h n T H W links mate pi → length dist ≡ h → entry mate t < noArc → Served h n T H W links mate t dist mate pi true
@@ -108,6 +84,46 @@ module _ {h n : ℕ} {T H W links : List ℕ} {step : ℕ} where
 
   pub pass-end : {dist mate pi : List ℕ} {v : ℕ} → Passing h n T H W links step dist mate pi v → n ≤ v → PassOutcome h n T H W links step dist mate pi n
   pass-end P g = PassOutcome.whole (P .dist-len) (P .state) refl (λ o b x y. P .matched o b x (omega arith) y)
+
+-- ---- pass after pass
+
+-- between passes, with the step of the last one: of 16, 4 and 1 after a step of 64
+pub data Step : ℕ → Type 0 where
+  before-all : Step 64
+  sixteenth : Step 16
+  fourth : Step 4
+  each : Step 1
+
+-- the step of the next pass
+pub next-step : {s : ℕ} → Step s → 1 < s → Step (s / 4) × (0 < s / 4) × (s / 4 ≤ 16)
+next-step before-all l = (sixteenth, omega arith, omega arith)
+next-step sixteenth l = (fourth, omega arith, omega arith)
+next-step fourth l = (each, omega arith, omega arith)
+next-step each l = absurd (omega arith)
+
+-- after the pass with this step nothing is stuck; after the last all right vertices are matched
+pub record Passed (h n : ℕ) (T H W links : List ℕ) (dist mate pi : List ℕ) (s : ℕ) : Type 0 where
+  pub step : Step s
+  pub dist-len : length dist ≡ h
+  pub state : State h n T H W links mate pi
+  pub matched : s ≡ 1 → (b : ℕ) → h ≤ b → b < n → entry mate b < noArc
+
+module _ {h n : ℕ} {T H W links : List ℕ} where
+  pub passes-start : {dist mate pi : List ℕ} → length dist ≡ h → State h n T H W links mate pi → Passed h n T H W links dist mate pi 64
+  passes-start e S = record { step = before-all; dist-len = e; state = S; matched = λ z. absurd (omega arith) }
+
+  pub passes-on : {dist mate pi : List ℕ} {s r : ℕ} → Step s → PassOutcome h n T H W links s dist mate pi r → n ≤ r → Passed h n T H W links dist mate pi s
+  passes-on t (PassOutcome.whole d S e f) l = record { step = t; dist-len = d; state = S; matched = f }
+  passes-on t (PassOutcome.stuck d S k g K) l = absurd (omega arith)
+
+  pub passes-end : {dist mate pi : List ℕ} {s : ℕ} → Passed h n T H W links dist mate pi s → s ≤ 1 → PassOutcome h n T H W links 1 dist mate pi n
+  passes-end {dist} {mate} {pi} {s} P l = PassOutcome.whole (P .dist-len) (P .state) refl (λ z. P .matched (last (P .step) l))
+    where
+      last : {s : ℕ} → Step s → s ≤ 1 → s ≡ 1
+      last before-all l = absurd (omega arith)
+      last sixteenth l = absurd (omega arith)
+      last fourth l = absurd (omega arith)
+      last each l = refl
 
 -- a pass that came to its end leaves a state
 pub pass-state : {h n : ℕ} {T H W links dist mate pi : List ℕ} {step r : ℕ} → PassOutcome h n T H W links step dist mate pi r → State h n T H W links mate pi × (length dist ≡ h)

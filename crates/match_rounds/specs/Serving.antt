@@ -9,7 +9,7 @@ use Rattle.packed_arcs.specs.Entries.{entry}
 use Rattle.arc_index.specs.ArcIndex.{noArc}
 use Rattle.vertex_queue.specs.VertexQueue.{waitsNot}
 use Rattle.match_state.specs.Matching.{State}
-use Rattle.match_search.specs.Tree.{Tree}
+use Rattle.match_tree.specs.Tree.{Tree}
 
 -- A search from t ended with nobody who waits: every left vertex that was reached was taken.
 pub record Stuck (h n : ℕ) (T H W mate pi : List ℕ) (t : ℕ) (dist : List ℕ) : Type 0 where

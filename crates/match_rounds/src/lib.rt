@@ -8,12 +8,11 @@ ghost use Rattle.arc_index.specs.Columns.{recordTails, recordHeads, recordWeigh
 ghost use Rattle.match_state.specs.Matching.{State};
 ghost use Rattle.match_rounds.specs.Serving.{Served, PassOutcome};
 use arc_index::NO_ARC;
-use match_augmenting::augment::augment;
-use match_augmenting::raise::raise;
+use match_augmenting::match_reached;
 use match_search::search;
 
-// The order of the vertex that was reached: after all others.
-const LAST: u8 = 255;
+// Before the first pass; each takes a fourth: 16, 4 and 1.
+const FIRST_STEP: usize = 64;
 
 // Matches the exposed right vertex t, at least cost: whether an exposed left vertex was reached. If not, nothing is changed but the arrays of the search.
 fn serve(
@@ -34,10 +33,7 @@ fn serve(
     if dist.len() <= r {
         return false;
     }
-    let d = dist[r];
-    raise(t, d, records, links, mate, dist, pi);
-    order[r] = LAST;
-    augment(r, t, records, links, pi, par, order, mate);
+    match_reached(r, t, records, links, dist, par, order, mate, pi);
     true
 }
 
@@ -101,13 +97,13 @@ pub fn serve_all(
     requires { ⌜ (length (now par) ≡ length (now dist)) × (length (now order) ≡ length (now dist)) ⌝ }
     ensures { λ r. ⌜ PassOutcome (length (now (dist .entry))) (length (now (pi .entry))) (recordTails (now (records .entry))) (recordHeads (now (records .entry))) (recordWeights (now (records .entry))) (now (links .entry)) 1 (now (dist .exit)) (now (mate .exit)) (now (pi .exit)) r ⌝ }
 {
-    let first = pass(16, records, links, mate, pi, dist, par, order);
-    if first < mate.len() {
-        return first;
+    let mut step = FIRST_STEP;
+    while 1 < step {
+        step = step / 4;
+        let t = pass(step, records, links, mate, pi, dist, par, order);
+        if t < mate.len() {
+            return t;
+        }
     }
-    let second = pass(4, records, links, mate, pi, dist, par, order);
-    if second < mate.len() {
-        return second;
-    }
-    pass(1, records, links, mate, pi, dist, par, order)
+    mate.len()
 }

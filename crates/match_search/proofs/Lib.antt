@@ -1,4 +1,2 @@
-pub mod TreeLaws
 pub mod TakenVertices
-pub mod Scans
 pub mod SearchSteps

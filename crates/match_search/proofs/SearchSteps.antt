@@ -14,8 +14,8 @@ use Rattle.arc_index.specs.ArcIndex.{noArc}
 use Rattle.vertex_queue.specs.VertexQueue.{waitsNot, Kept, Holds, nobody, takenOut, leastVertex, leastEntry}
 use Rattle.vertex_queue.proofs.Laws.{begin-kept, take-kept, taken-key, take-least, none-waits, vertex-below}
 use Rattle.match_state.specs.Matching.{Noted, State}
-use Rattle.match_search.specs.Tree.{InTree, Tree, ScanEnd, Scanned, SearchedBack}
-use Rattle.match_search.proofs.TreeLaws.{in-tree-near, one-distance}
+use Rattle.match_tree.specs.Tree.{InTree, Tree, ScanEnd, Scanned, SearchedBack}
+use Rattle.match_tree.proofs.TreeLaws.{in-tree-near, one-distance}
 use Rattle.match_search.proofs.TakenVertices as vertices
 
 -- before the arcs to b, which came into the tree at the distance k, are looked at

@@ -13,8 +13,8 @@ use Rattle.packed_arcs.proofs.Zeros.{zeros-fewer}
 use Rattle.arc_index.specs.ArcIndex.{noArc}
 use Rattle.vertex_queue.specs.VertexQueue.{waitsNot}
 use Rattle.match_state.specs.Matching.{Noted, State}
-use Rattle.match_search.specs.Tree.{InTree, Parent, TakenLeft, Tree}
-use Rattle.match_search.proofs.TreeLaws.{right-end, left-end, in-tree-near}
+use Rattle.match_tree.specs.Tree.{InTree, Parent, TakenLeft, Tree}
+use Rattle.match_tree.proofs.TreeLaws.{right-end, left-end, in-tree-near}
 use Rattle.match_state.proofs.Pairs.{noted}
 
 module _ {h n : ℕ} {T H W links mate pi : List ℕ} (S : State h n T H W links mate pi) where

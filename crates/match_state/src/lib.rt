@@ -29,10 +29,3 @@ pub fn weight_at(e: usize, records: &[u32]) -> u32
     let arc = arc_in(records[e]);
     arc.weight
 }
-
-// The number of an arc as an index of an array.
-pub fn place(e: u16) -> usize
-    ensures { λ r. ⌜ r ≡ e ⌝ }
-{
-    e as usize
-}

@@ -14,14 +14,9 @@ use Rattle.arc_records.specs.Limits.{mostVertices, mostArcs}
 use Rattle.arc_records.specs.Arcs.{wordArc}
 use Rattle.packed_arcs.specs.Entries.{entry, zeroList}
 use Rattle.packed_arcs.proofs.ListLoops.{each-entry}
-use Rattle.arc_index.specs.ArcIndex.{noArc}
-use Rattle.arc_index.specs.Chains.{Chains}
-use Rattle.arc_index.specs.declared.End.the-variants.{Head}
-use Rattle.arc_index.proofs.Building.{Built, links-built}
-use Rattle.arc_index.proofs.Ends.{record-chains}
 use Rattle.arc_index.specs.Columns.{recordTails, recordHeads}
 use Rattle.order_path.specs.Search.{joinsBelow, searchable, SearchOutcome}
-use Rattle.order_path.specs.Steps.{Arcs, Chained, ClosedPath, OrderOrCycle}
+use Rattle.order_path.specs.Steps.{Arcs, ClosedPath, OrderOrCycle}
 use Rattle.order_path.specs.Steps.OrderOrCycle.{ordered, cyclic}
 use Rattle.order_path.specs.declared.Found.{Found}
 use Rattle.order_path.specs.declared.Found.the-variants.{Refused}
@@ -34,13 +29,6 @@ zeros-as q z = z ∙ ap zeroList q
 
 pub closed-as : {n n' : ℕ} {tails heads into path spot : List ℕ} {len : ℕ} → n' ≡ n → ClosedPath n tails heads into path spot len → ClosedPath n' tails heads into path spot len
 closed-as {n} {n'} {tails} {heads} {into} {path} {spot} {len} q C = subst (λ (k : ℕ). ClosedPath k tails heads into path spot len) (sym q) C
-
--- ---- the index of the arcs by head, as it was built
-
-pub chained-built : (rs links₀ links : List ℕ) {n : ℕ} → Arcs n (recordTails rs) (recordHeads rs) → length links₀ ≡ 256 + length rs → Built rs (recordHeads rs) links₀ links → Chained n (recordTails rs) (recordHeads rs) links
-chained-built rs links₀ links A q b =
-    let few : length rs ≤ noArc = omega (arith, A .few, tails-len rs) in
-    record { arcs = A; chains = subst (Chains (recordHeads rs)) (sym (links-built rs (recordHeads rs) links₀ links few q b)) (record-chains Head rs few) }
 
 -- ---- what passes the test
 

@@ -6,15 +6,12 @@ ghost use Rattle.packed_arcs.specs.Entries.{zeroList};
 ghost use Rattle.arc_index.specs.Columns.{recordTails, recordHeads};
 ghost use Rattle.order_path.specs.Search.{SearchOutcome};
 ghost use Rattle.order_path.specs.Steps.{Arcs, OrderOrCycle};
-use arc_index::End;
-use arc_index::index;
 use arc_records::MOST_ARCS;
 use arc_records::MOST_VERTICES;
 use limits::is_searchable;
 use order_cycle::mark;
 use order_path::Found;
-use order_path::index::first_arcs;
-use order_ranking::rank_all;
+use order_ranking::index_and_rank;
 use packed_arcs::clearing::clear_amounts;
 use packed_arcs::clearing::clear_potentials;
 
@@ -35,9 +32,7 @@ fn decide(
     requires { ⌜ (length (now into) ≡ length (now ranks)) × (length (now path) ≡ length (now ranks)) × (now spot ≡ zeroList (length (now ranks))) ⌝ }
     ensures { λ r. ⌜ OrderOrCycle (recordTails (now (records .entry))) (recordHeads (now (records .entry))) (now (ranks .entry)) (now (marks .entry)) (now (ranks .exit)) (now (marks .exit)) r ⌝ }
 {
-    index(records, End::Head, links);
-    first_arcs(links, into);
-    let len = rank_all(records, links, ranks, into, path, spot);
+    let len = index_and_rank(records, ranks, links, into, path, spot);
     if len == 0 {
         return Found::Order;
     }

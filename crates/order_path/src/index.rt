@@ -18,13 +18,6 @@ pub fn tail_at(e: usize, records: &[u32]) -> usize
     arc.tail as usize
 }
 
-// An arc as an index of an array.
-pub fn place(e: u16) -> usize
-    ensures { λ r. ⌜ r ≡ e ⌝ }
-{
-    e as usize
-}
-
 // The current arc of each vertex is its first one.
 pub fn first_arcs(links: &[u16], into: &mut [u16])
     requires { ⌜ length (now into) ≤ length (now links) ⌝ }

@@ -7,8 +7,8 @@ ghost use Rattle.packed_arcs.specs.Entries.{entry};
 ghost use Rattle.arc_index.specs.Columns.{recordTails, recordHeads};
 ghost use Rattle.order_path.specs.Steps.{Chained, Watch, Looked, Searching, Pushed, Started, Climbed};
 use super::index::NONE;
-use super::index::place;
 use super::index::tail_at;
+use arc_index::place;
 
 // An arc into v from a vertex without a rank, or none: the current arc of v moves on to it, past arcs from vertices with a rank.
 fn look(v: usize, records: &[u32], links: &[u16], ranks: &[u32], into: &mut [u16]) -> usize

@@ -1,8 +1,8 @@
 -- Sums over the numbers below a bound, and tests of all of them.
 -- Assumes nothing.
-use mathlib.Core.Path.{_≡_, refl, subst}
+use mathlib.Core.Path.{_≡_, refl, ap, subst}
 use mathlib.Core.Bool.{Bool}
-use Prim.Native.Nat.{ℕ, zero, suc, _+_, _<_}
+use Prim.Native.Nat.{ℕ, zero, suc, _+_, _*_, _≤_, _<_}
 use native.Mathlib.Nat.{add-zero, add-suc}
 use native.Mathlib.Omega.{arith}
 use native.Mathlib.Decide.{ℕ-discrete}
@@ -32,6 +32,34 @@ pub sumTo-split : (h k : ℕ) (g : ℕ → ℕ) → sumTo (h + k) g ≡ sumTo h 
 unfolding sumTo
 sumTo-split h zero g = rw (add-zero h) (omega arith)
 sumTo-split h (suc k) g = rw add-suc (omega (arith, sumTo-split h k g))
+
+pub sumTo-le : (n : ℕ) (g h : ℕ → ℕ) → ((v : ℕ) → v < n → g v ≤ h v) → sumTo n g ≤ sumTo n h
+unfolding sumTo
+sumTo-le zero g h e = omega arith
+sumTo-le (suc n) g h e = omega (arith, sumTo-le n g h (λ v l. e v (omega arith)), e n (omega arith))
+
+-- strictly, where one is less
+pub sumTo-less : (n : ℕ) (g h : ℕ → ℕ) (w : ℕ) → ((v : ℕ) → v < n → g v ≤ h v) → w < n → g w < h w → sumTo n g < sumTo n h
+unfolding sumTo
+sumTo-less zero g h w f l s = absurd (omega arith)
+sumTo-less (suc n) g h w f l s = go (λ b. sumTo-less n g h w (λ v i. f v (omega arith)) b s) (ℕ-discrete w n)
+  where
+    go : (w < n → sumTo n g < sumTo n h) → Dec (w ≡ n) → sumTo n g + g n < sumTo n h + h n
+    go rest (yes q) = omega (arith, sumTo-le n g h (λ v i. f v (omega arith)), ap g q, ap h q)
+    go rest (no q) = omega (arith, rest (omega arith), f n (omega arith))
+
+pub sumTo-same : (n c : ℕ) → sumTo n (λ v. c) ≡ c * n
+unfolding sumTo
+sumTo-same zero c = omega arith
+sumTo-same (suc n) c = omega (arith, sumTo-same n c)
+
+-- n numbers that are at most 1 and sum to n are all 1
+pub sumTo-full : (n : ℕ) (g : ℕ → ℕ) → ((v : ℕ) → v < n → g v ≤ 1) → n ≤ sumTo n g → (v : ℕ) → v < n → g v ≡ 1
+sumTo-full n g f s v h = go (ℕ-discrete (g v) 1)
+  where
+    go : Dec (g v ≡ 1) → g v ≡ 1
+    go (yes q) = q
+    go (no q) = absurd (omega (arith, sumTo-less n g (λ i. 1) v f h (omega (arith, f v h)), sumTo-same n 1))
 
 -- ---- tests
 

@@ -9,7 +9,10 @@ bid-round-requires-2 : tie.Need-bid-round-requires-2
 bid-round-requires-2 c κs = sized (c .before .before .before .before .before .before .bid-round .ensures)
 
 returns : tie.Need-returns
-returns c = resized (c .before .before .before .before .before .before .before .before .before .before .before .bid-round .ensures .priced .len) (c .before .before .before .before .bid-round2 .ensures)
+returns c =
+    let after-bid-round2 = c .before .before .before .before in
+    let after-bid-round = after-bid-round2 .before .before .before .before .before .before .before in
+    resized (after-bid-round .bid-round .ensures .priced .len) (after-bid-round2 .bid-round2 .ensures)
 
 pub bid-all-spec : {M : Type 1} → statement M
 bid-all-spec =

@@ -12,7 +12,8 @@ use Rattle.match_bids.proofs.bid_round.Statement.{statement}
 use Rattle.match_bids.proofs.bid_round.Tie as tie
 
 abbrev Inv-loop : tie.InvT-loop
-Inv-loop h records links mate₀ pi₀ t₀ mate pi t = (h ≤ t) × State h (length pi₀) (recordTails records) (recordHeads records) (recordWeights records) links mate pi
+Inv-loop h records links mate₀ pi₀ t₀ mate pi t =
+    (h ≤ t) × State h (length pi₀) (recordTails records) (recordHeads records) (recordWeights records) links mate pi
 
 abbrev μ-loop : tie.MeasureT-loop
 μ-loop h records links mate₀ pi₀ t₀ mate pi t = length pi₀ - t
@@ -24,10 +25,18 @@ bid-requires : tie.Need-bid-requires Inv-loop μ-loop
 bid-requires c κs = let l = c .before .before .before .loop in (sized (l .inv .1), (l .inv .0, c .before .before .loop-test .taken))
 
 loop-less : tie.Need-loop-less Inv-loop μ-loop
-loop-less c = let l = c .before .before .before .before .before .before .before .before .loop in omega (arith, c .before .before .before .before .before .before .before .loop-test .taken, l .inv .1 .priced .len)
+loop-less c =
+    let at-loop-test = c .before .before .before .before .before .before .before in
+    let top = at-loop-test .before in
+    let l = top .loop in
+    omega (arith, at-loop-test .loop-test .taken, l .inv .1 .priced .len)
 
 loop-again : tie.Need-loop-again Inv-loop μ-loop
-loop-again c = let l = c .before .before .before .before .before .before .before .before .loop in (omega (arith, l .inv .0), resized (l .inv .1 .priced .len) (c .before .before .before .before .bid .ensures))
+loop-again c =
+    let after-bid = c .before .before .before .before in
+    let top = after-bid .before .before .before .before in
+    let l = top .loop in
+    (omega (arith, l .inv .0), resized (l .inv .1 .priced .len) (after-bid .bid .ensures))
 
 same-length : tie.Need-same-length Inv-loop μ-loop
 same-length c = c .before .loop .inv .1 .pairs .len ∙ sym (c .before .before .before .before .before .before .pre .pairs .len)

@@ -28,7 +28,9 @@ add-result : tie.Need-add-result
 add-result c = omega (arith, c .before .weight-at .ensures, here (c .before .before) .1)
 
 returns : tie.Need-returns
-returns c = omega (arith, c .before .weight-at .ensures, ap (entry (c .before .before .before .before .before .args .pi .now)) (c .before .before .tail-at .ensures))
+returns c =
+    let start = c .before .before .before .before .before in
+    omega (arith, c .before .weight-at .ensures, ap (entry (start .args .pi .now)) (c .before .before .tail-at .ensures))
 
 pub cost-of-spec : {M : Type 1} → statement M
 cost-of-spec =

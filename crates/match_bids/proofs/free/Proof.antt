@@ -21,8 +21,11 @@ here : (c : tie.Else1)
 here c =
     let s = c .before .before .before .before .before in
     let e = c .before .place .ensures in
-    let P = s .pre .1 (subst (λ (k : ℕ). k < noArc) e (c .if1 .left)) in
-    (subst (λ (k : ℕ). k < length (s .args .records .now)) (sym e) (P .0), subst (λ (k : ℕ). entry (recordHeads (s .args .records .now)) k < length (s .args .mate .now)) (sym e) (P .1))
+    let P = s .pre .1 (subst (λ (k : ℕ). k < noArc) e (c .if1 .left)) in (
+      subst (λ (k : ℕ). k < length (s .args .records .now)) (sym e) (P .0),
+      subst
+          (λ (k : ℕ). entry (recordHeads (s .args .records .now)) k < length (s .args .mate .now)) (sym e) (P .1),
+    )
 
 head : (c : tie.After-head-at) → c .head-at .result < length (c .before .before .before .before .before .before .args .mate .now)
 head c = subst (λ (k : ℕ). k < length (c .before .before .before .before .before .before .args .mate .now)) (sym (c .head-at .ensures)) (here (c .before) .1)

@@ -1,4 +1,4 @@
--- `match_least_cost::serve::pass` meets its contract.
+-- `match_rounds::pass` meets its contract.
 -- Assumes nothing.
 use mathlib.Core.Path.{_≡_, refl, subst, _∙_}
 use Prim.Native.Nat.{ℕ, _-_}
@@ -21,22 +21,70 @@ abbrev μ-loop : tie.MeasureT-loop
 μ-loop step records links mate₀ pi₀ dist₀ par₀ order₀ t₀ mate pi dist par order t = length pi₀ - t
 
 loop-holds : tie.Need-loop-holds Inv-loop μ-loop
-loop-holds c = (pass-start refl (c .before .before .before .before .before .before .before .pre .0), refl, refl, c .before .before .before .before .before .before .before .pre .1 .2, c .before .before .before .before .before .before .before .pre .1 .3)
+loop-holds c =
+    let start = c .before .before .before .before .before .before .before in
+    (pass-start refl (start .pre .0), refl, refl, start .pre .1 .2, start .pre .1 .3)
 
 serve-exposed-requires : tie.Need-serve-exposed-requires Inv-loop μ-loop
-serve-exposed-requires c κs = let l = c .before .before .before .before .before .before .loop in let P = l .inv .0 in (state-at (P .dist-len) (P .state .priced .len) (P .state), (omega (arith, P .from, P .dist-len), omega (arith, c .before .before .before .before .before .loop-test .taken, P .state .priced .len, P .state .pairs .len), omega (arith, l .inv .3, P .dist-len), omega (arith, l .inv .4, P .dist-len)))
+serve-exposed-requires c κs =
+    let at-loop-test = c .before .before .before .before .before in
+    let top = at-loop-test .before in
+    let l = top .loop in
+    let P = l .inv .0 in (
+      state-at (P .dist-len) (P .state .priced .len) (P .state),
+      (
+        omega (arith, P .from, P .dist-len),
+        omega (arith, at-loop-test .loop-test .taken, P .state .priced .len, P .state .pairs .len),
+        omega
+            (arith, l .inv .3, P .dist-len),
+        omega (arith, l .inv .4, P .dist-len),
+      ),
+    )
 
 returns : tie.Need-returns Inv-loop μ-loop
-returns c = let l = c .before .before .before .before .before .before .before .before .before .before .before .before .before .before .before .before .before .before .loop in let P = l .inv .0 in pass-stuck (P .dist-len) (P .state .priced .len) P (omega (arith, c .before .before .before .before .before .before .before .before .before .before .before .before .before .before .before .before .before .loop-test .taken, P .state .pairs .len)) (subst (Served _ _ _ _ _ _ _ _ _ _ _) (not-true _ (c .if1 .taken)) (c .before .before .before .before .before .before .before .before .before .before .before .serve-exposed .ensures))
+returns c =
+    let after-serve-exposed = c .before .before .before .before .before .before .before .before .before .before .before in
+    let at-loop-test = after-serve-exposed .before .before .before .before .before .before in
+    let top = at-loop-test .before in
+    let l = top .loop in
+    let P = l .inv .0 in
+    pass-stuck (P .dist-len) (P .state .priced .len) P (omega (arith, at-loop-test .loop-test .taken, P .state .pairs .len))
+    (subst (Served _ _ _ _ _ _ _ _ _ _ _) (not-true _ (c .if1 .taken)) (after-serve-exposed .serve-exposed .ensures))
 
 loop-less : tie.Need-loop-less Inv-loop μ-loop
-loop-less c = let l = c .before .before .before .before .before .before .before .before .before .before .before .before .before .before .before .before .before .before .loop in let P = l .inv .0 in omega (arith, c .before .before .before .before .before .before .before .before .before .before .before .before .before .before .before .before .before .loop-test .taken, P .state .pairs .len, c .before .before .before .before .before .before .before .before .before .before .before .before .before .before .before .before .before .before .before .before .before .before .before .before .before .before .pre .1 .0)
+loop-less c =
+    let at-loop-test = c .before .before .before .before .before .before .before .before .before .before .before .before .before .before .before
+    .before .before in
+    let top = at-loop-test .before in
+    let start = top .before .before .before .before .before .before .before .before in
+    let l = top .loop in
+    let P = l .inv .0 in
+    omega (arith, at-loop-test .loop-test .taken, P .state .pairs .len, start .pre .1 .0)
 
 loop-again : tie.Need-loop-again Inv-loop μ-loop
-loop-again c = let l = c .before .before .before .before .before .before .before .before .before .before .before .before .before .before .before .before .before .before .loop in let P = l .inv .0 in (pass-on (P .dist-len) (P .state .priced .len) P (omega (arith, c .before .before .before .before .before .before .before .before .before .before .before .before .before .before .before .before .before .loop-test .taken, P .state .pairs .len)) (c .before .before .before .before .before .before .before .before .before .before .before .before .before .before .before .before .before .before .before .before .before .before .before .before .before .before .pre .1 .1) (subst (Served _ _ _ _ _ _ _ _ _ _ _) (not-false _ (c .if1 .left)) (c .before .before .before .before .before .before .before .before .before .before .before .serve-exposed .ensures)), c .before .before .before .before .before .before .before .before .before .before .before .serve-exposed .kept .1 .1 .1 .0 ∙ l .inv .1, c .before .before .before .before .before .before .before .before .before .before .before .serve-exposed .kept .1 .1 .1 .1 .0 ∙ l .inv .2, c .before .before .before .before .before .before .before .before .before .before .before .serve-exposed .kept .1 .1 .1 .1 .1 .1 .0 ∙ l .inv .3, c .before .before .before .before .before .before .before .before .before .before .before .serve-exposed .kept .1 .1 .1 .1 .1 .1 .1 .0 ∙ l .inv .4)
+loop-again c =
+    let after-serve-exposed = c .before .before .before .before .before .before .before .before .before .before .before in
+    let at-loop-test = after-serve-exposed .before .before .before .before .before .before in
+    let top = at-loop-test .before in
+    let start = top .before .before .before .before .before .before .before .before in
+    let l = top .loop in
+    let P = l .inv .0 in (
+      pass-on (P .dist-len) (P .state .priced .len) P (omega (arith, at-loop-test .loop-test .taken, P .state .pairs .len)) (start .pre .1 .1)
+          (subst (Served _ _ _ _ _ _ _ _ _ _ _) (not-false _ (c .if1 .left)) (after-serve-exposed .serve-exposed .ensures)),
+      after-serve-exposed .serve-exposed .kept .1 .1 .1 .0 ∙ l .inv .1,
+      after-serve-exposed .serve-exposed .kept .1 .1 .1 .1 .0 ∙ l .inv .2,
+      after-serve-exposed .serve-exposed .kept .1 .1 .1 .1 .1 .1 .0 ∙ l .inv .3,
+      after-serve-exposed .serve-exposed .kept .1 .1 .1 .1 .1 .1 .1 .0 ∙
+          l .inv .4,
+    )
 
 returns-2 : tie.Need-returns-2 Inv-loop μ-loop
-returns-2 c = let l = c .before .loop in let P = l .inv .0 in let e : length (l .mate) ≡ length (c .before .before .before .before .before .before .before .before .before .args .pi .now) = P .state .pairs .len in rw e (pass-end P (omega (arith, c .loop-test .left, P .state .pairs .len)))
+returns-2 c =
+    let start = c .before .before .before .before .before .before .before .before .before in
+    let l = c .before .loop in
+    let P = l .inv .0 in
+    let e : length (l .mate) ≡ length (start .args .pi .now) = P .state .pairs .len in
+    rw e (pass-end P (omega (arith, c .loop-test .left, P .state .pairs .len)))
 
 pub pass-spec : {M : Type 1} → statement M
 pass-spec =

@@ -1,67 +1,115 @@
--- `match_least_cost::serve::serve_all` meets its contract.
+-- `match_rounds::serve_all` meets its contract. The loop's invariant: no vertex is stuck, and after a pass with the step 1 all are matched.
 -- Assumes nothing.
-use mathlib.Core.Path.{_∙_}
+use mathlib.Core.Path.{_≡_, refl, _∙_}
 use native.Mathlib.Omega.{arith}
-use borrow.Author.Needs.{needs}
-use Rattle.match_rounds.proofs.Serving.{state-at, pass-state, pass-failed, pass-at}
+use lib.ListN.{length}
+use Rattle.arc_index.specs.Columns.{recordTails, recordHeads, recordWeights}
+use Rattle.match_rounds.proofs.Serving.{state-at, Passed, next-step, passes-start, passes-on, passes-end, pass-state, pass-failed, pass-at}
 use Rattle.match_rounds.proofs.serve_all.Statement.{statement}
 use Rattle.match_rounds.proofs.serve_all.Tie as tie
 
-pass-requires : tie.Need-pass-requires
-pass-requires c κs = let p = c .before .before .before .before .before .before .before .before .before .before .before .before .pre in (p .0, (omega arith, omega arith, p .1 .0, p .1 .1))
+abbrev Inv-loop : tie.InvT-loop
+Inv-loop records links mate₀ pi₀ dist₀ par₀ order₀ step₀ mate pi dist par order step =
+    Passed (length dist₀) (length pi₀) (recordTails records) (recordHeads records) (recordWeights records) links dist mate pi step
+    × (length mate ≡ length mate₀) × (length par ≡ length par₀) × (length order ≡ length order₀)
 
-returns : tie.Need-returns
-returns c = pass-failed (c .before .before .before .before .before .before .before .before .before .before .before .pass .ensures) (omega (arith, c .if1 .taken, pass-state (c .before .before .before .before .before .before .before .before .before .before .before .pass .ensures) .0 .pairs .len))
+abbrev μ-loop : tie.MeasureT-loop
+μ-loop records links mate₀ pi₀ dist₀ par₀ order₀ step₀ mate pi dist par order step = step
 
-pass-requires-2 : tie.Need-pass-requires-2
-pass-requires-2 c κs = let p = c .before .before .before .before .before .before .before .before .before .before .before .before .before .before .before .before .before .before .before .before .before .before .before .before .before .before .before .before .before .pre in (state-at (pass-state (c .before .before .before .before .before .before .before .before .before .before .before .before .before .before .before .before .pass .ensures) .1) (c .before .before .before .before .before .before .before .before .before .before .before .before .before .before .before .before .pass .kept .1 .1 .1 .1 .0) (pass-state (c .before .before .before .before .before .before .before .before .before .before .before .before .before .before .before .before .pass .ensures) .0), (omega arith, omega arith, omega (arith, c .before .before .before .before .before .before .before .before .before .before .before .before .before .before .before .before .pass .kept .1 .1 .1 .1 .1 .1 .0, p .1 .0, (pass-state (c .before .before .before .before .before .before .before .before .before .before .before .before .before .before .before .before .pass .ensures) .1)), omega (arith, c .before .before .before .before .before .before .before .before .before .before .before .before .before .before .before .before .pass .kept .1 .1 .1 .1 .1 .1 .1 .0, p .1 .1, (pass-state (c .before .before .before .before .before .before .before .before .before .before .before .before .before .before .before .before .pass .ensures) .1))))
+loop-holds : tie.Need-loop-holds Inv-loop μ-loop
+loop-holds c = let start = c .before .before .before .before .before .before .before in (passes-start refl (start .pre .0), refl, refl, refl)
 
-returns-2 : tie.Need-returns-2
-returns-2 c = pass-failed (pass-at (pass-state (c .before .before .before .before .before .before .before .before .before .before .before .before .before .before .before .before .before .before .before .before .before .before .before .before .before .before .before .before .pass .ensures) .1) (c .before .before .before .before .before .before .before .before .before .before .before .before .before .before .before .before .before .before .before .before .before .before .before .before .before .before .before .before .pass .kept .1 .1 .1 .1 .0) (c .before .before .before .before .before .before .before .before .before .before .before .pass2 .ensures)) (omega (arith, c .if2 .taken, pass-state (pass-at (pass-state (c .before .before .before .before .before .before .before .before .before .before .before .before .before .before .before .before .before .before .before .before .before .before .before .before .before .before .before .before .pass .ensures) .1) (c .before .before .before .before .before .before .before .before .before .before .before .before .before .before .before .before .before .before .before .before .before .before .before .before .before .before .before .before .pass .kept .1 .1 .1 .1 .0) (c .before .before .before .before .before .before .before .before .before .before .before .pass2 .ensures)) .0 .pairs .len))
+pass-requires : tie.Need-pass-requires Inv-loop μ-loop
+pass-requires c κs =
+    let at-test = c .before .before .before .before .before in
+    let l = at-test .before .loop in
+    let start = at-test .before .before .before .before .before .before .before .before .before in
+    let P = l .inv .0 in
+    let N = next-step (P .step) (at-test .loop-test .taken) in (
+      state-at (P .dist-len) (P .state .priced .len) (P .state),
+      (N .1, N .2, omega (arith, l .inv .2, start .pre .1 .0, P .dist-len), omega (arith, l .inv .3, start .pre .1 .1, P .dist-len)),
+    )
 
-pass-requires-3 : tie.Need-pass-requires-3
-pass-requires-3 c κs = let p = c .before .before .before .before .before .before .before .before .before .before .before .before .before .before .before .before .before .before .before .before .before .before .before .before .before .before .before .before .before .before .before .before .before .before .before .before .before .before .before .before .before .before .before .before .before .before .pre in let q = pass-state (pass-at (pass-state (c .before .before .before .before .before .before .before .before .before .before .before .before .before .before .before .before .before .before .before .before .before .before .before .before .before .before .before .before .before .before .before .before .before .pass .ensures) .1) (c .before .before .before .before .before .before .before .before .before .before .before .before .before .before .before .before .before .before .before .before .before .before .before .before .before .before .before .before .before .before .before .before .before .pass .kept .1 .1 .1 .1 .0) (c .before .before .before .before .before .before .before .before .before .before .before .before .before .before .before .before .pass2 .ensures)) in (state-at (q .1) (c .before .before .before .before .before .before .before .before .before .before .before .before .before .before .before .before .pass2 .kept .1 .1 .1 .1 .0 ∙ c .before .before .before .before .before .before .before .before .before .before .before .before .before .before .before .before .before .before .before .before .before .before .before .before .before .before .before .before .before .before .before .before .before .pass .kept .1 .1 .1 .1 .0) (q .0), (omega arith, omega arith, omega (arith, c .before .before .before .before .before .before .before .before .before .before .before .before .before .before .before .before .pass2 .kept .1 .1 .1 .1 .1 .1 .0, c .before .before .before .before .before .before .before .before .before .before .before .before .before .before .before .before .before .before .before .before .before .before .before .before .before .before .before .before .before .before .before .before .before .pass .kept .1 .1 .1 .1 .1 .1 .0, p .1 .0, q .1), omega (arith, c .before .before .before .before .before .before .before .before .before .before .before .before .before .before .before .before .pass2 .kept .1 .1 .1 .1 .1 .1 .1 .0, c .before .before .before .before .before .before .before .before .before .before .before .before .before .before .before .before .before .before .before .before .before .before .before .before .before .before .before .before .before .before .before .before .before .pass .kept .1 .1 .1 .1 .1 .1 .1 .0, p .1 .1, q .1)))
+-- the lengths of mate, pi, dist, par and order stay
+same-length : tie.Need-same-length Inv-loop μ-loop
+same-length c =
+    let after-pass = c .before .before .before .before .before .before .before .before .before .before .before in
+    after-pass .pass .kept .1 .1 .1 .0 ∙ after-pass .before .before .before .before .before .before .before .loop .inv .1
 
-same-length-11 : tie.Need-same-length-11
-same-length-11 c = c .before .before .before .before .before .before .before .before .before .before .pass3 .kept .1 .1 .1 .0 ∙ c .before .before .before .before .before .before .before .before .before .before .before .before .before .before .before .before .before .before .before .before .before .before .before .before .before .before .before .pass2 .kept .1 .1 .1 .0 ∙ c .before .before .before .before .before .before .before .before .before .before .before .before .before .before .before .before .before .before .before .before .before .before .before .before .before .before .before .before .before .before .before .before .before .before .before .before .before .before .before .before .before .before .before .before .pass .kept .1 .1 .1 .0
+same-length-2 : tie.Need-same-length-2 Inv-loop μ-loop
+same-length-2 c =
+    let after-pass = c .before .before .before .before .before .before .before .before .before .before .before in
+    after-pass .pass .kept .1 .1 .1 .1 .0 ∙ after-pass .before .before .before .before .before .before .before .loop .inv .0 .state .priced .len
 
-same-length-12 : tie.Need-same-length-12
-same-length-12 c = c .before .before .before .before .before .before .before .before .before .before .pass3 .kept .1 .1 .1 .1 .0 ∙ c .before .before .before .before .before .before .before .before .before .before .before .before .before .before .before .before .before .before .before .before .before .before .before .before .before .before .before .pass2 .kept .1 .1 .1 .1 .0 ∙ c .before .before .before .before .before .before .before .before .before .before .before .before .before .before .before .before .before .before .before .before .before .before .before .before .before .before .before .before .before .before .before .before .before .before .before .before .before .before .before .before .before .before .before .before .pass .kept .1 .1 .1 .1 .0
+same-length-3 : tie.Need-same-length-3 Inv-loop μ-loop
+same-length-3 c =
+    let after-pass = c .before .before .before .before .before .before .before .before .before .before .before in
+    after-pass .pass .kept .1 .1 .1 .1 .1 .0 ∙ after-pass .before .before .before .before .before .before .before .loop .inv .0 .dist-len
 
-same-length-13 : tie.Need-same-length-13
-same-length-13 c = c .before .before .before .before .before .before .before .before .before .before .pass3 .kept .1 .1 .1 .1 .1 .0 ∙ c .before .before .before .before .before .before .before .before .before .before .before .before .before .before .before .before .before .before .before .before .before .before .before .before .before .before .before .pass2 .kept .1 .1 .1 .1 .1 .0 ∙ c .before .before .before .before .before .before .before .before .before .before .before .before .before .before .before .before .before .before .before .before .before .before .before .before .before .before .before .before .before .before .before .before .before .before .before .before .before .before .before .before .before .before .before .before .pass .kept .1 .1 .1 .1 .1 .0
+same-length-4 : tie.Need-same-length-4 Inv-loop μ-loop
+same-length-4 c =
+    let after-pass = c .before .before .before .before .before .before .before .before .before .before .before in
+    after-pass .pass .kept .1 .1 .1 .1 .1 .1 .0 ∙ after-pass .before .before .before .before .before .before .before .loop .inv .2
 
-same-length-14 : tie.Need-same-length-14
-same-length-14 c = c .before .before .before .before .before .before .before .before .before .before .pass3 .kept .1 .1 .1 .1 .1 .1 .0 ∙ c .before .before .before .before .before .before .before .before .before .before .before .before .before .before .before .before .before .before .before .before .before .before .before .before .before .before .before .pass2 .kept .1 .1 .1 .1 .1 .1 .0 ∙ c .before .before .before .before .before .before .before .before .before .before .before .before .before .before .before .before .before .before .before .before .before .before .before .before .before .before .before .before .before .before .before .before .before .before .before .before .before .before .before .before .before .before .before .before .pass .kept .1 .1 .1 .1 .1 .1 .0
+same-length-5 : tie.Need-same-length-5 Inv-loop μ-loop
+same-length-5 c =
+    let after-pass = c .before .before .before .before .before .before .before .before .before .before .before in
+    after-pass .pass .kept .1 .1 .1 .1 .1 .1 .1 .0 ∙ after-pass .before .before .before .before .before .before .before .loop .inv .3
 
-same-length-15 : tie.Need-same-length-15
-same-length-15 c = c .before .before .before .before .before .before .before .before .before .before .pass3 .kept .1 .1 .1 .1 .1 .1 .1 .0 ∙ c .before .before .before .before .before .before .before .before .before .before .before .before .before .before .before .before .before .before .before .before .before .before .before .before .before .before .before .pass2 .kept .1 .1 .1 .1 .1 .1 .1 .0 ∙ c .before .before .before .before .before .before .before .before .before .before .before .before .before .before .before .before .before .before .before .before .before .before .before .before .before .before .before .before .before .before .before .before .before .before .before .before .before .before .before .before .before .before .before .before .pass .kept .1 .1 .1 .1 .1 .1 .1 .0
+returns : tie.Need-returns Inv-loop μ-loop
+returns c =
+    let after-pass = c .before .before .before .before .before .before .before .before .before .before .before in
+    let P = after-pass .before .before .before .before .before .before .before .loop .inv .0 in
+    let O = pass-at (P .dist-len) (P .state .priced .len) (after-pass .pass .ensures) in
+    pass-failed O (omega (arith, c .if1 .taken, pass-state O .0 .pairs .len))
 
-returns-3 : tie.Need-returns-3
-returns-3 c = let q = pass-state (pass-at (pass-state (c .before .before .before .before .before .before .before .before .before .before .before .before .before .before .before .before .before .before .before .before .before .before .before .before .before .before .before .before .before .before .before .before .before .before .before .before .before .before .before .before .before .before .before .before .pass .ensures) .1) (c .before .before .before .before .before .before .before .before .before .before .before .before .before .before .before .before .before .before .before .before .before .before .before .before .before .before .before .before .before .before .before .before .before .before .before .before .before .before .before .before .before .before .before .before .pass .kept .1 .1 .1 .1 .0) (c .before .before .before .before .before .before .before .before .before .before .before .before .before .before .before .before .before .before .before .before .before .before .before .before .before .before .before .pass2 .ensures)) in pass-at (q .1) (c .before .before .before .before .before .before .before .before .before .before .before .before .before .before .before .before .before .before .before .before .before .before .before .before .before .before .before .pass2 .kept .1 .1 .1 .1 .0 ∙ c .before .before .before .before .before .before .before .before .before .before .before .before .before .before .before .before .before .before .before .before .before .before .before .before .before .before .before .before .before .before .before .before .before .before .before .before .before .before .before .before .before .before .before .before .pass .kept .1 .1 .1 .1 .0) (c .before .before .before .before .before .before .before .before .before .before .pass3 .ensures)
+loop-less : tie.Need-loop-less Inv-loop μ-loop
+loop-less c =
+    let at-loop-test = c .before .before .before .before .before .before .before .before .before .before .before .before .before .before .before
+    .before .before in
+    omega (arith, at-loop-test .loop-test .taken)
+
+loop-again : tie.Need-loop-again Inv-loop μ-loop
+loop-again c =
+    let after-pass = c .before .before .before .before .before .before .before .before .before .before .before in
+    let at-test = after-pass .before .before .before .before .before .before in
+    let l = at-test .before .loop in
+    let P = l .inv .0 in
+    let O = pass-at (P .dist-len) (P .state .priced .len) (after-pass .pass .ensures) in
+    let N = next-step (P .step) (at-test .loop-test .taken) in (
+      passes-on (N .0) O (omega (arith, c .if1 .left, pass-state O .0 .pairs .len)),
+      after-pass .pass .kept .1 .1 .1 .0 ∙ l .inv .1,
+      after-pass .pass .kept .1 .1 .1 .1 .1 .1 .0 ∙ l .inv .2,
+      after-pass .pass .kept .1 .1 .1 .1 .1 .1 .1 .0 ∙ l .inv .3,
+    )
+
+returns-2 : tie.Need-returns-2 Inv-loop μ-loop
+returns-2 c =
+    let l = c .before .loop in
+    let start = c .before .before .before .before .before .before .before .before .before in
+    let P = l .inv .0 in
+    let e : length (l .mate) ≡ length (start .args .pi .now) = P .state .pairs .len in
+    rw e (passes-end P (omega (arith, c .loop-test .left)))
 
 pub serve-all-spec : {M : Type 1} → statement M
 serve-all-spec =
     tie.close
     (tie.spec
+    Inv-loop
+    μ-loop
+    loop-holds
     pass-requires
-    (λ c. search needs)
-    (λ c. search needs)
-    (λ c. search needs)
-    (λ c. search needs)
-    (λ c. search needs)
+    same-length
+    same-length-2
+    same-length-3
+    same-length-4
+    same-length-5
     returns
-    pass-requires-2
-    (λ c. search needs)
-    (λ c. search needs)
-    (λ c. search needs)
-    (λ c. search needs)
-    (λ c. search needs)
-    returns-2
-    pass-requires-3
-    same-length-11
-    same-length-12
-    same-length-13
-    same-length-14
-    same-length-15
-    returns-3)
+    loop-less
+    loop-again
+    (λ c. c .before .loop .inv .1)
+    (λ c. c .before .loop .inv .0 .state .priced .len)
+    (λ c. c .before .loop .inv .0 .dist-len)
+    (λ c. c .before .loop .inv .2)
+    (λ c. c .before .loop .inv .3)
+    returns-2)

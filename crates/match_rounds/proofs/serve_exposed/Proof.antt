@@ -1,4 +1,4 @@
--- `match_least_cost::serve::serve_exposed` meets its contract.
+-- `match_rounds::serve_exposed` meets its contract.
 -- Assumes nothing.
 use mathlib.Core.Path.{refl}
 use native.Mathlib.Omega.{arith}
@@ -11,7 +11,11 @@ returns : tie.Need-returns
 returns c = was-matched (c .before .before .before .before .before .before .before .before .before .pre .0) refl (c .if1 .taken)
 
 serve-requires : tie.Need-serve-requires
-serve-requires c κs = let p = c .before .before .before .before .before .before .before .before .before .before .before .before .before .before .pre in (p .0, (p .1 .0, p .1 .1, is-exposed (p .0) (c .before .before .before .before .before .before .before .before .before .before .before .before .before .before .args .t) (p .1 .1) (c .before .before .before .before .before .if1 .left), p .1 .2, p .1 .3))
+serve-requires c κs =
+    let at-if1 = c .before .before .before .before .before in
+    let start = at-if1 .before .before .before .before .before .before .before .before .before in
+    let p = start .pre in
+    (p .0, (p .1 .0, p .1 .1, is-exposed (p .0) (start .args .t) (p .1 .1) (at-if1 .if1 .left), p .1 .2, p .1 .3))
 
 returns-2 : tie.Need-returns-2
 returns-2 c = c .before .before .before .before .before .before .before .before .before .before .serve .ensures

@@ -1,4 +1,4 @@
--- `match_least_cost::tree::clear` meets its contract.
+-- `match_search::clear` meets its contract.
 -- Assumes nothing.
 use mathlib.Core.Path.{_≡_, refl, ap, _∙_}
 use Prim.Native.Nat.{ℕ, _-_}
@@ -24,7 +24,12 @@ loop-less : tie.Need-loop-less Inv-loop μ-loop
 loop-less c = let l = c .before .loop in omega (arith, l .inv .0 .len, c .loop-test .taken)
 
 loop-again : tie.Need-loop-again Inv-loop μ-loop
-loop-again c = let l = c .before .loop in (fill-turn (λ i x. x ≡ waitsNot) 0 _ (l .dist) (l .a) waitsNot (omega (arith, l .inv .0 .len, c .loop-test .taken)) refl (l .inv .0), clear-turn _ (l .order) (l .a) (omega (arith, l .inv .0 .len, l .inv .1 .len, c .loop-test .taken, c .before .before .pre)) (l .inv .1))
+loop-again c =
+    let l = c .before .loop in (
+      fill-turn (λ i x. x ≡ waitsNot) 0 _ (l .dist) (l .a) waitsNot (omega (arith, l .inv .0 .len, c .loop-test .taken)) refl (l .inv .0),
+      clear-turn _
+          (l .order) (l .a) (omega (arith, l .inv .0 .len, l .inv .1 .len, c .loop-test .taken, c .before .before .pre)) (l .inv .1),
+    )
 
 returns : tie.Need-returns Inv-loop μ-loop
 returns c = let l = c .before .loop in (

@@ -1,4 +1,4 @@
--- `match_least_cost::tree::search` meets its contract.
+-- `match_search::search` meets its contract.
 -- Assumes nothing.
 use mathlib.Core.Path.{_≡_, refl, sym, ap, subst}
 use Prim.Native.Nat.{ℕ, _-_}
@@ -25,64 +25,251 @@ clear-requires : tie.Need-clear-requires Inv-loop μ-loop
 clear-requires c κs = c .before .before .before .before .before .before .before .before .before .pre .1 .4
 
 loop-holds : tie.Need-loop-holds Inv-loop μ-loop
-loop-holds c = let p = c .before .before .before .before .before .before .before .before .before .before .before .before .before .before .before .before .before .pre in growing-start (p .0) (c .before .before .before .before .before .before .before .before .before .before .before .before .before .before .before .before .before .args .t) (p .1 .0) (p .1 .1) (p .1 .2) (p .1 .3) (c .before .before .before .before .before .before .before .clear .ensures .0) (c .before .before .before .before .before .before .before .clear .ensures .1) (c .begin .ensures)
+loop-holds c =
+    let after-clear = c .before .before .before .before .before .before .before in
+    let start = after-clear .before .before .before .before .before .before .before .before .before .before in
+    let p = start .pre in
+    growing-start (p .0) (start .args .t) (p .1 .0) (p .1 .1) (p .1 .2) (p .1 .3) (after-clear .clear .ensures .0) (after-clear .clear .ensures .1)
+    (c .begin .ensures)
 
 scan-requires : tie.Need-scan-requires Inv-loop μ-loop
-scan-requires c κs = let l = c .before .before .before .before .loop in let p = c .before .before .before .before .before .before .before .before .before .before .before .before .before .before .before .before .before .before .before .before .before .before .pre in (subst (λ (h : ℕ). State h (length (c .before .before .before .before .before .before .before .before .before .before .before .before .before .before .before .before .before .before .before .before .before .before .args .pi .now)) (recordTails (c .before .before .before .before .before .before .before .before .before .before .before .before .before .before .before .before .before .before .before .before .before .before .args .records .now)) (recordHeads (c .before .before .before .before .before .before .before .before .before .before .before .before .before .before .before .before .before .before .before .before .before .before .args .records .now)) (recordWeights (c .before .before .before .before .before .before .before .before .before .before .before .before .before .before .before .before .before .before .before .before .before .before .args .records .now)) (c .before .before .before .before .before .before .before .before .before .before .before .before .before .before .before .before .before .before .before .before .before .before .args .links .now) (c .before .before .before .before .before .before .before .before .before .before .before .before .before .before .before .before .before .before .before .before .before .before .args .mate .now) (c .before .before .before .before .before .before .before .before .before .before .before .before .before .before .before .before .before .before .before .before .before .before .args .pi .now)) (sym (l .inv .tree .dist-len)) (p .0), (l .inv .below, small (p .0) (l .inv), omega (arith, l .inv .tree .par-len, l .inv .tree .dist-len)))
+scan-requires c κs =
+    let top = c .before .before .before .before in
+    let start = top .before .before .before .before .before .before .before .before .before .before .before .before .before .before .before .before
+    .before .before in
+    let l = top .loop in
+    let p = start .pre in (
+      subst (λ (h : ℕ). State h (length (start .args .pi .now)) (recordTails (start .args .records .now)) (recordHeads (start .args .records .now))
+          (recordWeights (start .args .records .now)) (start .args .links .now) (start .args .mate .now) (start .args .pi .now))
+          (sym (l .inv .tree .dist-len)) (p .0),
+      (l .inv .below, small (p .0) (l .inv), omega (arith, l .inv .tree .par-len, l .inv .tree .dist-len)),
+    )
 
 same-length : tie.Need-same-length Inv-loop μ-loop
-same-length c = let l = c .before .before .before .before .before .before .before .before .before .before .loop in let p = c .before .before .before .before .before .before .before .before .before .before .before .before .before .before .before .before .before .before .before .before .before .before .before .before .before .before .before .before .pre in omega (arith, l .inv .tree .dist-len, c .before .before .before .before .before .scan .ensures .dist-len)
+same-length c =
+    let after-scan = c .before .before .before .before .before in
+    let top = after-scan .before .before .before .before .before in
+    let start = top .before .before .before .before .before .before .before .before .before .before .before .before .before .before .before .before
+    .before .before in
+    let l = top .loop in
+    let p = start .pre in
+    omega (arith, l .inv .tree .dist-len, after-scan .scan .ensures .dist-len)
 
 same-length-2 : tie.Need-same-length-2 Inv-loop μ-loop
-same-length-2 c = let l = c .before .before .before .before .before .before .before .before .before .before .loop in let p = c .before .before .before .before .before .before .before .before .before .before .before .before .before .before .before .before .before .before .before .before .before .before .before .before .before .before .before .before .pre in omega (arith, l .inv .tree .par-len, c .before .before .before .before .before .scan .ensures .par-len, p .1 .3)
+same-length-2 c =
+    let after-scan = c .before .before .before .before .before in
+    let top = after-scan .before .before .before .before .before in
+    let start = top .before .before .before .before .before .before .before .before .before .before .before .before .before .before .before .before
+    .before .before in
+    let l = top .loop in
+    let p = start .pre in
+    omega (arith, l .inv .tree .par-len, after-scan .scan .ensures .par-len, p .1 .3)
 
 same-length-3 : tie.Need-same-length-3 Inv-loop μ-loop
-same-length-3 c = let l = c .before .before .before .before .before .before .before .before .before .before .loop in let p = c .before .before .before .before .before .before .before .before .before .before .before .before .before .before .before .before .before .before .before .before .before .before .before .before .before .before .before .before .pre in omega (arith, l .inv .tree .order-len, p .1 .4)
+same-length-3 c =
+    let top = c .before .before .before .before .before .before .before .before .before .before in
+    let start = top .before .before .before .before .before .before .before .before .before .before .before .before .before .before .before .before
+    .before .before in
+    let l = top .loop in
+    let p = start .pre in
+    omega (arith, l .inv .tree .order-len, p .1 .4)
 
 returns : tie.Need-returns Inv-loop μ-loop
-returns c = let l = c .before .before .before .before .before .before .before .before .before .before .loop in let p = c .before .before .before .before .before .before .before .before .before .before .before .before .before .before .before .before .before .before .before .before .before .before .before .before .before .before .before .before .pre in met (p .0) (l .inv) (l .inv .tree .dist-len) (c .before .before .before .before .before .scan .ensures) (c .if1 .taken)
+returns c =
+    let after-scan = c .before .before .before .before .before in
+    let top = after-scan .before .before .before .before .before in
+    let start = top .before .before .before .before .before .before .before .before .before .before .before .before .before .before .before .before
+    .before .before in
+    let l = top .loop in
+    let p = start .pre in
+    met (p .0) (l .inv) (l .inv .tree .dist-len) (after-scan .scan .ensures) (c .if1 .taken)
 
 same-length-4 : tie.Need-same-length-4 Inv-loop μ-loop
-same-length-4 c = let l = c .before .before .before .before .before .before .before .before .before .before .before .before .before .loop in let p = c .before .before .before .before .before .before .before .before .before .before .before .before .before .before .before .before .before .before .before .before .before .before .before .before .before .before .before .before .before .before .before .pre in omega (arith, l .inv .tree .dist-len, c .before .before .before .before .before .before .before .before .scan .ensures .dist-len)
+same-length-4 c =
+    let after-scan = c .before .before .before .before .before .before .before .before in
+    let top = after-scan .before .before .before .before .before in
+    let start = top .before .before .before .before .before .before .before .before .before .before .before .before .before .before .before .before
+    .before .before in
+    let l = top .loop in
+    let p = start .pre in
+    omega (arith, l .inv .tree .dist-len, after-scan .scan .ensures .dist-len)
 
 same-length-5 : tie.Need-same-length-5 Inv-loop μ-loop
-same-length-5 c = let l = c .before .before .before .before .before .before .before .before .before .before .before .before .before .loop in let p = c .before .before .before .before .before .before .before .before .before .before .before .before .before .before .before .before .before .before .before .before .before .before .before .before .before .before .before .before .before .before .before .pre in omega (arith, l .inv .tree .par-len, c .before .before .before .before .before .before .before .before .scan .ensures .par-len, p .1 .3)
+same-length-5 c =
+    let after-scan = c .before .before .before .before .before .before .before .before in
+    let top = after-scan .before .before .before .before .before in
+    let start = top .before .before .before .before .before .before .before .before .before .before .before .before .before .before .before .before
+    .before .before in
+    let l = top .loop in
+    let p = start .pre in
+    omega (arith, l .inv .tree .par-len, after-scan .scan .ensures .par-len, p .1 .3)
 
 same-length-6 : tie.Need-same-length-6 Inv-loop μ-loop
-same-length-6 c = let l = c .before .before .before .before .before .before .before .before .before .before .before .before .before .loop in let p = c .before .before .before .before .before .before .before .before .before .before .before .before .before .before .before .before .before .before .before .before .before .before .before .before .before .before .before .before .before .before .before .pre in omega (arith, l .inv .tree .order-len, p .1 .4)
+same-length-6 c =
+    let top = c .before .before .before .before .before .before .before .before .before .before .before .before .before in
+    let start = top .before .before .before .before .before .before .before .before .before .before .before .before .before .before .before .before
+    .before .before in
+    let l = top .loop in
+    let p = start .pre in
+    omega (arith, l .inv .tree .order-len, p .1 .4)
 
 returns-2 : tie.Need-returns-2 Inv-loop μ-loop
-returns-2 c = let l = c .before .before .before .before .before .before .before .before .before .before .before .before .before .loop in let p = c .before .before .before .before .before .before .before .before .before .before .before .before .before .before .before .before .before .before .before .before .before .before .before .before .before .before .before .before .before .before .before .pre in nobody-left (p .0) (l .inv) (l .inv .tree .dist-len) (c .before .before .before .before .before .before .before .before .scan .ensures) (omega (arith, c .before .before .before .if1 .left)) (omega (arith, c .if2 .taken, c .before .least .ensures))
+returns-2 c =
+    let at-if1 = c .before .before .before in
+    let after-scan = at-if1 .before .before .before .before .before in
+    let top = after-scan .before .before .before .before .before in
+    let start = top .before .before .before .before .before .before .before .before .before .before .before .before .before .before .before .before
+    .before .before in
+    let l = top .loop in
+    let p = start .pre in
+    nobody-left (p .0) (l .inv) (l .inv .tree .dist-len) (after-scan .scan .ensures) (omega (arith, at-if1 .if1 .left))
+    (omega (arith, c .if2 .taken, c .before .least .ensures))
 
 shared-slice-read-place : tie.Need-shared-slice-read-place Inv-loop μ-loop
-shared-slice-read-place c = let l = c .before .before .before .before .before .before .before .before .before .before .before .before .before .before .before .before .before .loop in let p = c .before .before .before .before .before .before .before .before .before .before .before .before .before .before .before .before .before .before .before .before .before .before .before .before .before .before .before .before .before .before .before .before .before .before .before .pre in omega (arith, c .before .take .ensures .0, left (p .0) (l .inv) (l .inv .tree .dist-len) (c .before .before .before .before .before .before .before .before .before .before .before .before .scan .ensures) (omega (arith, c .before .before .before .before .before .before .before .if1 .left)) (omega (arith, c .before .before .before .before .if2 .left, c .before .before .before .before .before .least .ensures)), p .0 .graph .within, p .0 .pairs .len)
+shared-slice-read-place c =
+    let at-if2 = c .before .before .before .before in
+    let after-least = at-if2 .before in
+    let at-if1 = after-least .before .before in
+    let after-scan = at-if1 .before .before .before .before .before in
+    let top = after-scan .before .before .before .before .before in
+    let start = top .before .before .before .before .before .before .before .before .before .before .before .before .before .before .before .before
+    .before .before in
+    let l = top .loop in
+    let p = start .pre in
+    omega (
+      arith,
+      c .before .take .ensures .0,
+      left (p .0) (l .inv) (l .inv .tree .dist-len) (after-scan .scan .ensures)
+          (omega (arith, at-if1 .if1 .left)) (omega (arith, at-if2 .if2 .left, after-least .least .ensures)),
+      p .0 .graph .within,
+      p .0 .pairs .len,
+    )
 
 same-length-7 : tie.Need-same-length-7 Inv-loop μ-loop
-same-length-7 c = let l = c .before .before .before .before .before .before .before .before .before .before .before .before .before .before .before .before .before .before .before .loop in let p = c .before .before .before .before .before .before .before .before .before .before .before .before .before .before .before .before .before .before .before .before .before .before .before .before .before .before .before .before .before .before .before .before .before .before .before .before .before .pre in omega (arith, l .inv .tree .dist-len, c .before .before .before .before .before .before .before .before .before .before .before .before .before .before .scan .ensures .dist-len)
+same-length-7 c =
+    let after-scan = c .before .before .before .before .before .before .before .before .before .before .before .before .before .before in
+    let top = after-scan .before .before .before .before .before in
+    let start = top .before .before .before .before .before .before .before .before .before .before .before .before .before .before .before .before
+    .before .before in
+    let l = top .loop in
+    let p = start .pre in
+    omega (arith, l .inv .tree .dist-len, after-scan .scan .ensures .dist-len)
 
 same-length-8 : tie.Need-same-length-8 Inv-loop μ-loop
-same-length-8 c = let l = c .before .before .before .before .before .before .before .before .before .before .before .before .before .before .before .before .before .before .before .loop in let p = c .before .before .before .before .before .before .before .before .before .before .before .before .before .before .before .before .before .before .before .before .before .before .before .before .before .before .before .before .before .before .before .before .before .before .before .before .before .pre in omega (arith, l .inv .tree .par-len, c .before .before .before .before .before .before .before .before .before .before .before .before .before .before .scan .ensures .par-len, p .1 .3)
+same-length-8 c =
+    let after-scan = c .before .before .before .before .before .before .before .before .before .before .before .before .before .before in
+    let top = after-scan .before .before .before .before .before in
+    let start = top .before .before .before .before .before .before .before .before .before .before .before .before .before .before .before .before
+    .before .before in
+    let l = top .loop in
+    let p = start .pre in
+    omega (arith, l .inv .tree .par-len, after-scan .scan .ensures .par-len, p .1 .3)
 
 same-length-9 : tie.Need-same-length-9 Inv-loop μ-loop
-same-length-9 c = let l = c .before .before .before .before .before .before .before .before .before .before .before .before .before .before .before .before .before .before .before .loop in let p = c .before .before .before .before .before .before .before .before .before .before .before .before .before .before .before .before .before .before .before .before .before .before .before .before .before .before .before .before .before .before .before .before .before .before .before .before .before .pre in omega (arith, l .inv .tree .order-len, p .1 .4)
+same-length-9 c =
+    let top = c .before .before .before .before .before .before .before .before .before .before .before .before .before .before .before .before
+    .before .before .before in
+    let start = top .before .before .before .before .before .before .before .before .before .before .before .before .before .before .before .before
+    .before .before in
+    let l = top .loop in
+    let p = start .pre in
+    omega (arith, l .inv .tree .order-len, p .1 .4)
 
 returns-3 : tie.Need-returns-3 Inv-loop μ-loop
-returns-3 c = let l = c .before .before .before .before .before .before .before .before .before .before .before .before .before .before .before .before .before .before .before .loop in let p = c .before .before .before .before .before .before .before .before .before .before .before .before .before .before .before .before .before .before .before .before .before .before .before .before .before .before .before .before .before .before .before .before .before .before .before .before .before .pre in rw (c .before .before .before .take .ensures .0) (exposed-there (p .0) (l .inv) (l .inv .tree .dist-len) (c .before .before .before .before .before .before .before .before .before .before .before .before .before .before .scan .ensures) (omega (arith, c .before .before .before .before .before .before .before .before .before .if1 .left)) (omega (arith, c .before .before .before .before .before .before .if2 .left, c .before .before .before .before .before .before .before .least .ensures)) (omega (arith, c .if3 .taken, c .before .place .ensures, ap (entry (c .before .before .before .before .before .before .before .before .before .before .before .before .before .before .before .before .before .before .before .before .before .before .before .before .before .before .before .before .before .before .before .before .before .before .before .before .before .args .mate .now)) (c .before .before .before .take .ensures .0))))
+returns-3 c =
+    let after-take = c .before .before .before in
+    let at-if2 = after-take .before .before .before in
+    let after-least = at-if2 .before in
+    let at-if1 = after-least .before .before in
+    let after-scan = at-if1 .before .before .before .before .before in
+    let top = after-scan .before .before .before .before .before in
+    let start = top .before .before .before .before .before .before .before .before .before .before .before .before .before .before .before .before
+    .before .before in
+    let l = top .loop in
+    let p = start .pre in
+    rw (after-take .take .ensures .0) (exposed-there (p .0) (l .inv) (l .inv .tree .dist-len) (after-scan .scan .ensures)
+    (omega (arith, at-if1 .if1 .left)) (omega (arith, at-if2 .if2 .left, after-least .least .ensures))
+    (omega (arith, c .if3 .taken, c .before .place .ensures, ap (entry (start .args .mate .now)) (after-take .take .ensures .0))))
 
 add-nd : tie.Need-add-nd Inv-loop μ-loop
-add-nd c = let l = c .before .before .before .before .before .before .before .before .before .before .before .before .before .before .before .before .before .before .before .loop in let p = c .before .before .before .before .before .before .before .before .before .before .before .before .before .before .before .before .before .before .before .before .before .before .before .before .before .before .before .before .before .before .before .before .before .before .before .before .before .pre in record { fits = omega (arith, few (p .0) (l .inv)) }
+add-nd c =
+    let top = c .before .before .before .before .before .before .before .before .before .before .before .before .before .before .before .before
+    .before .before .before in
+    let start = top .before .before .before .before .before .before .before .before .before .before .before .before .before .before .before .before
+    .before .before in
+    let l = top .loop in
+    let p = start .pre in
+    record { fits = omega (arith, few (p .0) (l .inv)) }
 
 slice-write-order : tie.Need-slice-write-order Inv-loop μ-loop
-slice-write-order c = let l = c .before .before .before .before .before .before .before .before .before .before .before .before .before .before .before .before .before .before .before .loop in let p = c .before .before .before .before .before .before .before .before .before .before .before .before .before .before .before .before .before .before .before .before .before .before .before .before .before .before .before .before .before .before .before .before .before .before .before .before .before .pre in omega (arith, c .before .before .before .take .ensures .0, left (p .0) (l .inv) (l .inv .tree .dist-len) (c .before .before .before .before .before .before .before .before .before .before .before .before .before .before .scan .ensures) (omega (arith, c .before .before .before .before .before .before .before .before .before .if1 .left)) (omega (arith, c .before .before .before .before .before .before .if2 .left, c .before .before .before .before .before .before .before .least .ensures)), l .inv .tree .order-len)
+slice-write-order c =
+    let after-take = c .before .before .before in
+    let at-if2 = after-take .before .before .before in
+    let after-least = at-if2 .before in
+    let at-if1 = after-least .before .before in
+    let after-scan = at-if1 .before .before .before .before .before in
+    let top = after-scan .before .before .before .before .before in
+    let start = top .before .before .before .before .before .before .before .before .before .before .before .before .before .before .before .before
+    .before .before in
+    let l = top .loop in
+    let p = start .pre in
+    omega (
+      arith,
+      after-take .take .ensures .0,
+      left (p .0) (l .inv) (l .inv .tree .dist-len) (after-scan .scan .ensures)
+          (omega (arith, at-if1 .if1 .left)) (omega (arith, at-if2 .if2 .left, after-least .least .ensures)),
+      l .inv .tree .order-len,
+    )
 
 head-at-requires : tie.Need-head-at-requires Inv-loop μ-loop
-head-at-requires c κs = let l = c .before .before .before .before .before .before .before .before .before .before .before .before .before .before .before .before .before .before .before .loop in let p = c .before .before .before .before .before .before .before .before .before .before .before .before .before .before .before .before .before .before .before .before .before .before .before .before .before .before .before .before .before .before .before .before .before .before .before .before .before .pre in omega (arith, matched-arc (p .0) (l .inv) (l .inv .tree .dist-len) (c .before .before .before .before .before .before .before .before .before .before .before .before .before .before .scan .ensures) (omega (arith, c .before .before .before .before .before .before .before .before .before .if1 .left)) (omega (arith, c .before .before .before .before .before .before .if2 .left, c .before .before .before .before .before .before .before .least .ensures)) (omega (arith, c .if3 .left, c .before .place .ensures, ap (entry (c .before .before .before .before .before .before .before .before .before .before .before .before .before .before .before .before .before .before .before .before .before .before .before .before .before .before .before .before .before .before .before .before .before .before .before .before .before .args .mate .now)) (c .before .before .before .take .ensures .0))), c .before .place .ensures, ap (entry (c .before .before .before .before .before .before .before .before .before .before .before .before .before .before .before .before .before .before .before .before .before .before .before .before .before .before .before .before .before .before .before .before .before .before .before .before .before .args .mate .now)) (c .before .before .before .take .ensures .0), tails-len (c .before .before .before .before .before .before .before .before .before .before .before .before .before .before .before .before .before .before .before .before .before .before .before .before .before .before .before .before .before .before .before .before .before .before .before .before .before .args .records .now))
+head-at-requires c κs =
+    let after-take = c .before .before .before in
+    let at-if2 = after-take .before .before .before in
+    let after-least = at-if2 .before in
+    let at-if1 = after-least .before .before in
+    let after-scan = at-if1 .before .before .before .before .before in
+    let top = after-scan .before .before .before .before .before in
+    let start = top .before .before .before .before .before .before .before .before .before .before .before .before .before .before .before .before
+    .before .before in
+    let l = top .loop in
+    let p = start .pre in
+    omega (
+      arith,
+      matched-arc (p .0) (l .inv) (l .inv .tree .dist-len) (after-scan .scan .ensures) (omega (arith, at-if1 .if1 .left))
+          (omega (arith, at-if2 .if2 .left, after-least .least .ensures))
+          (omega (arith, c .if3 .left, c .before .place .ensures, ap (entry (start .args .mate .now)) (after-take .take .ensures .0))),
+      c .before .place .ensures,
+      ap (entry (start .args .mate .now)) (after-take .take .ensures .0),
+      tails-len (start .args .records .now),
+    )
 
 loop-less : tie.Need-loop-less Inv-loop μ-loop
-loop-less c = let l = c .before .before .before .before .before .before .before .before .before .before .before .before .before .before .before .before .before .before .before .before .loop in let p = c .before .before .before .before .before .before .before .before .before .before .before .before .before .before .before .before .before .before .before .before .before .before .before .before .before .before .before .before .before .before .before .before .before .before .before .before .before .before .pre in omega (arith, few (p .0) (l .inv))
+loop-less c =
+    let top = c .before .before .before .before .before .before .before .before .before .before .before .before .before .before .before .before
+    .before .before .before .before in
+    let start = top .before .before .before .before .before .before .before .before .before .before .before .before .before .before .before .before
+    .before .before in
+    let l = top .loop in
+    let p = start .pre in
+    omega (arith, few (p .0) (l .inv))
 
 loop-again : tie.Need-loop-again Inv-loop μ-loop
-loop-again c = let l = c .before .before .before .before .before .before .before .before .before .before .before .before .before .before .before .before .before .before .before .before .loop in let p = c .before .before .before .before .before .before .before .before .before .before .before .before .before .before .before .before .before .before .before .before .before .before .before .before .before .before .before .before .before .before .before .before .before .before .before .before .before .before .pre in rw (c .head-at .ensures, c .before .before .place .ensures, c .before .before .before .before .take .ensures .0, c .before .before .before .before .before .before .before .before .least .ensures) (growing-on (p .0) (l .inv) (l .inv .tree .dist-len) (c .before .before .before .before .before .before .before .before .before .before .before .before .before .before .before .scan .ensures) (omega (arith, c .before .before .before .before .before .before .before .before .before .before .if1 .left)) (omega (arith, c .before .before .before .before .before .before .before .if2 .left, c .before .before .before .before .before .before .before .before .least .ensures)) (omega (arith, c .before .if3 .left, c .before .before .place .ensures, ap (entry (c .before .before .before .before .before .before .before .before .before .before .before .before .before .before .before .before .before .before .before .before .before .before .before .before .before .before .before .before .before .before .before .before .before .before .before .before .before .before .args .mate .now)) (c .before .before .before .before .take .ensures .0))) (c .before .before .before .before .take .ensures .1))
+loop-again c =
+    let after-take = c .before .before .before .before in
+    let at-if2 = after-take .before .before .before in
+    let after-least = at-if2 .before in
+    let at-if1 = after-least .before .before in
+    let after-scan = at-if1 .before .before .before .before .before in
+    let top = after-scan .before .before .before .before .before in
+    let start = top .before .before .before .before .before .before .before .before .before .before .before .before .before .before .before .before
+    .before .before in
+    let l = top .loop in
+    let p = start .pre in
+    rw (c .head-at .ensures, c .before .before .place .ensures, after-take .take .ensures .0, after-least .least .ensures)
+    (growing-on (p .0) (l .inv) (l .inv .tree .dist-len) (after-scan .scan .ensures) (omega (arith, at-if1 .if1 .left))
+    (omega (arith, at-if2 .if2 .left, after-least .least .ensures))
+    (omega (arith, c .before .if3 .left, c .before .before .place .ensures, ap (entry (start .args .mate .now)) (after-take .take .ensures .0)))
+    (after-take .take .ensures .1))
 
 pub search-spec : {M : Type 1} → statement M
 search-spec =

@@ -31,26 +31,43 @@ links-part : (c : tie.Else1) → let k = 256 + length (now (Tested c .args .reco
 links-part c = zero-list-length (256 + length (now (Tested c .args .records))) 4352 (links-fit c)
 
 returns : tie.Need-returns
-returns c = let a = c .before .before .before .before .before .args in search-refused (now (a .records)) (now (a .ranks)) (now (a .marks)) _ (c .before .is-searchable .ensures) (c .if1 .taken)
+returns c =
+    let start = c .before .before .before .before .before in
+    let a = start .args in
+    search-refused (now (a .records)) (now (a .ranks)) (now (a .marks)) _ (c .before .is-searchable .ensures) (c .if1 .taken)
 
 decide-requires : tie.Need-decide-requires
 decide-requires c κs =
-    let t = c .before .before .before .before .before .before .before .before .before .before .before .before .before .before in
+    let after-clear-amounts = c .before .before .before .before .before .before .before .before in
+    let after-clear-potentials = after-clear-amounts .before .before .before .before in
+    let t = after-clear-potentials .before .before in
     let n = length (now (Tested t .args .ranks)) in
     let f = facts t in
-    let ranks = c .before .before .before .before .before .before .before .before .before .before .before .before .clear-potentials in
+    let ranks = after-clear-potentials .clear-potentials in
     let same = ranks .kept .0 in
-    let none = zeros-as (sym same) (zero-list-part n 255 (f .small)) in
-    ((arcs-as same (f .arcs), links-part t), ((zeros-as (sym same) (ranks .ensures), zeros-as (f .one-each) (c .before .before .before .before .before .before .before .before .clear-amounts .ensures)), (vertices-part t ∙ sym same, vertices-part t ∙ sym same, none)))
+    let none = zeros-as (sym same) (zero-list-part n 255 (f .small)) in (
+      (arcs-as same (f .arcs), links-part t),
+      (
+        (
+          zeros-as (sym same) (ranks .ensures),
+          zeros-as (f .one-each)
+              (after-clear-amounts .clear-amounts .ensures),
+        ),
+        (vertices-part t ∙ sym same, vertices-part t ∙ sym same, none),
+      ),
+    )
 
 returns-2 : tie.Need-returns-2
 returns-2 c =
-    let t = c .before .before .before .before .before .before .before .before .before .before .before .before .before .before .before .before .before .before .before .before .before .before .before in
+    let after-decide = c .before .before .before .before .before .before .before .before in
+    let after-clear-amounts = after-decide .before .before .before .before .before .before .before .before .before in
+    let after-clear-potentials = after-clear-amounts .before .before .before .before in
+    let t = after-clear-potentials .before .before in
     let a = Tested t .args in
-    let ranks = c .before .before .before .before .before .before .before .before .before .before .before .before .before .before .before .before .before .before .before .before .before .clear-potentials in
-    let decided = c .before .before .before .before .before .before .before .before .decide in
-    search-decided (now (a .records)) (now (a .ranks)) (now (a .marks)) _ (t .before .is-searchable .ensures) (t .if1 .left) (ranks .kept .0) (c .before .before .before .before .before .before .before .before .before .before .before .before .before .before .before .before .before .clear-amounts .ensures)
-    (decided .kept .1 .0 ∙ ranks .kept .0) (decided .ensures)
+    let ranks = after-clear-potentials .clear-potentials in
+    let decided = after-decide .decide in
+    search-decided (now (a .records)) (now (a .ranks)) (now (a .marks)) _ (t .before .is-searchable .ensures) (t .if1 .left) (ranks .kept .0)
+    (after-clear-amounts .clear-amounts .ensures) (decided .kept .1 .0 ∙ ranks .kept .0) (decided .ensures)
 
 -- what is called keeps the lengths of the arrays
 pub search-spec : {M : Type 1} → statement M
@@ -71,6 +88,13 @@ search-spec =
     (λ c. facts (c .before .before .before .before .before .before .before .before .before .before .before .before .before) .small)
     (λ c. sym (vertices-part (c .before .before .before .before .before .before .before .before .before .before .before .before .before .before)))
     decide-requires
-    (λ c. c .before .before .before .before .before .before .before .before .decide .kept .1 .0 ∙ c .before .before .before .before .before .before .before .before .before .before .before .before .before .before .before .before .before .before .before .before .before .clear-potentials .kept .0)
-    (λ c. c .before .before .before .before .before .before .before .before .decide .kept .1 .1 .0 ∙ c .before .before .before .before .before .before .before .before .before .before .before .before .before .before .before .before .before .clear-amounts .kept .0)
+    (λ c.
+    let after-decide = c .before .before .before .before .before .before .before .before in
+    let after-clear-potentials = after-decide .before .before .before .before .before .before .before .before .before .before .before .before
+    .before in
+    after-decide .decide .kept .1 .0 ∙ after-clear-potentials .clear-potentials .kept .0)
+    (λ c.
+    let after-decide = c .before .before .before .before .before .before .before .before in
+    let after-clear-amounts = after-decide .before .before .before .before .before .before .before .before .before in
+    after-decide .decide .kept .1 .1 .0 ∙ after-clear-amounts .clear-amounts .kept .0)
     returns-2)

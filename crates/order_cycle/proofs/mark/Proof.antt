@@ -1,4 +1,4 @@
--- `order_acyclicity::cycle::mark` meets its contract. The loop's invariant: the arcs into the vertices of the path, from where the cycle starts up to i, are marked.
+-- `order_cycle::mark` meets its contract. The loop's invariant: the arcs into the vertices of the path, from where the cycle starts up to i, are marked.
 -- Assumes nothing.
 use mathlib.Core.Path.{_≡_, refl, _∙_, sym, ap}
 use Prim.Native.Nat.{ℕ, _-_, _<_}
@@ -27,7 +27,9 @@ at-top s = at-path s (s .args .len - 1) (omega (arith, s .pre .1 .0 .some))
 -- the vertex from which an arc enters the last
 closing : (c : tie.After-tail-at Inv-loop μ-loop)
     → let a = c .before .before .before .before .before .before .before .before .before .args in c .tail-at .result ≡ entry (recordTails (a .records .now)) (entry (a .into .now) (entry (a .path .now) (a .len - 1)))
-closing c = c .tail-at .ensures ∙ ap (entry (recordTails (c .before .before .before .before .before .before .before .before .before .args .records .now))) (c .before .place .ensures)
+closing c =
+    let start = c .before .before .before .before .before .before .before .before .before in
+    c .tail-at .ensures ∙ ap (entry (recordTails (start .args .records .now))) (c .before .place .ensures)
 
 at-closing : (c : tie.After-tail-at Inv-loop μ-loop) → AtEnd (c .before .before .before .before .before .before .before .before .before .args .spot .now) (c .tail-at .result)
 at-closing c = let s = c .before .before .before .before .before .before .before .before .before in at-end (s .pre .0) (s .pre .1 .0) _ _ (closing c) refl
@@ -35,7 +37,8 @@ at-closing c = let s = c .before .before .before .before .before .before .before
 loop-holds : tie.Need-loop-holds Inv-loop μ-loop
 loop-holds c =
     let s = c .before .before .before .before .before .before .before .before .before .before in
-    marking-none (s .pre .0) (s .pre .1 .0) _ _ (closing (c .before)) refl (s .args .marks .now) (s .pre .1 .1 ∙ ap zeroList (sym (tails-len (s .args .records .now))))
+    marking-none (s .pre .0) (s .pre .1 .0) _ _ (closing (c .before)) refl (s .args .marks .now)
+    (s .pre .1 .1 ∙ ap zeroList (sym (tails-len (s .args .records .now))))
 
 -- in the loop, at the index i
 here : (c : tie.In-loop Inv-loop μ-loop) → let a = c .before .before .before .before .before .before .before .before .before .before .before .before .args in AtIndex (a .records .now) (a .into .now) (a .path .now) (c .before .loop .i)
@@ -43,8 +46,11 @@ here c = at-path (c .before .before .before .before .before .before .before .bef
 
 loop-again : tie.Need-loop-again Inv-loop μ-loop
 loop-again c =
-    let s = c .before .before .before .before .before .before .before .before .before .before .before .before .before .before .before in
-    marking-more (s .pre .0) (s .pre .1 .0) _ _ (closing (c .before .before .before .before .before .before)) refl (c .before .before .before .before .loop .inv) (c .before .before .before .loop-test .taken) (c .place2 .ensures)
+    let at-loop-test = c .before .before .before in
+    let top = at-loop-test .before in
+    let there = top .before .before in
+    let s = there .before .before .before .before .before .before .before .before .before in
+    marking-more (s .pre .0) (s .pre .1 .0) _ _ (closing there) refl (top .loop .inv) (at-loop-test .loop-test .taken) (c .place2 .ensures)
 
 same-length : tie.Need-same-length Inv-loop μ-loop
 same-length c =
@@ -75,9 +81,16 @@ mark-spec =
     (λ c. here (c .before .before) .vertex)
     (λ c κs. tt)
     (λ c. omega (arith, c .place2 .ensures, here (c .before .before .before)))
-    (λ c. omega (arith, c .place2 .ensures, here (c .before .before .before), c .before .before .before .before .loop .inv .marks-len, tails-len (c .before .before .before .before .before .before .before .before .before .before .before .before .before .before .before .args .records .now)))
+    (λ c.
+    let there = c .before .before .before in
+    let top = there .before in
+    let start = top .before .before .before .before .before .before .before .before .before .before .before in
+    omega (arith, c .place2 .ensures, here there, top .loop .inv .marks-len, tails-len (start .args .records .now)))
     (λ c. omega (arith, here (c .before .before .before)))
     (λ c. omega (arith, c .before .before .before .loop-test .taken))
     loop-again
     same-length
-    (λ c. let s = c .before .before .before .before .before .before .before .before .before .before .before .before in circulates (s .pre .0) (s .pre .1 .0) _ _ (closing (c .before .before .before)) refl (c .before .loop .inv) (c .loop-test .left)))
+    (λ c.
+    let there = c .before .before .before in
+    let s = there .before .before .before .before .before .before .before .before .before in
+    circulates (s .pre .0) (s .pre .1 .0) _ _ (closing there) refl (c .before .loop .inv) (c .loop-test .left)))

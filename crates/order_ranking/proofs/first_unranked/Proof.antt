@@ -1,4 +1,4 @@
--- `order_acyclicity::ranking::first_unranked` meets its contract. The loop's invariant: every vertex below v has a rank.
+-- `order_ranking::first_unranked` meets its contract. The loop's invariant: every vertex below v has a rank.
 -- Assumes nothing.
 use Prim.Native.Nat.{_-_}
 use native.Mathlib.Omega.{arith}

@@ -1,4 +1,4 @@
--- `order_acyclicity::ranking::rank_all` meets its contract. The loop's invariant: r vertices have a rank, and those on the path have none. Each turn gives one.
+-- `order_ranking::rank_all` meets its contract. The loop's invariant: r vertices have a rank, and those on the path have none. Each turn gives one.
 -- Assumes nothing.
 use mathlib.Core.Path.{refl}
 use Prim.Native.Nat.{_-_}
@@ -38,7 +38,10 @@ lengths : (c : tie.At-loop Inv-loop μ-loop)
 lengths c = let l = c .loop in same-lengths (l .inv .size) (l .inv .searching) (at-first (c .before .before .before .before .before .before .before))
 
 returns : tie.Need-returns Inv-loop μ-loop
-returns c = let l = c .before .before .before .loop in searched-all (arcs (c .before .before .before)) (l .inv .ranking) (c .before .first-unranked .ensures .passed) (c .if1 .taken)
+returns c =
+    let top = c .before .before .before in
+    let l = top .loop in
+    searched-all (arcs (top)) (l .inv .ranking) (c .before .first-unranked .ensures .passed) (c .if1 .taken)
 
 climb-requires : tie.Need-climb-requires Inv-loop μ-loop
 climb-requires c κs =
@@ -52,22 +55,33 @@ here : (c : tie.After-climb Inv-loop μ-loop)
     → let l = c .before .before .before .before .before .before .before .before .loop in
     let path = c .climb .last .1 .1 .1 .1 .1 .1 .0 in
     AtLast (l .ranks) (c .climb .last .1 .1 .1 .1 .1 .0) path (c .climb .last .1 .1 .1 .1 .1 .1 .1 .0) (l .r) (c .climb .result) (entry path (c .climb .result - 1))
-here c = at-last (arcs (c .before .before .before .before .before .before .before .before)) (c .climb .ensures) (c .before .before .before .before .before .before .before .before .loop .inv .ranking)
+here c =
+    let top = c .before .before .before .before .before .before .before .before in
+    at-last (arcs (top)) (c .climb .ensures) (top .loop .inv .ranking)
 
 lengths-after : (c : tie.After-climb Inv-loop μ-loop)
     → let a = c .before .before .before .before .before .before .before .before .before .before .before .before .before .before .before .args in
     SameLengths (c .climb .last .1 .1 .1 .1 .1 .0) (c .climb .last .1 .1 .1 .1 .1 .1 .0) (c .climb .last .1 .1 .1 .1 .1 .1 .1 .0) (a .into .now) (a .path .now) (a .spot .now)
-lengths-after c = same-lengths (c .before .before .before .before .before .before .before .before .loop .inv .size) (c .climb .ensures .searching) (at-first (c .before .before .before .before .before .before .before .before .before .before .before .before .before .before .before))
+lengths-after c =
+    let top = c .before .before .before .before .before .before .before .before in
+    let there = top .before .before .before .before .before .before .before in
+    same-lengths (top .loop .inv .size) (c .climb .ensures .searching) (at-first there)
 
 loop-less : tie.Need-loop-less Inv-loop μ-loop
 loop-less c =
-    let l = c .before .before .before .before .before .before .before .before .before .before .before .before .before .before .before .before .before .loop in
-    omega (arith, one-left (arcs (c .before .before .before .before .before .before .before .before .before .before .before .before .before .before .before .before .before)) (c .before .before .before .before .before .before .before .before .before .climb .ensures) (l .inv .ranking) _ refl (c .if2 .left), l .inv .size)
+    let after-climb = c .before .before .before .before .before .before .before .before .before in
+    let top = after-climb .before .before .before .before .before .before .before .before in
+    let l = top .loop in
+    omega (arith, one-left (arcs (top)) (after-climb .climb .ensures) (l .inv .ranking) _ refl (c .if2 .left), l .inv .size)
 
 loop-again : tie.Need-loop-again Inv-loop μ-loop
 loop-again c =
-    let l = c .before .before .before .before .before .before .before .before .before .before .before .before .before .before .before .before .before .loop in
-    progress-more (arcs (c .before .before .before .before .before .before .before .before .before .before .before .before .before .before .before .before .before)) (c .before .before .before .before .before .before .before .before .before .climb .ensures) (l .inv .ranking) _ refl (c .if2 .left) (l .inv .size) (c .before .before .before .before .before .before .before .before .before .before .before .before .before .before .before .first-unranked .ensures .passed)
+    let after-climb = c .before .before .before .before .before .before .before .before .before in
+    let after-first-unranked = after-climb .before .before .before .before .before .before in
+    let top = after-first-unranked .before .before in
+    let l = top .loop in
+    progress-more (arcs (top)) (after-climb .climb .ensures) (l .inv .ranking) _ refl (c .if2 .left) (l .inv .size)
+    (after-first-unranked .first-unranked .ensures .passed)
 
 pub rank-all-spec : {M : Type 1} → statement M
 rank-all-spec =
@@ -88,7 +102,10 @@ rank-all-spec =
     (λ c. here (c .before .before .before .before .before .before .before) .inside)
     (λ c. omega (arith, here (c .before .before .before .before .before .before .before)))
     (λ c. here (c .before .before .before .before .before .before .before .before) .in-into)
-    (λ c. c .before .before .before .before .before .before .before .before .before .before .before .before .before .before .before .before .before .loop .inv .size)
+    (λ c.
+    let top = c .before .before .before .before .before .before .before .before .before .before .before .before .before .before .before .before
+    .before in
+    top .loop .inv .size)
     (λ c. lengths-after (c .before .before .before .before .before .before .before .before .before) .into-same)
     (λ c. lengths-after (c .before .before .before .before .before .before .before .before .before) .path-same)
     (λ c. lengths-after (c .before .before .before .before .before .before .before .before .before) .spot-same)

@@ -1,4 +1,4 @@
--- `match_least_cost::raise::rise` meets its contract.
+-- `match_augmenting::raise::rise` meets its contract.
 -- Assumes nothing.
 use mathlib.Core.Path.{_≡_, refl, sym, ap, _∙_}
 use Prim.Native.Nat.{ℕ}
@@ -20,13 +20,44 @@ tail-at-requires : tie.Need-tail-at-requires
 tail-at-requires c κs = omega (arith, (c .before .before .before .before .before .before .before .before .pre .1 (c .before .if3 .taken)), c .place .ensures)
 
 mul-nearer-2 : tie.Need-mul-nearer-2
-mul-nearer-2 c = record { fits = omega (arith, (c .before .before .before .before .before .before .before .before .before .pre .1 (c .before .before .if3 .taken)), c .tail-at .ensures, ap (entry (recordTails (c .before .before .before .before .before .before .before .before .before .args .records .now))) (c .before .place .ensures)) }
+mul-nearer-2 c =
+    let start = c .before .before .before .before .before .before .before .before .before in
+    record {
+      fits = omega (
+        arith,
+        (start .pre .1 (c .before .before .if3 .taken)),
+        c .tail-at .ensures,
+        ap
+            (entry (recordTails (start .args .records .now))) (c .before .place .ensures),
+      );
+    }
 
 shared-slice-read-nearer-2 : tie.Need-shared-slice-read-nearer-2
-shared-slice-read-nearer-2 c = omega (arith, (c .before .before .before .before .before .before .before .before .before .before .pre .1 (c .before .before .before .if3 .taken)), c .before .tail-at .ensures, ap (entry (recordTails (c .before .before .before .before .before .before .before .before .before .before .args .records .now))) (c .before .before .place .ensures))
+shared-slice-read-nearer-2 c =
+    let at-if3 = c .before .before .before in
+    let start = at-if3 .before .before .before .before .before .before .before in
+    omega (
+      arith,
+      (start .pre .1 (at-if3 .if3 .taken)),
+      c .before .tail-at .ensures,
+      ap (entry (recordTails (start .args .records .now)))
+          (c .before .before .place .ensures),
+    )
 
 returns-3 : tie.Need-returns-3
-returns-3 c = rw (le-ltb _ _ (c .before .before .before .before .before .before .before .if1 .left), ne-eqb _ _ (c .before .before .before .before .before .before .if2 .left), lt-ltb _ _ (c .before .before .before .before .if3 .taken), ← (c .before .before .before .place .ensures), ← (c .before .before .tail-at .ensures)) (c .nearer2 .ensures)
+returns-3 c =
+    let after-place = c .before .before .before in
+    let at-if3 = after-place .before in
+    let at-if2 = at-if3 .before .before in
+    let at-if1 = at-if2 .before in
+    rw (
+      le-ltb _ _ (at-if1 .if1 .left),
+      ne-eqb _ _ (at-if2 .if2 .left),
+      lt-ltb _ _ (at-if3 .if3 .taken),
+      ← (after-place .place .ensures),
+      ←
+          (c .before .before .tail-at .ensures),
+    ) (c .nearer2 .ensures)
 
 returns-4 : tie.Need-returns-4
 returns-4 c = sym (rw (le-ltb _ _ (c .before .before .before .if1 .left), ne-eqb _ _ (c .before .before .if2 .left), le-ltb _ _ (c .if3 .left)))

@@ -20,13 +20,31 @@ loop-holds : tie.Need-loop-holds Inv-loop μ-loop
 loop-holds c = refl
 
 returns : tie.Need-returns Inv-loop μ-loop
-returns c = let a = c .before .before .before .before .before .before .args in let l = c .before .before .before .before .loop in all-fails (leadsAcross (a .h) (a .n)) (a .records .now) (l .e) (c .before .before .before .loop-test .taken) (sym (c .before .leads-across .ensures) ∙ not-true _ (c .if1 .taken)) (l .inv)
+returns c =
+    let at-loop-test = c .before .before .before in
+    let top = at-loop-test .before in
+    let start = top .before .before in
+    let a = start .args in
+    let l = top .loop in
+    all-fails (leadsAcross (a .h) (a .n)) (a .records .now) (l .e) (at-loop-test .loop-test .taken)
+    (sym (c .before .leads-across .ensures) ∙ not-true _ (c .if1 .taken)) (l .inv)
 
 loop-again : tie.Need-loop-again Inv-loop μ-loop
-loop-again c = let a = c .before .before .before .before .before .before .args in let l = c .before .before .before .before .loop in all-more (leadsAcross (a .h) (a .n)) (a .records .now) (l .e) (c .before .before .before .loop-test .taken) (sym (c .before .leads-across .ensures) ∙ not-false _ (c .if1 .left)) (l .inv)
+loop-again c =
+    let at-loop-test = c .before .before .before in
+    let top = at-loop-test .before in
+    let start = top .before .before in
+    let a = start .args in
+    let l = top .loop in
+    all-more (leadsAcross (a .h) (a .n)) (a .records .now) (l .e) (at-loop-test .loop-test .taken)
+    (sym (c .before .leads-across .ensures) ∙ not-false _ (c .if1 .left)) (l .inv)
 
 returns-2 : tie.Need-returns-2 Inv-loop μ-loop
-returns-2 c = let a = c .before .before .before .args in let l = c .before .loop in all-end (leadsAcross (a .h) (a .n)) (a .records .now) (l .e) (c .loop-test .left) (l .inv)
+returns-2 c =
+    let start = c .before .before .before in
+    let a = start .args in
+    let l = c .before .loop in
+    all-end (leadsAcross (a .h) (a .n)) (a .records .now) (l .e) (c .loop-test .left) (l .inv)
 
 pub each-leads-across-spec : {M : Type 1} → statement M
 each-leads-across-spec =

@@ -17,22 +17,58 @@ cast-if1 : tie.Need-cast-if1
 cast-if1 c = search needs
 
 returns : tie.Need-returns
-returns c = rw (le-ltb (wordArc (c .before .before .before .args .word) .tail) (c .before .before .before .args .h) (omega (arith, ap (λ (arc : Arc). arc .tail) (c .before .before .arc-in .ensures), c .if1 .taken)))
+returns c =
+    let start = c .before .before .before in
+    rw (le-ltb (wordArc (start .args .word) .tail) (start .args .h)
+    (omega (arith, ap (λ (arc : Arc). arc .tail) (c .before .before .arc-in .ensures), c .if1 .taken)))
 
 cast-if2 : tie.Need-cast-if2
 cast-if2 c = search needs
 
 returns-2 : tie.Need-returns-2
-returns-2 c = rw (lt-ltb (wordArc (c .before .before .before .before .before .args .word) .tail) (c .before .before .before .before .before .args .h) (omega (arith, ap (λ (arc : Arc). arc .tail) (c .before .before .before .before .arc-in .ensures), c .before .before .if1 .left)), lt-leb (c .before .before .before .before .before .args .h) (wordArc (c .before .before .before .before .before .args .word) .head) (omega (arith, ap (λ (arc : Arc). arc .head) (c .before .before .before .before .arc-in .ensures), c .if2 .taken)))
+returns-2 c =
+    let after-arc-in = c .before .before .before .before in
+    let start = after-arc-in .before in
+    rw (
+      lt-ltb (wordArc (start .args .word) .tail) (start .args .h)
+          (omega (arith, ap (λ (arc : Arc). arc .tail) (after-arc-in .arc-in .ensures), c .before .before .if1 .left)),
+      lt-leb (start .args .h)
+          (wordArc (start .args .word) .head) (omega (arith, ap (λ (arc : Arc). arc .head) (after-arc-in .arc-in .ensures), c .if2 .taken)),
+    )
 
 cast-if3 : tie.Need-cast-if3
 cast-if3 c = search needs
 
 returns-3 : tie.Need-returns-3
-returns-3 c = rw (lt-ltb (wordArc (c .before .before .before .before .before .before .before .args .word) .tail) (c .before .before .before .before .before .before .before .args .h) (omega (arith, ap (λ (arc : Arc). arc .tail) (c .before .before .before .before .before .before .arc-in .ensures), c .before .before .before .before .if1 .left)), le-leb (c .before .before .before .before .before .before .before .args .h) (wordArc (c .before .before .before .before .before .before .before .args .word) .head) (omega (arith, ap (λ (arc : Arc). arc .head) (c .before .before .before .before .before .before .arc-in .ensures), c .before .before .if2 .left)), le-ltb (wordArc (c .before .before .before .before .before .before .before .args .word) .head) (c .before .before .before .before .before .before .before .args .n) (omega (arith, ap (λ (arc : Arc). arc .head) (c .before .before .before .before .before .before .arc-in .ensures), c .if3 .taken)))
+returns-3 c =
+    let at-if1 = c .before .before .before .before in
+    let after-arc-in = at-if1 .before .before in
+    let start = after-arc-in .before in
+    rw (
+      lt-ltb (wordArc (start .args .word) .tail) (start .args .h)
+          (omega (arith, ap (λ (arc : Arc). arc .tail) (after-arc-in .arc-in .ensures), at-if1 .if1 .left)),
+      le-leb (start .args .h)
+          (wordArc (start .args .word) .head) (omega (arith, ap (λ (arc : Arc). arc .head) (after-arc-in .arc-in .ensures), c .before .before .if2 .left)),
+      le-ltb (wordArc (start .args .word) .head) (start .args .n)
+          (omega (arith, ap (λ (arc : Arc). arc .head) (after-arc-in .arc-in .ensures), c .if3 .taken)),
+    )
 
 returns-4 : tie.Need-returns-4
-returns-4 c = rw (lt-ltb (wordArc (c .before .before .before .before .before .before .before .before .args .word) .tail) (c .before .before .before .before .before .before .before .before .args .h) (omega (arith, ap (λ (arc : Arc). arc .tail) (c .before .before .before .before .before .before .before .arc-in .ensures), c .before .before .before .before .before .if1 .left)), le-leb (c .before .before .before .before .before .before .before .before .args .h) (wordArc (c .before .before .before .before .before .before .before .before .args .word) .head) (omega (arith, ap (λ (arc : Arc). arc .head) (c .before .before .before .before .before .before .before .arc-in .ensures), c .before .before .before .if2 .left)), lt-ltb (wordArc (c .before .before .before .before .before .before .before .before .args .word) .head) (c .before .before .before .before .before .before .before .before .args .n) (omega (arith, ap (λ (arc : Arc). arc .head) (c .before .before .before .before .before .before .before .arc-in .ensures), c .before .if3 .left))) (ap (λ (u : ℕ). leb u 32767) (ap (λ (arc : Arc). arc .weight) (c .before .before .before .before .before .before .before .arc-in .ensures)))
+returns-4 c =
+    let at-if2 = c .before .before .before in
+    let at-if1 = at-if2 .before .before in
+    let after-arc-in = at-if1 .before .before in
+    let start = after-arc-in .before in
+    rw (
+      lt-ltb (wordArc (start .args .word) .tail) (start .args .h)
+          (omega (arith, ap (λ (arc : Arc). arc .tail) (after-arc-in .arc-in .ensures), at-if1 .if1 .left)),
+      le-leb (start .args .h)
+          (wordArc (start .args .word) .head) (omega (arith, ap (λ (arc : Arc). arc .head) (after-arc-in .arc-in .ensures), at-if2 .if2 .left)),
+      lt-ltb
+          (wordArc (start .args .word) .head) (start .args .n)
+          (omega (arith, ap (λ (arc : Arc). arc .head) (after-arc-in .arc-in .ensures), c .before .if3 .left)),
+    )
+    (ap (λ (u : ℕ). leb u 32767) (ap (λ (arc : Arc). arc .weight) (after-arc-in .arc-in .ensures)))
 
 pub leads-across-spec : {M : Type 1} → statement M
 leads-across-spec =

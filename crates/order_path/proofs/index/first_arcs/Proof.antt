@@ -1,4 +1,4 @@
--- `order_acyclicity::index::first_arcs` meets its contract. The loop's invariant: each vertex below v has its first arc.
+-- `order_path::index::first_arcs` meets its contract. The loop's invariant: each vertex below v has its first arc.
 -- Assumes nothing.
 use mathlib.Core.Path.{_≡_, refl}
 use Prim.Native.Nat.{_-_}

@@ -1,4 +1,4 @@
--- `order_acyclicity::index::tail_at` meets its contract.
+-- `order_path::index::tail_at` meets its contract.
 -- Assumes nothing.
 use mathlib.Core.Path.{sym, ap, _∙_}
 use borrow.Author.Needs.{needs}

@@ -1,4 +1,4 @@
--- `order_acyclicity::path::look` meets its contract. The loop's invariant: only the current arc of v moved on. Fewer arcs are left at each turn.
+-- `order_path::path::look` meets its contract. The loop's invariant: only the current arc of v moved on. Fewer arcs are left at each turn.
 -- Assumes nothing.
 use mathlib.Core.Path.{_∙_, sym, ap}
 use Prim.Native.Nat.{_-_}
@@ -21,8 +21,9 @@ abbrev μ-loop : tie.MeasureT-loop
 here : (c : tie.Else1 Inv-loop μ-loop)
     → let a = c .before .before .before .before .before .before .before .before .args in Looking (a .records .now) (a .links .now) (a .ranks .now) (a .into .now) (c .before .before .before .loop .into) (a .v) (c .before .place .result)
 here c =
-    let s = c .before .before .before .before .before .before .before .before in
-    record { chained = s .pre .0 .0; vertex = s .pre .0 .1; moved = c .before .before .before .loop .inv; current = c .before .place .ensures; some = c .if1 .left }
+    let top = c .before .before .before in
+    let s = top .before .before .before .before .before in
+    record { chained = s .pre .0 .0; vertex = s .pre .0 .1; moved = top .loop .inv; current = c .before .place .ensures; some = c .if1 .left }
 
 slice-read-place : tie.Need-slice-read-place Inv-loop μ-loop
 slice-read-place c = omega (arith, c .before .loop .inv .watch .len, c .before .before .before .before .before .before .pre .0 .1)
@@ -32,18 +33,28 @@ returns c = record { moved = c .before .before .before .loop .inv; current = c .
 
 returns-2 : tie.Need-returns-2 Inv-loop μ-loop
 returns-2 c =
+    let after-place = c .before .before .before .before in
+    let top = after-place .before .before in
+    let start = top .before .before .before .before .before in
     record {
-      moved = c .before .before .before .before .before .before .loop .inv;
-      current = c .before .before .before .before .place .ensures;
-      from = λ h. sym (ap (entry (c .before .before .before .before .before .before .before .before .before .before .before .args .ranks .now)) (c .before .before .tail-at .ensures)) ∙ c .if2 .taken;
+      moved = top .loop .inv;
+      current = after-place .place .ensures;
+      from = λ h. sym
+          (ap (entry (start .args .ranks .now)) (c .before .before .tail-at .ensures)) ∙ c .if2 .taken;
     }
 
 slice-write-into : tie.Need-slice-write-into Inv-loop μ-loop
-slice-write-into c = omega (arith, c .before .before .before .before .before .before .before .loop .inv .watch .len, c .before .before .before .before .before .before .before .before .before .before .before .before .pre .0 .1)
+slice-write-into c =
+    let top = c .before .before .before .before .before .before .before in
+    let start = top .before .before .before .before .before in
+    omega (arith, top .loop .inv .watch .len, start .pre .0 .1)
 
 loop-again : tie.Need-loop-again Inv-loop μ-loop
 loop-again c =
-    moved-more (here (c .before .before .before .before)) (λ q. c .before .if2 .left (ap (entry (c .before .before .before .before .before .before .before .before .before .before .before .before .args .ranks .now)) (c .before .before .before .tail-at .ensures) ∙ q))
+    let after-tail-at = c .before .before .before in
+    let there = after-tail-at .before in
+    let start = there .before .before .before .before .before .before .before .before in
+    moved-more (here there) (λ q. c .before .if2 .left (ap (entry (start .args .ranks .now)) (after-tail-at .tail-at .ensures) ∙ q))
 
 pub look-spec : {M : Type 1} → statement M
 look-spec =
@@ -60,12 +71,17 @@ look-spec =
     (λ c κs. at-arc (here c) .arc)
     (λ c. omega (arith, at-arc (here (c .before)), c .tail-at .ensures))
     (λ c. omega (arith, at-arc (here (c .before .before)), c .before .tail-at .ensures))
-    (λ c. c .before .before .before .before .before .before .loop .inv .watch .len ∙ sym (c .before .before .before .before .before .before .before .before .before .before .before .pre .1 .len))
+    (λ c.
+    let top = c .before .before .before .before .before .before in
+    let start = top .before .before .before .before .before in
+    top .loop .inv .watch .len ∙ sym (start .pre .1 .len))
     returns-2
     (λ c. omega (arith, at-arc (here (c .before .before .before))))
     (λ c. omega (arith, at-arc (here (c .before .before .before))))
     (λ c. at-arc (here (c .before .before .before .before)) .link)
-    (λ c. let s = c .before .before .before .before .before .before .before .before .before .before .before .before in omega (arith, s .pre .0 .1, s .pre .0 .0 .arcs .vertices))
+    (λ c.
+    let s = c .before .before .before .before .before .before .before .before .before .before .before .before in
+    omega (arith, s .pre .0 .1, s .pre .0 .0 .arcs .vertices))
     slice-write-into
     (λ c. fewer-left (here (c .before .before .before .before)))
     loop-again)

@@ -1,4 +1,4 @@
--- `order_acyclicity::path::start` meets its contract.
+-- `order_path::path::start` meets its contract.
 -- Assumes nothing.
 use mathlib.Core.Path.{refl}
 use native.Mathlib.Omega.{arith}
