@@ -1,5 +1,4 @@
 -- The checks of a network file in three parts, and what is known of one that is accepted.
--- Assumes nothing.
 use mathlib.Core.Path.{_≡_, refl, sym, _∙_}
 use mathlib.Core.List.{List, _++_}
 use Prim.Native.Nat.{ℕ, _≤_}

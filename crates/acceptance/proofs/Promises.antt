@@ -1,11 +1,9 @@
 -- The promises of specs/Promises.antt, kept.
--- Assumes nothing.
 use mathlib.Core.Path.{_≡_, sym, subst}
 use mathlib.Core.List.{List}
 use Prim.Native.Nat.{ℕ}
 use native.Mathlib.Omega.{arith}
 use Rattle.prelude.specs.Checks.{Hold}
-use Rattle.prelude.specs.Lists.{Every}
 use Rattle.prelude.proofs.Lists.{every-map}
 use Rattle.arc_records.specs.Arcs.{Arc}
 use Rattle.network.specs.Question.{Setting, Opened, Allowed, Admissible}

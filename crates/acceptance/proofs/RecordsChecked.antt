@@ -1,5 +1,4 @@
 -- Arcs numbered from 0 on, checked one after the other until one is refused: what the loop over the records of a file keeps.
--- Assumes nothing.
 use mathlib.Core.Path.{_≡_, sym, _∙_, ap, subst}
 use mathlib.Core.List.{List, [], _∷_, _++_}
 use Prim.Native.Nat.{ℕ, suc, _+_, _≤_, _<_}

@@ -1,5 +1,4 @@
 -- The network files that the panel accepts (PANEL 8).
--- Assumes nothing.
 use mathlib.Core.List.{List, _++_}
 use Prim.Native.Nat.{ℕ}
 use Rattle.prelude.specs.Checks.{Check, Hold}

@@ -1,5 +1,4 @@
 -- What the helper asks of a network file and of the buffer before it writes (PANEL 9).
--- Assumes nothing.
 use mathlib.Core.List.{List, [], _∷_, _++_}
 use Prim.Native.Nat.{ℕ}
 use lib.Dec.{leb}

@@ -1,5 +1,4 @@
 -- A walk along the chain of a vertex, one arc after the other: where it stands, and that it comes to an end.
--- Assumes nothing.
 use mathlib.Core.Path.{_≡_, subst}
 use mathlib.Core.List.{List}
 use mathlib.Core.Logic.{_≢_}

@@ -1,5 +1,4 @@
 -- The columns of records: how long they are, and what stands in them.
--- Assumes nothing.
 use mathlib.Core.Path.{_≡_, _∙_, ap}
 use mathlib.Core.List.{List}
 use Prim.Native.Nat.{ℕ}

@@ -1,5 +1,4 @@
 -- The ends of the arcs of records, and of packed arcs: how many, what stands in them, and the chains of their index.
--- Assumes nothing.
 use mathlib.Core.Path.{_≡_, ap, _∙_}
 use mathlib.Core.List.{List, [], _∷_}
 use Prim.Native.Nat.{ℕ, _<_, _≤_}

@@ -1,5 +1,4 @@
 -- An index of arcs by one of their ends: for each vertex its arcs, chained in file order.
--- Assumes nothing.
 use mathlib.Core.Bool.{Bool, _&&_}
 use mathlib.Core.List.{List, [], _∷_, map}
 use Prim.Native.Nat.{ℕ, zero, suc, _+_}

@@ -1,5 +1,4 @@
 -- What the links say of each chain: where it begins, and where it goes on.
--- Assumes nothing.
 use mathlib.Core.Path.{_≡_}
 use mathlib.Core.List.{List}
 use mathlib.Core.Logic.{_≢_}

@@ -1,5 +1,4 @@
 -- The columns of the arcs of records.
--- Assumes nothing.
 use mathlib.Core.List.{List, map}
 use Prim.Native.Nat.{ℕ}
 use Rattle.arc_records.specs.Arcs.{wordArcs}

@@ -1,5 +1,4 @@
 -- What is promised of an index: its chains are what a full scan finds.
--- Assumes nothing.
 use mathlib.Core.Path.{_≡_}
 use mathlib.Core.List.{List, [], _∷_}
 use Prim.Native.Nat.{ℕ, _<_, _≤_}

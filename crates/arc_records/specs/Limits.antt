@@ -1,5 +1,4 @@
 -- The limits (PANEL 3), each once.
--- Assumes nothing.
 use Prim.Native.Nat.{ℕ}
 
 -- The most vertices (PANEL 6, check 2).

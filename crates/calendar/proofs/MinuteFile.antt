@@ -1,5 +1,4 @@
 -- The file of a minute: how long it is, and that it is written with its header and its records.
--- Assumes nothing.
 use mathlib.Core.Path.{_≡_, refl, _∙_, ap₂}
 use mathlib.Core.List.{List, flatMap}
 use Prim.Native.Nat.{ℕ, _+_, _-_, _*_}

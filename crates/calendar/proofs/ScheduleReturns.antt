@@ -1,5 +1,4 @@
 -- What scheduling returns and leaves in the buffer: after a refusal of what was handed over, after check 20, and after the file was written.
--- Assumes nothing.
 use mathlib.Core.Path.{_≡_, refl, sym, _∙_, ap}
 use mathlib.Core.List.{List, [], _∷_, _++_}
 use Prim.Native.Nat.{ℕ, _+_, _*_, _≤_, _<_}

@@ -1,5 +1,4 @@
 -- The file that the calendar writes of the network of a minute (PANEL 14).
--- Assumes nothing.
 use mathlib.Core.List.{List, [], _∷_, _++_}
 use Prim.Native.Nat.{ℕ}
 use lib.Dec.{leb}

@@ -1,5 +1,4 @@
 -- An arc of the capacity 0 changes no balance: a maximum flow has the same value with such arcs and without them.
--- Assumes nothing.
 use mathlib.Core.Path.{refl}
 use mathlib.Core.Logic.{_↔_}
 use mathlib.Core.Bool.{Bool, true, false}

@@ -1,5 +1,4 @@
 -- What is left of a list of arcs, where some of them are closed: how many, of what kind, of a list in two parts, and where all are open.
--- Assumes nothing.
 use mathlib.Core.Path.{_≡_, refl, sym, _∙_, ap, ap₂}
 use mathlib.Core.Bool.{Bool, true, false}
 use mathlib.Core.List.{List, [], _∷_, _++_, append-assoc, append-nil}

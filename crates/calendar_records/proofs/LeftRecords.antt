@@ -1,5 +1,4 @@
 -- Records that are written one behind the other: of one arc, and of those that are left of a file's arcs.
--- Assumes nothing.
 use mathlib.Core.Path.{_≡_, refl, sym, _∙_, ap, subst}
 use mathlib.Core.Bool.{Bool, true, false}
 use mathlib.Core.List.{List, [], _∷_, _++_, map, flatMap}

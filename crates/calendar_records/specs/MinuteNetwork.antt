@@ -1,5 +1,4 @@
 -- The network of a minute: what is left of each arc, open or closed (PANEL 14).
--- Assumes nothing.
 use mathlib.Core.Bool.{Bool}
 use mathlib.Core.List.{List, [], _∷_, _++_}
 use Prim.Native.Nat.{ℕ, suc}

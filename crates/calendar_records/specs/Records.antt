@@ -1,5 +1,4 @@
 -- What the functions of the calendar answer one another: what is left of a record, and records that were written.
--- Assumes nothing.
 use mathlib.Core.Path.{_≡_}
 use mathlib.Core.List.{List, [], _∷_, flatMap}
 use Prim.Native.Nat.{ℕ, _+_, _*_}

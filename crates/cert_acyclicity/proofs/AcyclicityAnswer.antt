@@ -1,5 +1,4 @@
 -- The answer for acyclicity: ranks that rise are a certificate of the value 0, and marks that circulate are one of none.
--- Assumes nothing.
 use mathlib.Core.Path.{_≡_, refl, sym, _∙_, ap, subst}
 use mathlib.Core.Bool.{true, _&&_, false≢true}
 use mathlib.Core.List.{List, [], _∷_}

@@ -1,32 +1,30 @@
 -- The answer for an assignment: a perfect matching with its potentials is a certificate of the value, and marks of a deficient set are one of none.
--- Assumes nothing.
 use mathlib.Core.Path.{_≡_, refl, sym, _∙_, ap, subst}
 use mathlib.Core.Bool.{Bool, true, false, not, _&&_, false≢true}
 use mathlib.Core.List.{List, [], _∷_}
-use Prim.Native.Nat.{ℕ, zero, suc, _+_, _*_, _-_, _/_, _%_, _≤_, _<_}
+use Prim.Native.Nat.{ℕ, zero, suc, _+_, _*_, _-_, _%_, _≤_, _<_}
 use native.Mathlib.Omega.{arith}
 use native.Mathlib.Decide.{decLt}
 use borrow.Author.Tests.{eq-eqb, lt-ltb, le-leb, le-ltb}
 use lib.Dec.{eqb, leb, ltb}
 use lib.IntN.{ℤ, pos}
-use lib.ListN.{length, length-map}
+use lib.ListN.{length}
 use Rattle.prelude.specs.Choice.{indicator}
-use Rattle.prelude.specs.Lists.{Every, all, at}
+use Rattle.prelude.specs.Lists.{Every, all}
 use Rattle.prelude.specs.Sums.{sumTo, sumToℤ}
 use Rattle.prelude.proofs.Integers.{signed, parts-sub}
 use Rattle.prelude.proofs.Lists.{every-zip, every-map}
 use Rattle.prelude.proofs.Sums.{sumTo-ext}
 use Rattle.prelude.proofs.Tested.{both-on}
 use Rattle.arc_records.specs.Limits.{mostArcs, mostWeight, mostPotential}
-use Rattle.arc_records.specs.Arcs.{Arc, arcOf, wordArc, wordArcs}
-use Rattle.network.specs.Network.{Load, arcs, loadsOf, sumOf, leaving, entering, balance, degree, cost, crosses}
-use Rattle.network.specs.Question.{Question, assignment, Setting, Allowed, PumpToSite, SidesFor, EvenFor, Answer, value, none, asks, pumps, sites, Admissible}
+use Rattle.arc_records.specs.Arcs.{Arc, wordArc, wordArcs}
+use Rattle.network.specs.Network.{Load, arcs, loadsOf, leaving, entering, balance, degree, cost, crosses}
+use Rattle.network.specs.Question.{Question, assignment, Setting, Allowed, PumpToSite, SidesFor, EvenFor, value, none, asks, pumps, sites, Admissible}
 use Rattle.network.specs.Certificate.{marked, assignmentBalance}
-use Rattle.network.proofs.Rules.{InRange, ZeroOrOne, NoAmount, Closed, Feasible, AssignmentBalances, AssignmentCertificate, NoAssignmentCertificate, RulesHold}
-use Rattle.network.proofs.Sums.{Inside}
+use Rattle.network.proofs.Rules.{ZeroOrOne, NoAmount, Closed, Feasible, AssignmentBalances, AssignmentCertificate, NoAssignmentCertificate, RulesHold}
 use Rattle.network.proofs.Assignments.{Between, enters-no-pump, leaves-no-site, pumps-sum, sites-sum}
 use Rattle.network.proofs.Sound.{balance-parts}
-use Rattle.packed_arcs.specs.Entries.{entry, zeroList, flowAt}
+use Rattle.packed_arcs.specs.Entries.{entry, zeroList}
 use Rattle.packed_arcs.proofs.LentParts.{zero-at}
 use Rattle.arc_index.specs.Columns.{recordTails, recordHeads, recordWeights}
 use Rattle.match_results.specs.Results.{Perfect, Deficient}

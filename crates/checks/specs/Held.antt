@@ -1,5 +1,4 @@
 -- What the code holds of a setting, of a question and of a row of rules, as the definitions of the network have them.
--- Assumes nothing.
 use Rattle.network.specs.Question.{Setting, shortestPath, maximumFlow, assignment, acyclicity, unasked}
 use Rattle.network.specs.Question.{Question as Asked}
 use Rattle.network.specs.Certificate.{Rules, pathRules, flowRules, assignmentRules, noPathRules, noAssignmentRules, acyclicRules, cyclicRules, noRules}

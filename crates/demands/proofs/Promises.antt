@@ -1,5 +1,4 @@
 -- The promises of specs/Promises.antt, kept: what the helper wrote fits the layout, and judging answers it truly; so it does without self-loops and for the file of a minute.
--- Assumes nothing.
 use mathlib.Core.Path.{_≡_, sym, _∙_, ap, subst}
 use mathlib.Core.List.{List, [], _∷_}
 use Prim.Native.Nat.{ℕ, suc, _+_, _≤_, _<_}

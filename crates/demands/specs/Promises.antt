@@ -1,5 +1,4 @@
 -- The second half of demand 3 (PANEL 12): what the helper writes is judged truly at every point, self-loops change nothing of it, and so it is for the file of a minute; proofs/Promises.antt keeps it. With FewWrong (runs) and FewJudgedWrong (judging) demand 3 is whole.
--- Assumes nothing.
 use mathlib.Core.Path.{_≡_}
 use mathlib.Core.List.{List}
 use Prim.Native.Nat.{ℕ, _≤_}

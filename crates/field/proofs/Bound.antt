@@ -1,5 +1,4 @@
 -- The polynomial argument, for any prime q: two lists of m keys whose products are congruent at m different points are permutations.
--- Assumes nothing.
 use mathlib.Core.Path.{_≡_, refl, sym, _∙_, ap, subst}
 use mathlib.Core.Logic.{_⊎_, inl, inr}
 use mathlib.Core.List.{List, [], _∷_}

@@ -1,7 +1,6 @@
 -- Numbers modulo q: sums and products of congruent numbers, and Euclid's lemma.
 -- `Congruent q a b` is a record, so that the numbers can be implicit arguments of the laws. A rearrangement of sums and products is
 -- `by (omega arith)`. Values are not reduced and none is negative: -b is (q - 1) * b.
--- Assumes nothing.
 use mathlib.Core.Path.{_≡_, refl, sym, _∙_, ap}
 use mathlib.Core.Logic.{_⊎_, inl, inr}
 use Prim.Native.Nat.{ℕ, zero, suc, _+_, _*_, _-_, _%_, _/_, _≤_, _<_}

@@ -1,5 +1,4 @@
 -- p is prime: antt divides it by every number from 2 to 46340, and a product of two factors above that is above p.
--- Assumes nothing.
 use mathlib.Core.Path.{_≡_, refl, sym, _∙_, ap, subst}
 use mathlib.Core.Logic.{_⊎_, inl, inr}
 use mathlib.Core.Bool.{Bool, true, false}

@@ -1,7 +1,6 @@
 -- Polynomials modulo a prime: one with n coefficients and n different roots is 0 everywhere.
 -- A polynomial is the list of its coefficients, lowest first, on top of a last coefficient `top`: 0 for any polynomial, 1 for a monic one.
 -- Its value is not reduced, so that equations between values hold over the natural numbers.
--- Assumes nothing.
 use mathlib.Core.Path.{_≡_, refl, sym, ap, subst}
 use mathlib.Core.Logic.{_⊎_, inl, inr}
 use mathlib.Core.List.{List, [], _∷_}

@@ -1,5 +1,4 @@
 -- One more key: what it does to the fingerprint of a list, and the laws by which the code that multiplies a factor in is proved.
--- Assumes nothing.
 use mathlib.Core.Path.{_≡_, refl, _∙_, ap}
 use mathlib.Core.List.{List, [], _∷_, _++_}
 use Prim.Native.Nat.{ℕ, _+_, _*_, _-_, _%_, _≤_, _<_}

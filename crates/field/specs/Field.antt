@@ -1,5 +1,4 @@
 -- The prime p, and the fingerprint of a list of numbers, the keys, at a point (PANEL 4).
--- Assumes nothing.
 use mathlib.Core.Path.{_≡_}
 use mathlib.Core.Logic.{_⊎_}
 use mathlib.Core.Bool.{Bool}

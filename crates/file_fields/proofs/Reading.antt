@@ -1,5 +1,4 @@
 -- What reading gives past the end, and the bits of a signed number as the machine has them.
--- Assumes nothing.
 use mathlib.Core.Path.{_≡_, refl, sym, ap, ap₂, _∙_}
 use mathlib.Core.Bool.{Bool, true, false, false≢true}
 use mathlib.Core.List.{List}

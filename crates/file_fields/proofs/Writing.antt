@@ -1,5 +1,4 @@
 -- A run of stores: past the end it changes nothing, and one run after another is one run. The indices that the code adds up.
--- Assumes nothing.
 use mathlib.Core.Path.{_≡_, refl, sym, ap, ap₂, _∙_}
 use mathlib.Core.List.{List, [], _∷_, _++_}
 use Prim.Native.Nat.{ℕ, suc, _+_, _/_, _%_, _≤_}

@@ -1,5 +1,4 @@
 -- Numbers in bytes, the high ones first (PANEL 7).
--- Assumes nothing.
 use mathlib.Core.List.{List, [], _∷_, _++_}
 use Prim.Native.Nat.{ℕ, suc, _+_, _-_, _*_, _/_, _%_, _^_}
 use lib.Dec.{ltb}

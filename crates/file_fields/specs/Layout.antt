@@ -1,5 +1,4 @@
 -- What begins either file, and the checks of a layout (PANEL 7). In a mark 68 is D and 82 is R.
--- Assumes nothing.
 use mathlib.Core.Bool.{Bool, _&&_}
 use mathlib.Core.List.{List, [], _∷_}
 use Prim.Native.Nat.{ℕ}

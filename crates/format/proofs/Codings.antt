@@ -1,20 +1,19 @@
 -- An arc, a load and a node number as bytes: each is read back as it was written, and written as it was read.
--- Assumes nothing.
 use mathlib.Core.Path.{_≡_, refl, _∙_, ap, ap₂}
 use mathlib.Core.List.{List, _++_}
 use Prim.Native.Nat.{ℕ, _+_, _/_, _%_, _<_}
-use native.Mathlib.Nat.{add-assoc, mod-eq-of-lt}
+use native.Mathlib.Nat.{add-assoc}
 use native.Mathlib.Omega.{arith}
 use lib.IntN.{ℤ, pos, negsuc}
 use lib.ListN.{length}
 use lib.Seq.{getD-append-add}
 use Rattle.prelude.specs.Lists.{Every}
 use Rattle.prelude.proofs.Lists.{every-append}
-use Rattle.arc_records.specs.Arcs.{Arc, arcOf}
-use Rattle.network.specs.Network.{Load, loadOf}
+use Rattle.arc_records.specs.Arcs.{arcOf}
+use Rattle.network.specs.Network.{loadOf}
 use Rattle.file_fields.specs.Bytes.{byteAt, joined16, joined32, byte16, read16, patternOf, signedOf, byte32, readSigned}
 use Rattle.file_fields.proofs.Reading.{signed-pattern}
-use Rattle.format.specs.Files.{arcBytes, loadBytes, lowArc, arcAt, loadAt}
+use Rattle.format.specs.Files.{arcBytes, loadBytes, arcAt, loadAt}
 use Rattle.format.specs.Promises.{Byte, ArcFits, LoadFits, Signed32}
 use Rattle.format.proofs.Halves.{whole}
 use Rattle.format.proofs.Windows.{arc-exact, load-exact, number-exact}

@@ -1,5 +1,4 @@
 -- What the checks of a layout say of a file.
--- Assumes nothing.
 use mathlib.Core.Path.{_≡_, refl, sym}
 use mathlib.Core.Bool.{_&&_}
 use mathlib.Core.List.{List}

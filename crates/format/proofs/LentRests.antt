@@ -1,5 +1,4 @@
 -- A part of a buffer that is lent on: what is written into the rest behind a front is written into the whole.
--- Assumes nothing.
 use mathlib.Core.Path.{_≡_, refl, sym, _∙_, ap}
 use mathlib.Core.List.{List, [], _∷_, _++_, append-nil}
 use Prim.Native.Nat.{ℕ, zero, suc, _-_}

@@ -1,5 +1,4 @@
 -- What reading an arc and a load gives past the end, and that what is read from bytes fits.
--- Assumes nothing.
 use mathlib.Core.Path.{_≡_, refl, sym, subst}
 use mathlib.Core.List.{List}
 use Prim.Native.Nat.{ℕ, _+_, _/_, _%_, _≤_, _<_}

@@ -1,5 +1,4 @@
 -- The two files (PANEL 7): the bytes that are written, what a file says, and the checks of a layout.
--- Assumes nothing.
 use mathlib.Core.List.{List, _∷_, _++_, flatMap}
 use Prim.Native.Nat.{ℕ, _+_, _*_, _%_}
 use lib.IntN.{ℤ}

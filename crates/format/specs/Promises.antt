@@ -1,5 +1,4 @@
 -- What is promised of the two files (PANEL 7); proofs/Promises.antt keeps it.
--- Assumes nothing.
 use mathlib.Core.Path.{_≡_}
 use mathlib.Core.Logic.{_⊎_}
 use mathlib.Core.List.{List}

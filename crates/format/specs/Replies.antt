@@ -1,5 +1,4 @@
 -- What a function that writes a file into a lent buffer replies (PANEL 9).
--- Assumes nothing.
 use Prim.Native.Nat.{ℕ}
 use Rattle.format.specs.declared.Written.{Written}
 use Rattle.format.specs.declared.Written.the-variants.{Length, Refused}

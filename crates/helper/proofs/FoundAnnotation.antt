@@ -1,5 +1,4 @@
 -- The annotation of an accepted file: the solver takes what was gathered, and what it finds is what stands in the buffer.
--- Assumes nothing.
 use mathlib.Core.Path.{_≡_, refl, sym, _∙_, ap, ap₂, subst}
 use mathlib.Core.Bool.{Bool, true, _&&_, false≢true}
 use mathlib.Core.List.{List, [], _∷_, _++_, flatMap}

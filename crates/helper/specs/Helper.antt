@@ -1,5 +1,4 @@
 -- What the helper replies and what it leaves in the buffer (PANEL 9).
--- Assumes nothing.
 use mathlib.Core.Path.{_≡_}
 use mathlib.Core.List.{List}
 use Prim.Native.Nat.{ℕ}

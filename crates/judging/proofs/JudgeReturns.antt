@@ -1,12 +1,11 @@
 -- What judging gives at each of the places where it ends.
--- Assumes nothing.
 use mathlib.Core.Path.{_≡_, refl, sym, _∙_, ap, subst}
 use mathlib.Core.Bool.{true, false}
 use mathlib.Core.List.{List, [], _∷_, _++_, map}
 use Prim.Native.Nat.{ℕ}
 use native.Mathlib.Omega.{arith}
 use Rattle.prelude.specs.Checks.{Check, _unless_, settle, firstBroken, Hold}
-use Rattle.prelude.proofs.Settle.{settled, settled-back, settle-append, none-broken}
+use Rattle.prelude.proofs.Settle.{settled, settled-back, none-broken}
 use Rattle.network.specs.Question.{Setting}
 use Rattle.points.specs.declared.Point.{Point}
 use Rattle.checks.specs.Held.{handed}
@@ -23,7 +22,7 @@ use Rattle.session.proofs.TurnsToSteps.{open-found, open-accepted}
 use Rattle.runs.specs.Run.{read, run}
 use Rattle.runs.specs.Exchange.{outcome}
 use Rattle.runs.proofs.Verdict.{reading-broken}
-use Rattle.judging.specs.Judging.{networkChecks, annotationChecks, judged}
+use Rattle.judging.specs.Judging.{judged}
 use Rattle.judging_runs.specs.RunsTo.{RunsTo}
 use Rattle.judging_runs.specs.FileSteps.{stepsIn}
 use Rattle.runs.proofs.Openings.{opens-rule}

@@ -1,5 +1,4 @@
 -- The promises of specs/Promises.antt, kept: judging is an exchange whose steps the two files hold.
--- Assumes nothing.
 use mathlib.Core.Path.{_≡_, refl, sym, _∙_, ap, subst}
 use mathlib.Core.List.{List, [], _∷_, _++_, map, append-nil, append-assoc}
 use mathlib.Core.Logic.{inl, inr}

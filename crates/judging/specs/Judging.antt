@@ -1,5 +1,4 @@
 -- Judging two files at a point: by the checks in their order, and by the steps of a session (PANEL 8).
--- Assumes nothing.
 use mathlib.Core.List.{List, _∷_, _++_}
 use Prim.Native.Nat.{ℕ}
 use lib.IntN.{ℤ}

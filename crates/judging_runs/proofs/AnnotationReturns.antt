@@ -1,5 +1,4 @@
 -- What the steps of an annotation file come out as at each of the places where running them ends.
--- Assumes nothing.
 use mathlib.Core.Path.{_≡_, sym, _∙_, ap}
 use mathlib.Core.List.{List, [], _∷_, _++_, map}
 use Prim.Native.Nat.{ℕ}

@@ -1,5 +1,4 @@
 -- Steps that run one after the other until one is refused, and what a loop over steps numbered from 0 on keeps.
--- Assumes nothing.
 use mathlib.Core.Path.{_≡_, refl, sym, _∙_, ap}
 use mathlib.Core.List.{List, [], _∷_, _++_, map, append-assoc, map-append}
 use Prim.Native.Nat.{ℕ, suc, _+_, _<_, _≤_}

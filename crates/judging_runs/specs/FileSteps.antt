@@ -1,5 +1,4 @@
 -- The steps that the two files hold, in file order (PANEL 8).
--- Assumes nothing.
 use mathlib.Core.List.{List, [], _∷_, _++_, map}
 use Prim.Native.Nat.{ℕ}
 use Rattle.format.specs.Files.{arcsIn, claimIn, numbersIn, loadsIn}

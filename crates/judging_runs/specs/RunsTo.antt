@@ -1,5 +1,4 @@
 -- Steps that run one after the other: what they come out as, and the session that they leave.
--- Assumes nothing.
 use mathlib.Core.Path.{_≡_}
 use mathlib.Core.List.{List, _++_}
 use Prim.Native.Nat.{ℕ}

@@ -1,16 +1,14 @@
 -- The matching grows by one arc: each step matches a left vertex by its parent arc, and exposes the one that was matched to the head of it.
--- Assumes nothing.
 use mathlib.Core.Path.{_≡_, refl, sym, _∙_, ap, subst}
 use mathlib.Core.List.{List}
 use mathlib.Core.Logic.{_⊎_, inl, inr, _≢_, ⊎-elim}
 use Prim.Native.Nat.{ℕ, _+_, _<_, _≤_}
 use native.Mathlib.Omega.{arith}
-use native.Mathlib.Decide.{decLt}
 use lib.ListN.{length, set, length-set}
 use Rattle.packed_arcs.specs.Entries.{entry}
 use Rattle.packed_arcs.proofs.ListLoops.{set-cases}
 use Rattle.arc_index.specs.ArcIndex.{noArc}
-use Rattle.match_state.specs.Matching.{Bipartite, Noted, Matching, Priced, State}
+use Rattle.match_state.specs.Matching.{Noted, State}
 use Rattle.match_augmenting.specs.Augmenting.{Onward, Alternating, Augmented}
 use Rattle.match_state.proofs.Pairs.{noted}
 

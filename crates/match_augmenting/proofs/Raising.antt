@@ -1,5 +1,4 @@
 -- Potentials that rose after a search: still no arc has a negative reduced cost, and parent arcs have none.
--- Assumes nothing.
 use mathlib.Core.Path.{_≡_, refl, sym, _∙_, ap, subst}
 use mathlib.Core.Bool.{Bool, true, false}
 use mathlib.Core.List.{List}
@@ -16,10 +15,10 @@ use Rattle.packed_arcs.proofs.ListLoops.{set-cases}
 use Rattle.packed_arcs.proofs.Zeros.{zeros-fewer}
 use Rattle.arc_index.specs.ArcIndex.{noArc}
 use Rattle.vertex_queue.specs.VertexQueue.{waitsNot}
-use Rattle.match_state.specs.Matching.{Noted, State}
-use Rattle.match_tree.specs.Tree.{InTree, Parent, TakenLeft, Tree}
+use Rattle.match_state.specs.Matching.{State}
+use Rattle.match_tree.specs.Tree.{InTree, Parent, Tree}
 use Rattle.match_augmenting.specs.Augmenting.{riseOf, Raised, Onward, Alternating}
-use Rattle.match_tree.proofs.TreeLaws.{right-end, left-end, partner, in-tree-near}
+use Rattle.match_tree.proofs.TreeLaws.{right-end, partner, in-tree-near}
 use Rattle.match_state.proofs.Pairs.{noted}
 
 -- nobody rises by more than the distance

@@ -1,5 +1,4 @@
 -- A search that reached an exposed left vertex: what raising the potentials and augmenting ask for, and what they give.
--- Assumes nothing.
 use mathlib.Core.Path.{_≡_, sym, _∙_, subst}
 use mathlib.Core.List.{List}
 use Prim.Native.Nat.{ℕ, _<_, _≤_}

@@ -1,5 +1,4 @@
 -- What follows a search that reached an exposed left vertex: potentials that rise by what a vertex is nearer to the root, and a matching that grows along parent arcs.
--- Assumes nothing.
 use mathlib.Core.Path.{_≡_}
 use mathlib.Core.List.{List}
 use mathlib.Core.Logic.{_⊎_, _≢_}

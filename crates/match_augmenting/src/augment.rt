@@ -1,6 +1,5 @@
 // The matching after a search that reached an exposed vertex: one arc more.
-ghost use mathlib.Core.Path.{_≡_};
-ghost use Prim.Native.Nat.{_<_, _≤_};
+ghost use Prim.Native.Nat.{_<_};
 ghost use lib.ListN.{length};
 ghost use Rattle.arc_index.specs.Columns.{recordTails, recordHeads, recordWeights};
 ghost use Rattle.match_augmenting.specs.Augmenting.{Alternating, Augmented};

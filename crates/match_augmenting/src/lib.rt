@@ -1,5 +1,4 @@
 // What follows a search that reached an exposed left vertex: potentials rise, and the matching grows along the path that was found.
-ghost use mathlib.Core.Path.{_≡_};
 ghost use Prim.Native.Nat.{_<_};
 ghost use lib.ListN.{length};
 ghost use Rattle.arc_index.specs.Columns.{recordTails, recordHeads, recordWeights};

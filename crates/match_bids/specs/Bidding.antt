@@ -1,5 +1,4 @@
 -- Bids: the cheapest arcs to a right vertex, and what changes where one of them is taken.
--- Assumes nothing.
 use mathlib.Core.Path.{_≡_}
 use mathlib.Core.List.{List}
 use mathlib.Core.Logic.{_≢_}

@@ -1,9 +1,8 @@
 -- What is handed over, once it is tested, and what comes of the search.
--- Assumes nothing.
 use mathlib.Core.Path.{_≡_, refl, sym, _∙_, ap, subst}
-use mathlib.Core.Bool.{Bool, true, false, not, _&&_}
+use mathlib.Core.Bool.{Bool, true, _&&_}
 use mathlib.Core.List.{List, _∷_}
-use mathlib.Core.Logic.{_⊎_, inl, inr}
+use mathlib.Core.Logic.{inl}
 use Prim.Native.Nat.{ℕ, zero, suc, _+_, _*_, _<_, _≤_}
 use native.Mathlib.Omega.{arith}
 use lib.Dec.{T, eqb, leb, ltb, eqb→eq, leb→le, ltb→lt}
@@ -15,13 +14,13 @@ use Rattle.arc_records.specs.Arcs.{wordArc}
 use Rattle.packed_arcs.specs.Entries.{entry, zeroList}
 use Rattle.packed_arcs.proofs.LentParts.{zero-at}
 use Rattle.packed_arcs.proofs.ListLoops.{each-entry}
-use Rattle.arc_index.specs.ArcIndex.{noArc, linksOf, recordEnds, indexable}
+use Rattle.arc_index.specs.ArcIndex.{noArc}
 use Rattle.arc_index.specs.Chains.{Chains}
 use Rattle.arc_index.specs.declared.End.the-variants.{Head}
 use Rattle.arc_index.proofs.Building.{Built, links-built}
 use Rattle.arc_index.proofs.Ends.{record-chains}
 use Rattle.arc_index.specs.Columns.{recordTails, recordHeads, recordWeights}
-use Rattle.match_state.specs.Matching.{Bipartite, Noted, State}
+use Rattle.match_state.specs.Matching.{Bipartite, State}
 use Rattle.match_results.specs.Results.{Amounts, Marks}
 use Rattle.match_least_cost.specs.Outcome.{leadsAcross, matchable, FindOutcome}
 use Rattle.match_rounds.specs.Serving.{PassOutcome}

@@ -1,5 +1,4 @@
 -- What is handed over, and what is handed back: amounts of a perfect matching, or marks that show that there is none.
--- Assumes nothing.
 use mathlib.Core.Path.{_≡_}
 use mathlib.Core.Bool.{Bool, true, false, _&&_}
 use mathlib.Core.List.{List}

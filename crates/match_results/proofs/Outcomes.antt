@@ -1,5 +1,4 @@
 -- What the matching and a search that found nothing say: a perfect matching of least cost, or none.
--- Assumes nothing.
 use mathlib.Core.Path.{_≡_, refl, sym, ap, subst, _∙_}
 use mathlib.Core.List.{List}
 use mathlib.Core.Logic.{_⊎_, inl, inr, _≢_}

@@ -1,5 +1,4 @@
 -- What is written at the end: amounts of a perfect matching, or marks that show that there is none.
--- Assumes nothing.
 use mathlib.Core.Path.{_≡_}
 use mathlib.Core.List.{List}
 use Prim.Native.Nat.{ℕ, _+_, _-_, _<_, _≤_}

@@ -1,5 +1,4 @@
 -- What comes of matching exposed right vertices: a matching that has them, or one of them that no exposed left vertex reaches.
--- Assumes nothing.
 use mathlib.Core.Path.{_≡_}
 use mathlib.Core.Bool.{Bool, true, false}
 use mathlib.Core.List.{List}

@@ -1,13 +1,12 @@
 -- The search from its start to its end: what holds before the arcs to a vertex are looked at, and what comes of it.
--- Assumes nothing.
-use mathlib.Core.Path.{_≡_, refl, sym, _∙_, ap, subst}
+use mathlib.Core.Path.{_≡_, refl, sym, _∙_, subst}
 use mathlib.Core.List.{List}
 use mathlib.Core.Logic.{_⊎_, inl, inr}
-use Prim.Native.Nat.{ℕ, _+_, _*_, _<_, _≤_}
+use Prim.Native.Nat.{ℕ, _+_, _<_, _≤_}
 use native.Mathlib.Omega.{arith}
 use native.Mathlib.Decide.{decLt}
 use lib.ListN.{length, set, replicate, length-replicate, getD-replicate}
-use Rattle.packed_arcs.specs.Entries.{entry, zeroList, zeroCount}
+use Rattle.packed_arcs.specs.Entries.{entry, zeroList}
 use Rattle.packed_arcs.proofs.LentParts.{zero-at}
 use Rattle.packed_arcs.proofs.Zeros.{zeros-all}
 use Rattle.arc_index.specs.ArcIndex.{noArc}

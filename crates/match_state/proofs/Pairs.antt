@@ -1,5 +1,4 @@
 -- Laws of a matching: what is noted at a vertex, and which arc that is.
--- Assumes nothing.
 use mathlib.Core.Path.{_≡_}
 use mathlib.Core.List.{List}
 use mathlib.Core.Logic.{_⊎_, inl, inr}

@@ -1,5 +1,4 @@
 -- A bipartite network, a matching in it, and potentials that show how cheap the matching is.
--- Assumes nothing.
 use mathlib.Core.Path.{_≡_}
 use mathlib.Core.List.{List}
 use mathlib.Core.Logic.{_⊎_}

@@ -1,19 +1,16 @@
 -- The tree of the search: vertices in it, and what an arc that is looked at keeps of it.
--- Assumes nothing.
 use mathlib.Core.Path.{_≡_, refl, sym, _∙_, ap, subst}
-use mathlib.Core.Bool.{Bool, true, false}
 use mathlib.Core.List.{List}
-use mathlib.Core.Logic.{_⊎_, inl, inr, _≢_, ⊎-elim}
-use Prim.Native.Nat.{ℕ, zero, suc, _+_, _*_, _-_, _/_, _<_, _≤_, min}
+use mathlib.Core.Logic.{_⊎_, _≢_, ⊎-elim}
+use Prim.Native.Nat.{ℕ, _+_, _*_, _-_, _<_, _≤_}
 use native.Mathlib.Omega.{arith}
 use native.Mathlib.Decide.{ℕ-discrete, decLt}
 use lib.ListN.{length, set, length-set}
-use Rattle.packed_arcs.specs.Entries.{entry, zeroCount}
+use Rattle.packed_arcs.specs.Entries.{entry}
 use Rattle.packed_arcs.proofs.ListLoops.{set-cases}
 use Rattle.arc_index.specs.ArcIndex.{noArc}
-use Rattle.vertex_queue.specs.VertexQueue.{waitsNot}
-use Rattle.match_state.specs.Matching.{Bipartite, Noted, Matching, Priced, State}
-use Rattle.match_tree.specs.Tree.{InTree, Parent, TakenLeft, Tree}
+use Rattle.match_state.specs.Matching.{State}
+use Rattle.match_tree.specs.Tree.{InTree, Parent, Tree}
 use Rattle.match_state.proofs.Pairs as pairs
 use Rattle.match_state.proofs.Pairs.{noted}
 

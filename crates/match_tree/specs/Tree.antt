@@ -1,9 +1,8 @@
 -- A search for an exposed left vertex, back from an exposed right one, the root: distances by reduced cost, parents, and the order in which left vertices were taken.
--- Assumes nothing.
 use mathlib.Core.Path.{_≡_}
 use mathlib.Core.Bool.{Bool, true, false}
 use mathlib.Core.List.{List}
-use Prim.Native.Nat.{ℕ, _+_, _*_, _-_, _/_, _<_, _≤_, min}
+use Prim.Native.Nat.{ℕ, _+_, _*_, _/_, _<_, _≤_, min}
 use lib.ListN.{length, set}
 use Rattle.packed_arcs.specs.Entries.{entry, zeroCount}
 use Rattle.arc_index.specs.ArcIndex.{noArc}

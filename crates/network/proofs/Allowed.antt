@@ -1,5 +1,4 @@
 -- The tests of checks 1, 2, 3, 6, 7, 8 and 9 hold exactly where their rules do.
--- Assumes nothing.
 use mathlib.Core.Path.{_≡_, refl, sym, _∙_, ap}
 use mathlib.Core.Logic.{_≢_, _⊎_, inl, inr}
 use mathlib.Core.Bool.{Bool, not, _&&_}

@@ -1,6 +1,5 @@
 -- One load more, among others and at the end, as a session repeats them: what each sum becomes, and how large a sum can be.
--- Assumes nothing.
-use mathlib.Core.Path.{_≡_, refl, ap}
+use mathlib.Core.Path.{_≡_}
 use mathlib.Core.Bool.{Bool}
 use mathlib.Core.List.{List, [], _∷_, _++_, append-nil, map-append}
 use Prim.Native.Nat.{ℕ, _+_, _*_, _≤_}

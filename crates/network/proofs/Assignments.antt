@@ -1,5 +1,4 @@
 -- Assignments: the sums of potentials over pumps and sites, the bound that they give, and the marks that rule every assignment out.
--- Assumes nothing.
 use mathlib.Core.Path.{_≡_, _∙_}
 use mathlib.Core.Bool.{Bool, false}
 use mathlib.Core.List.{List}

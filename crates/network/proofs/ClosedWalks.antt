@@ -1,5 +1,4 @@
 -- Closed walks: none where numbers rise along every arc, and one where amounts circulate.
--- Assumes nothing.
 use mathlib.Core.Path.{_≡_, refl, sym}
 use mathlib.Core.Logic.{_≢_}
 use mathlib.Core.List.{List, [], _∷_}

@@ -1,5 +1,4 @@
 -- Weak duality of flows and cuts: no flow carries more from the source to the sink than a cut between them holds.
--- Assumes nothing.
 use mathlib.Core.Path.{_≡_, refl}
 use mathlib.Core.Logic.{_≢_, inl, inr}
 use mathlib.Core.Bool.{Bool, true, false}

@@ -1,5 +1,4 @@
 -- The keys of arcs: below p, different for different arcs, and so for arcs that reading accepts.
--- Assumes nothing.
 use mathlib.Core.Path.{_≡_}
 use mathlib.Core.List.{List, map}
 use Prim.Native.Nat.{_<_}

@@ -1,5 +1,4 @@
 -- The true answer is one, and it is the same for every order of the arcs.
--- Assumes nothing.
 use mathlib.Core.Path.{_≡_, refl, sym, _∙_, ap}
 use mathlib.Core.List.{List}
 use Prim.Native.Nat.{ℕ, _≤_}

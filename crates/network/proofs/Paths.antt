@@ -1,5 +1,4 @@
 -- Walks: none is shorter than the difference of potentials at its ends, none leaves a closed set, and amounts with the balances of a path hold one.
--- Assumes nothing.
 use mathlib.Core.Path.{_≡_, refl, sym, _∙_, ap}
 use mathlib.Core.Logic.{inl, inr}
 use mathlib.Core.Bool.{Bool, true, false, false≢true}

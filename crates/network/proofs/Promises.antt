@@ -1,5 +1,4 @@
 -- The promises of specs/Promises.antt, kept.
--- Assumes nothing.
 use Rattle.network.specs.Question.{asks}
 use Rattle.network.specs.Promises.{OneAnswer, AnyOrder, Sound, SelfLoopsRead, SelfLoopsCancel, SelfLoopsStay, SelfLoopsChangeNothing, SelfLoopsAreLoops, SelfLoopsCertified, TestsMean, TestsSuffice, TestsNeeded, KeysTell, KeysBelow, KeysDiffer}
 use Rattle.network.proofs.Allowed.{asked-rule, asked-test, size-rule, size-test, ends-rule, ends-test, joins-rule, joins-test, weight-rule, weight-test, claim-rule, claim-test}

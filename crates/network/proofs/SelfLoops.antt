@@ -1,5 +1,4 @@
 -- Self-loops: which are read, that they change no balance, no cut and no true answer, and what they may carry in a certificate.
--- Assumes nothing.
 use mathlib.Core.Path.{_≡_, refl, sym, _∙_, ap, fun-ext, subst}
 use mathlib.Core.Logic.{_≢_, _↔_, inl, inr}
 use mathlib.Core.Bool.{Bool, true, false, not, _&&_}
@@ -8,11 +7,10 @@ use Prim.Native.Nat.{ℕ, _+_, _*_, _≤_, _<_}
 use native.Mathlib.Omega.{arith}
 use native.Mathlib.Decide.{ℕ-discrete}
 use borrow.Author.Tests.{eq-eqb, ne-eqb}
-use lib.Dec.{T, eqb}
+use lib.Dec.{T}
 use lib.IntN.{ℤ, pos, _+ℤ_}
 use lib.ListN.{length}
 use lib.Signed.{_≤ℤ_}
-use Rattle.prelude.specs.Choice.{pick, indicator}
 use Rattle.prelude.specs.Lists.{Every, Member}
 use Rattle.prelude.proofs.Booleans.{false→not}
 use Rattle.prelude.proofs.Integers.{signed, parts-add, parts-sub}
@@ -20,7 +18,7 @@ use Rattle.prelude.proofs.Lists.{every-map, every-image, image-every, every-ins
 use Rattle.arc_records.specs.Limits.{mostWeight}
 use Rattle.arc_records.specs.Arcs.{Arc, arcOf, delta}
 use Rattle.network.specs.Network.{SelfLoop, withoutSelfLoops, Load, arcs, sumOf, balance, crosses, sumAcross, total}
-use Rattle.network.specs.Question.{Question, shortestPath, maximumFlow, assignment, acyclicity, unasked, Setting, asks, Asked, unitCost, unitsMost, TwoVertices, EndsFor, Opened, SidesFor, Joins, Allowed, Admissible, Answer, value, none, Leads, Walk, ShortestPath, NoWalk, TrueFor, TrueAnswer}
+use Rattle.network.specs.Question.{Question, shortestPath, maximumFlow, assignment, acyclicity, unasked, Setting, asks, Asked, unitCost, unitsMost, TwoVertices, EndsFor, Opened, SidesFor, Joins, Allowed, Admissible, Answer, value, none, Leads, Walk, ShortestPath, TrueFor, TrueAnswer}
 use Rattle.network.specs.Certificate.{marked, endsOf, Sums, sumsOf, Rules, noShortcut, staysInside, pathRules, flowRules, noPathRules, rulesFor, CertifiedBy, claimFor, Certified}
 use Rattle.network.specs.Promises.{PathOrFlow, MayCarry}
 use Rattle.network.proofs.Rules.{PathBalances, PathCertificate, path-rules}

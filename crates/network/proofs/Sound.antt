@@ -1,5 +1,4 @@
 -- Each certificate's rules imply the true answer, for the arcs in any order.
--- Assumes nothing.
 use mathlib.Core.Path.{_≡_, refl, sym, _∙_, ap}
 use mathlib.Core.Logic.{inl, inr}
 use mathlib.Core.Bool.{true, false}

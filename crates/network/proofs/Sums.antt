@@ -1,5 +1,4 @@
 -- Sums over loads, and the lemma that takes a sum over arcs to a sum over vertices.
--- Assumes nothing.
 use mathlib.Core.Path.{_≡_, refl, sym, ap}
 use mathlib.Core.Bool.{Bool, true, false, not, _&&_}
 use mathlib.Core.Logic.{_≢_, _⊎_, inl, inr}

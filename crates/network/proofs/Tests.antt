@@ -1,15 +1,13 @@
 -- An annotation passes the checks exactly where it meets the rules of its row, and gives the answer of the row.
--- Assumes nothing.
 use mathlib.Core.Path.{_≡_, refl}
 use mathlib.Core.List.{List}
-use Prim.Native.Nat.{ℕ, _≤_}
-use lib.Dec.{T, leb, leb→le, le→leb}
+use Prim.Native.Nat.{ℕ}
+use lib.Dec.{leb, leb→le, le→leb}
 use lib.IntN.{ℤ}
-use Rattle.prelude.specs.Lists.{all}
 use Rattle.prelude.proofs.Lists.{all→every, every→all}
 use Rattle.prelude.proofs.Sums.{allTo-at, at-allTo}
 use Rattle.network.specs.Network.{Load, balance}
-use Rattle.network.specs.Question.{Question, shortestPath, maximumFlow, assignment, acyclicity, unasked, Setting, asks, Answer, value, none}
+use Rattle.network.specs.Question.{Question, shortestPath, maximumFlow, assignment, acyclicity, unasked, Setting, asks, Answer}
 use Rattle.network.specs.Certificate.{Claim, ofValue, ofNone, Rules, rulesFor, marked, endsOf, sumsOf, nodeMeets, CertifiedBy, claimFor, Certified}
 use Rattle.network.specs.Tests.{answerOf, PassedFor, Passed}
 

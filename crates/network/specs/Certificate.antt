@@ -1,5 +1,4 @@
 -- The certificates (PANEL 5): what is asked of node numbers y, one for each vertex, and of the arcs with amounts, f. One row of rules for each question and claim.
--- Assumes nothing.
 use mathlib.Core.Path.{_≡_}
 use mathlib.Core.Logic.{_⊎_}
 use mathlib.Core.Bool.{Bool, true, false, not, _&&_}

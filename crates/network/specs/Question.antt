@@ -1,5 +1,4 @@
 -- The questions, what may be asked, and the true answers by the textbook (PANEL 3).
--- Assumes nothing.
 use mathlib.Core.Path.{_≡_}
 use mathlib.Core.Logic.{_≢_}
 use mathlib.Core.List.{List, [], _∷_}

@@ -1,5 +1,4 @@
 -- The numbered checks of the steps (PANEL 6), each once: as tests, and as lists in the order in which they run.
--- Assumes nothing.
 use mathlib.Core.Bool.{Bool, true, false, not, _&&_}
 use mathlib.Core.List.{List, [], _∷_, _++_}
 use Prim.Native.Nat.{ℕ, suc, _%_}

@@ -1,5 +1,4 @@
 -- Marks along the path, from the vertex on from which an arc enters the last: a cycle.
--- Assumes nothing.
 use mathlib.Core.Path.{_≡_, refl, sym, _∙_, ap, subst}
 use mathlib.Core.Logic.{⊎-elim}
 use mathlib.Core.List.{List}

@@ -1,5 +1,4 @@
 -- The current arcs of the vertices: at first the first ones, then moving on, past arcs from vertices with a rank.
--- Assumes nothing.
 use mathlib.Core.Path.{_≡_, refl, sym, _∙_, ap, subst}
 use mathlib.Core.Logic.{_≢_, ⊎-elim}
 use mathlib.Core.List.{List}

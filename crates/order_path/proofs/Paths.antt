@@ -1,5 +1,4 @@
 -- The path: empty, longer by a vertex, shorter by its last vertex, and the places of its vertices.
--- Assumes nothing.
 use mathlib.Core.Path.{_≡_, refl, sym, _∙_, ap, subst}
 use mathlib.Core.Logic.{_≢_, ⊎-elim}
 use mathlib.Core.List.{List}

@@ -1,5 +1,4 @@
 -- The search step by step: the path grows, and its last vertex gets the next rank.
--- Assumes nothing.
 use mathlib.Core.Path.{_≡_, sym, _∙_, ap, subst}
 use mathlib.Core.Logic.{⊎-elim}
 use mathlib.Core.List.{List}

@@ -1,14 +1,13 @@
 -- What the search is handed and what it hands back: records of arcs; ranks of the vertices that rise along every arc, or marks on the arcs of a cycle.
--- Assumes nothing.
 use mathlib.Core.Path.{_≡_}
 use mathlib.Core.Bool.{Bool, true, false, _&&_}
-use mathlib.Core.List.{List, map}
+use mathlib.Core.List.{List}
 use Prim.Native.Nat.{ℕ, _<_, _≤_}
 use lib.Dec.{eqb, leb, ltb}
 use lib.ListN.{length}
 use Rattle.prelude.specs.Lists.{all}
 use Rattle.arc_records.specs.Limits.{mostVertices, mostArcs}
-use Rattle.arc_records.specs.Arcs.{wordArc, wordArcs}
+use Rattle.arc_records.specs.Arcs.{wordArc}
 use Rattle.packed_arcs.specs.Entries.{entry, zeroList, flowAt}
 use Rattle.arc_index.specs.Columns.{recordTails, recordHeads}
 use Rattle.order_path.specs.declared.Found.{Found}

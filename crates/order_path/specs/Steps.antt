@@ -1,9 +1,8 @@
 -- What the steps of the search keep: an index of the arcs by head, a path of vertices without a rank, and ranks given one after the other.
--- Assumes nothing.
 use mathlib.Core.Path.{_≡_}
 use mathlib.Core.Logic.{_≢_}
-use mathlib.Core.List.{List, [], _∷_}
-use Prim.Native.Nat.{ℕ, zero, suc, _+_, _-_, _<_, _≤_}
+use mathlib.Core.List.{List}
+use Prim.Native.Nat.{ℕ, _+_, _-_, _<_, _≤_}
 use lib.ListN.{length, set}
 use Rattle.arc_records.specs.Limits.{mostVertices, mostArcs}
 use Rattle.packed_arcs.specs.Entries.{entry, zeroList, zeroCount}

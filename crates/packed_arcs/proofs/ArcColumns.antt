@@ -1,5 +1,4 @@
 -- The columns of packed arcs: how long they are, and what stands in them.
--- Assumes nothing.
 use mathlib.Core.Path.{_≡_}
 use mathlib.Core.List.{List}
 use Prim.Native.Nat.{ℕ, _<_}

@@ -1,5 +1,4 @@
 -- The sum of amounts at a vertex, where one amount changes.
--- Assumes nothing.
 use mathlib.Core.Path.{_≡_}
 use mathlib.Core.Bool.{Bool, true, false}
 use mathlib.Core.List.{List, [], _∷_}

@@ -1,5 +1,4 @@
 -- Parts of arrays that are lent, and lent again: how long they are and what they hold.
--- Assumes nothing.
 use mathlib.Core.Path.{_≡_, refl, sym, _∙_, ap, subst}
 use mathlib.Core.List.{List, _∷_, _++_}
 use Prim.Native.Nat.{ℕ, zero, suc, _≤_}

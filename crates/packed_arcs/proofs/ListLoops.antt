@@ -1,5 +1,4 @@
 -- What loops over a list reach: an entry that was stored, a list that was written from its front or set to 0, and the test of every entry.
--- Assumes nothing.
 use mathlib.Core.Path.{_≡_, refl, sym, _∙_, ap, subst}
 use mathlib.Core.Bool.{Bool, true, false, _&&_}
 use mathlib.Core.List.{List, [], _∷_}

@@ -1,5 +1,4 @@
 -- Lists of numbers: their entries and the sum of them, zeros and how many there are, and the sum of amounts at a vertex.
--- Assumes nothing.
 use mathlib.Core.List.{List, [], _∷_}
 use Prim.Native.Nat.{ℕ, zero, suc, _+_, _*_}
 use lib.Dec.{eqb}

@@ -1,5 +1,4 @@
 -- The limits of what the engine takes, as tests.
--- Assumes nothing.
 use mathlib.Core.Bool.{Bool, _&&_}
 use mathlib.Core.List.{List}
 use Prim.Native.Nat.{ℕ}

@@ -1,5 +1,4 @@
 -- Arcs packed in one number each, and their columns.
--- Assumes nothing.
 use mathlib.Core.List.{List, map}
 use Prim.Native.Nat.{ℕ, _+_, _*_, _/_, _%_}
 

@@ -1,5 +1,4 @@
 -- Replies as one number each.
--- Assumes nothing.
 use Prim.Native.Nat.{ℕ, _+_}
 use Rattle.network.specs.Question.{value, none}
 use Rattle.state.specs.Answers.{Said, accepted, gives, refused}

@@ -1,5 +1,4 @@
 -- The promise of specs/Promises.antt, kept.
--- Assumes nothing.
 use Rattle.program_io.specs.Counted.{counted}
 use Rattle.plan_annotations.specs.AnnotationLine.{fileReply}
 use Rattle.plan_annotations.specs.Promises.{RoomEnough}

@@ -1,5 +1,4 @@
 -- How long an annotation is: a room of 32768 bytes is large enough for that of every accepted file, so check 20 refuses none.
--- Assumes nothing.
 use mathlib.Core.Path.{_≡_, ap, _∙_}
 use mathlib.Core.Bool.{Bool}
 use mathlib.Core.List.{List, [], _∷_}

@@ -1,5 +1,4 @@
 -- What the annotating program prints, as a function of the bytes of the network file, of the room for the annotation and of whether it was saved (PANEL 10).
--- Assumes nothing.
 use mathlib.Core.Bool.{Bool}
 use mathlib.Core.List.{List}
 use Prim.Native.Nat.{ℕ}

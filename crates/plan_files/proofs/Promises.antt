@@ -1,5 +1,4 @@
 -- The promise of specs/Promises.antt, kept.
--- Assumes nothing.
 use mathlib.Core.Path.{_≡_}
 use mathlib.Core.Bool.{Bool, true, false}
 use mathlib.Core.List.{List, _++_}
@@ -11,7 +10,7 @@ use Rattle.prelude.specs.Choice.{pick}
 use Rattle.prelude.specs.Checks.{Check, settle}
 use Rattle.prelude.proofs.Settle.{settled-back}
 use Rattle.network.specs.Question.{Answer}
-use Rattle.state.specs.Answers.{Said, accepted, gives, refused}
+use Rattle.state.specs.Answers.{accepted, gives, refused}
 use Rattle.judging.specs.Judging.{judged, networkChecks, annotationChecks}
 use Rattle.program_io.specs.Counted.{counted}
 use Rattle.plan_files.specs.AnswerLine.{pointIn, programAnswer}

@@ -1,5 +1,4 @@
 -- What the judging program prints, as a function of the bytes of its three files (PANEL 10).
--- Assumes nothing.
 use mathlib.Core.List.{List, [], _∷_}
 use Prim.Native.Nat.{ℕ}
 use lib.Dec.{leb}

@@ -1,5 +1,4 @@
 -- The promise of specs/Promises.antt, kept: the file of a minute has at most 11 + 4 * 4096 bytes.
--- Assumes nothing.
 use mathlib.Core.Path.{_∙_, ap}
 use mathlib.Core.Bool.{Bool}
 use mathlib.Core.List.{[], _∷_}

@@ -1,5 +1,4 @@
 -- What the scheduling program prints and writes, as a function of its argument, of the bytes that it read and of whether the file was saved (PANEL 14).
--- Assumes nothing.
 use mathlib.Core.Path.{_≡_}
 use mathlib.Core.Bool.{Bool}
 use mathlib.Core.List.{List, [], _∷_}

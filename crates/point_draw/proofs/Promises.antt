@@ -1,21 +1,19 @@
 -- What is promised of a drawn point is kept.
--- Assumes nothing.
 use mathlib.Core.Path.{_≡_, refl, sym, ap, ap₂, _∙_}
 use mathlib.Core.Bool.{Bool, true, false}
 use mathlib.Core.List.{List, [], _∷_}
-use Prim.Native.Nat.{ℕ, zero, suc, _+_, _*_, _%_, _^_, _≤_, _<_}
+use Prim.Native.Nat.{ℕ, zero, suc, _+_, _*_, _<_}
 use native.Mathlib.Decide.{ℕ-discrete}
 use native.Mathlib.Omega.{arith}
-use borrow.Author.Tests.{lt-ltb, le-ltb, ltb-true, eq-eqb, ne-eqb}
+use borrow.Author.Tests.{lt-ltb, ltb-true, eq-eqb, ne-eqb}
 use lib.Dec.{ltb, eqb}
 use Rattle.prelude.specs.Choice.{pick, indicator}
-use Rattle.prelude.specs.Sums.{sumTo, count}
+use Rattle.prelude.specs.Sums.{sumTo}
 use Rattle.prelude.proofs.Sums.{sumTo-ext, sumTo-add, sumTo-none, sumTo-split}
 use Rattle.field.specs.Field.{p}
 use Rattle.file_fields.specs.Bytes.{read32, bytes32}
-use Rattle.point_draw.specs.declared.Drawn.{Drawn}
 use Rattle.point_draw.specs.declared.Drawn.the-variants.{Point, Nothing}
-use Rattle.point_draw.specs.Draw.{low31, orElse, firstPoint, wordsIn, drawn}
+use Rattle.point_draw.specs.Draw.{low31, orElse, firstPoint, wordsIn}
 use Rattle.point_draw.specs.Promises.{DrawsPoints, isDrawn, words, countLists, TwoWordsEach, NoOther, EquallyLikely}
 
 -- ---- what is drawn is a point

@@ -1,5 +1,4 @@
 -- How a point is drawn from random bytes, and what the program that draws it prints (PANEL 4 and 10).
--- Assumes nothing.
 use mathlib.Core.Bool.{Bool}
 use mathlib.Core.List.{List, [], _∷_}
 use Prim.Native.Nat.{ℕ, _*_, _/_, _%_}

@@ -1,5 +1,4 @@
 -- What is promised of a drawn point; proofs/Promises.antt keeps it.
--- Assumes nothing.
 use mathlib.Core.Path.{_≡_}
 use mathlib.Core.Bool.{Bool, false}
 use mathlib.Core.List.{List, [], _∷_}

@@ -1,5 +1,4 @@
 -- Fingerprints of arcs: one arc more, the test of check 14, and how few points mislead.
--- Assumes nothing.
 use mathlib.Core.Path.{_≡_, refl, sym, _∙_, ap}
 use mathlib.Core.List.{List, [], _∷_, _++_, map}
 use Prim.Native.Nat.{ℕ, _<_}
@@ -7,7 +6,6 @@ use native.Mathlib.Omega.{arith}
 use lib.Dec.{T, eqb→eq, eqb-refl, ltb→lt, lt→ltb}
 use lib.ListN.{length, length-map}
 use Rattle.prelude.specs.Lists.{Every, Distinct, Perm, AtMost}
-use Rattle.prelude.proofs.Lists.{every-map}
 use Rattle.field.specs.Field.{p, fingerprint, product}
 use Rattle.field.specs.Promises.{misleading}
 use Rattle.field.proofs.Promises.{few-bad}

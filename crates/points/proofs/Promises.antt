@@ -1,19 +1,12 @@
 -- The promises of specs/Promises.antt, kept.
--- Assumes nothing.
-use mathlib.Core.Path.{_≡_, refl, sym, ap}
-use mathlib.Core.List.{List, map}
-use Prim.Native.Nat.{ℕ}
-use lib.Dec.{eqb-refl}
-use Rattle.prelude.specs.Lists.{Perm}
+use mathlib.Core.Path.{refl, sym}
+use mathlib.Core.List.{map}
 use Rattle.prelude.proofs.Permutations.{perm-map}
 use Rattle.field.proofs.Promises.{permutations-agree}
-use Rattle.arc_records.specs.Arcs.{Arc}
 use Rattle.network.specs.Network.{key}
 use Rattle.network.proofs.Keys.{arc-keys-below, keys-tell}
 use Rattle.points.specs.Points.{printOf}
 use Rattle.points.specs.Promises.{FewMislead, SameEverywhere}
-use Rattle.points.specs.declared.Point.{Point}
-use Rattle.points.specs.declared.Print.{Print}
 use Rattle.points.proofs.Prints.{few-misled, print-same}
 
 pub few-mislead : FewMislead

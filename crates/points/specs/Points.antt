@@ -1,9 +1,8 @@
 -- The point of a session and the fingerprint of arcs at it (PANEL 4). Everything that depends on how many points there are is here.
--- Assumes nothing.
 use mathlib.Core.Bool.{Bool}
 use mathlib.Core.List.{List, map}
 use Prim.Native.Nat.{ℕ, _+_, _<_}
-use lib.Dec.{eqb, leb, ltb}
+use lib.Dec.{eqb, ltb}
 use Rattle.field.specs.Field.{p, fingerprint, extended}
 use Rattle.field.specs.Promises.{misleading}
 use Rattle.arc_records.specs.Arcs.{Arc}

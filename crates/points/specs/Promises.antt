@@ -1,5 +1,4 @@
 -- What is promised of fingerprints of arcs (PANEL 4); proofs/Promises.antt keeps it.
--- Assumes nothing.
 use mathlib.Core.Path.{_≡_}
 use mathlib.Core.List.{List}
 use lib.ListN.{length}

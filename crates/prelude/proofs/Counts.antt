@@ -1,19 +1,14 @@
 -- How many numbers below a bound pass a test: the count is k at most exactly where no k + 1 different numbers pass.
--- Assumes nothing.
 use mathlib.Core.Path.{_≡_, refl, sym, _∙_, ap, subst}
-use mathlib.Core.Bool.{Bool, true, false, false≢true}
+use mathlib.Core.Bool.{Bool, true, false}
 use mathlib.Core.List.{List, [], _∷_}
-use Prim.Native.Nat.{ℕ, zero, suc, _+_, _≤_, _<_}
-use native.Mathlib.Nat.{le-trans}
-use native.Mathlib.Decide.{ℕ-discrete}
+use Prim.Native.Nat.{ℕ, zero, suc, _≤_, _<_}
 use native.Mathlib.Omega.{arith}
 use lib.Dec.{T}
 use lib.ListN.{length}
-use Rattle.prelude.specs.Choice.{indicator}
 use Rattle.prelude.specs.Lists.{Every, Distinct, AtMost}
 use Rattle.prelude.specs.Sums.{sumTo, count}
-use Rattle.prelude.proofs.Booleans.{T→true}
-use Rattle.prelude.proofs.Lists.{every-map, every-zip, Without, without}
+use Rattle.prelude.proofs.Lists.{every-map}
 
 -- the number x is below n and passes
 abbrev pub Passes : (ℕ → Bool) → ℕ → ℕ → Type 0

@@ -1,5 +1,4 @@
 -- What holds of every element of a list or of one, a list of different elements without one of them, and lists of what is numbered from 0 on.
--- Assumes nothing.
 use mathlib.Core.Path.{_≡_, refl, sym, _∙_, ap, ap₂, subst}
 use mathlib.Core.Logic.{inl, inr}
 use mathlib.Core.Bool.{Bool}

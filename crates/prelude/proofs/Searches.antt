@@ -1,5 +1,4 @@
 -- A test of a list, found from its front on: what a loop over its elements keeps. The elements are what `held` makes of the rows that the code has.
--- Assumes nothing.
 use mathlib.Core.Path.{_≡_, refl, sym, _∙_, ap}
 use mathlib.Core.Bool.{Bool, true, false, not}
 use mathlib.Core.List.{List, [], _∷_, map}

@@ -1,5 +1,4 @@
 -- Numbered checks, one after the other: the first that does not hold decides (PANEL 6).
--- Assumes nothing.
 use mathlib.Core.Bool.{Bool}
 use mathlib.Core.List.{List, [], _∷_}
 use Prim.Native.Nat.{ℕ}

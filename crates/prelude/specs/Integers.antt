@@ -1,5 +1,4 @@
 -- Tests of integers.
--- Assumes nothing.
 use mathlib.Core.Bool.{Bool, false, _&&_}
 use Prim.Native.Nat.{ℕ}
 use lib.Dec.{eqb}

@@ -1,5 +1,4 @@
 -- Lists: what holds of every element or of one, permutations, and how many different things meet a condition.
--- Assumes nothing.
 use mathlib.Core.Path.{_≡_}
 use mathlib.Core.Logic.{_⊎_}
 use mathlib.Core.Bool.{Bool, true, false, _&&_, _||_}

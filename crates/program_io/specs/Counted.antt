@@ -1,5 +1,4 @@
 -- How much of a file counts (PANEL 10).
--- Assumes nothing.
 use mathlib.Core.List.{List}
 use Prim.Native.Nat.{ℕ}
 use lib.ListN.{take}

@@ -1,5 +1,4 @@
 -- The lines that the programs print, as lists of bytes, and a line in a lent buffer (PANEL 10).
--- Assumes nothing.
 use mathlib.Core.Path.{_≡_}
 use mathlib.Core.Bool.{Bool}
 use mathlib.Core.List.{List, [], _∷_, _++_}

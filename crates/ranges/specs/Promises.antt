@@ -1,5 +1,4 @@
 -- What is promised of the table of ranges (PANEL 5 and 6, checks 9 and 10); proofs/Promises.antt keeps it.
--- Assumes nothing.
 use mathlib.Core.Path.{_≡_}
 use mathlib.Core.Logic.{_↔_}
 use mathlib.Core.Bool.{_&&_}

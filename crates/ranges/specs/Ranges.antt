@@ -1,5 +1,4 @@
 -- The ranges of node numbers (PANEL 5, check 10): the table that the code has, as a definition.
--- Assumes nothing.
 use mathlib.Core.Bool.{Bool, _&&_}
 use mathlib.Core.List.{List, [], _∷_}
 use Prim.Native.Nat.{ℕ}

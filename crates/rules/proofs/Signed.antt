@@ -1,5 +1,4 @@
 -- Signed numbers that a call returned, and tests of them by their bits: `search signed`.
--- Assumes nothing.
 use mathlib.Core.Path.{_≡_, sym, _∙_}
 use mathlib.Core.Bool.{Bool, true, false}
 use Prim.Native.Nat.{_<_, _^_}

@@ -1,5 +1,4 @@
 -- What the code holds of the ends of an arc, as the definitions of the network have them.
--- Assumes nothing.
 use Rattle.network.specs.Certificate.{Ends as EndsOfArc}
 use Rattle.rules.specs.declared.annotation.Ends.{Ends}
 

@@ -1,5 +1,4 @@
 -- What is seen of a list of answers: the first that is not `accepted`, and the last.
--- Assumes nothing.
 use mathlib.Core.Path.{_≡_, refl, sym, _∙_}
 use mathlib.Core.Logic.{_↔_}
 use mathlib.Core.Bool.{true, false}

@@ -1,5 +1,4 @@
 -- What holds of the lists that a session has accepted: the checks that each element passed.
--- Assumes nothing.
 use mathlib.Core.Path.{_≡_, refl, sym}
 use mathlib.Core.Logic.{_⊎_, inl, inr}
 use mathlib.Core.Bool.{Bool, true, false}
@@ -20,7 +19,7 @@ use Rattle.arc_records.specs.Limits.{mostArcs}
 use Rattle.arc_records.specs.Arcs.{Arc}
 use Rattle.network.specs.Network.{Load}
 use Rattle.network.specs.Question.{Setting, Allowed}
-use Rattle.network.specs.Tests.{arcChecks, readingChecks, claimOf, claimOk, claimingChecks, Numbers, nodeOk, numberingChecks, amountOk, ruleOk, repeatingChecks}
+use Rattle.network.specs.Tests.{arcChecks, readingChecks, claimOf, claimOk, Numbers, nodeOk, numberingChecks, amountOk, ruleOk, repeatingChecks}
 use Rattle.network.proofs.Allowed.{arc-rule}
 use Rattle.runs.specs.Run.{Step, read, end, claim, number, repeat, finish}
 use Rattle.runs.specs.Exchange.{Readable}

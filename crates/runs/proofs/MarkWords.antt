@@ -1,5 +1,4 @@
 -- The words of marks, folded over the node numbers: bit v is the mark of the vertex v.
--- Assumes nothing.
 use mathlib.Core.Path.{_≡_, refl, _∙_, ap, fun-ext}
 use mathlib.Core.Bool.{Bool, true, false}
 use mathlib.Core.List.{List, [], _∷_, _++_}

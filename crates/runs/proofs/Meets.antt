@@ -1,37 +1,33 @@
 -- Demand 2: a session answers exactly where the annotation meets every rule of the certificate, and what it answers on the arcs that were read is true.
--- Assumes nothing.
 use mathlib.Core.Path.{_≡_, refl, sym, _∙_, ap, subst}
 use mathlib.Core.Logic.{_↔_, inl}
-use mathlib.Core.Bool.{_&&_}
 use mathlib.Core.List.{List, [], _∷_, _++_}
 use Prim.Native.Nat.{ℕ, zero, suc, _+_, _≤_, _<_}
 use native.Mathlib.Omega.{arith}
-use native.Mathlib.Decide.{ℕ-discrete}
-use borrow.Author.Tests.{ne-eqb}
-use lib.Dec.{T, eqb, leb, eqb→eq, eqb-refl, leb→le, le→leb, ltb→lt, lt→ltb}
+use lib.Dec.{T, eqb, eqb→eq, eqb-refl, le→leb, ltb→lt, lt→ltb}
 use lib.IntN.{ℤ}
 use lib.ListN.{length, take, length-map}
 use lib.Seq.{take-all}
 use Rattle.prelude.specs.Checks.{Check, settle, Hold}
 use Rattle.prelude.specs.Lists.{Every, Member, Perm, all, at}
-use Rattle.prelude.proofs.Booleans.{and-left, and-right, both}
+use Rattle.prelude.proofs.Booleans.{and-left, and-right}
 use Rattle.prelude.proofs.Permutations.{perm-sym, perm-length, perm-every}
 use Rattle.prelude.proofs.Settle.{settled, hold-append, hold-left, hold-right, settled-back}
-use Rattle.prelude.proofs.Sums.{allTo-at, at-allTo}
+use Rattle.prelude.proofs.Sums.{allTo-at}
 use Rattle.arc_records.specs.Limits.{mostArcs}
 use Rattle.arc_records.specs.Arcs.{Arc}
 use Rattle.network.specs.Network.{Load, arcs}
-use Rattle.network.specs.Question.{Question, shortestPath, maximumFlow, assignment, acyclicity, unasked, Setting, asks, Allowed, Answer, TrueAnswer}
-use Rattle.network.specs.Certificate.{Claim, ofValue, ofNone, claimFor, Sums, rulesFor, rulesOf}
+use Rattle.network.specs.Question.{Setting, Allowed, Answer, TrueAnswer}
+use Rattle.network.specs.Certificate.{Claim, ofValue, ofNone, claimFor, rulesOf}
 use Rattle.network.specs.Tests.{readingAll, claimNumber, claimOf, claimOk, Numbers, nodeOk, amountOk, ruleOk, repeatingChecks, answerOf, Passed}
-use Rattle.network.proofs.Allowed.{arc-rule, arc-test}
+use Rattle.network.proofs.Allowed.{arc-test}
 use Rattle.network.proofs.Promises.{certificates-sound}
-use Rattle.network.proofs.Tests.{passed-certified, certified-passed, certified-answer}
+use Rattle.network.proofs.Tests.{certified-passed, certified-answer}
 use Rattle.ranges.specs.Promises.{pairs}
 use Rattle.ranges.proofs.Promises.{pairs-of-check-nine}
 use Rattle.points.specs.Points.{printOf}
 use Rattle.points.specs.declared.Point.{Point}
-use Rattle.points.proofs.Prints.{same-print, print-same}
+use Rattle.points.proofs.Prints.{print-same}
 use Rattle.points.proofs.Promises.{same-everywhere}
 use Rattle.state.specs.Answers.{Said, accepted, gives, refused}
 use Rattle.runs.specs.Run.{Step, read, end, claim, number, repeat, finish, runFrom, listRead}

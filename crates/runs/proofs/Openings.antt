@@ -1,5 +1,4 @@
 -- The checks of opening at a point hold exactly where opening accepts the setting and the point.
--- Assumes nothing.
 use mathlib.Core.List.{[], _∷_}
 use Rattle.prelude.specs.Checks.{_unless_, Hold}
 use Rattle.prelude.proofs.Settle.{hold-append, hold-left, hold-right}

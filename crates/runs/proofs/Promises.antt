@@ -1,5 +1,4 @@
 -- The promises of specs/Promises.antt, kept.
--- Assumes nothing.
 use Rattle.runs.specs.Promises.{VoidIsOver, OverForEver, RefusalLeaves, FiveChangesNothing, FinishEnds, RefusedOpeningVoid, OnlyRefusals}
 use Rattle.runs.specs.Promises.{OpeningAnswers, AnswersOfLists, HoldsAccepted, PointUnseen, ReadAsListed, ClaimsListed, AnswersExactly, TrueWhereSame}
 use Rattle.runs.specs.Promises.{FirstBroken, ExchangeGives, ExchangeFinishes, ExchangeTrue, CertificatesPass, FewWrong}

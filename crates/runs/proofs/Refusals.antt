@@ -1,11 +1,9 @@
 -- What refusals change, for every session and every step: demand 1's second sentence.
--- Assumes nothing.
 use mathlib.Core.Path.{_≡_, refl, sym, _∙_, ap, subst}
 use mathlib.Core.Bool.{Bool, true, false}
 use mathlib.Core.List.{List, [], _∷_}
 use Prim.Native.Nat.{ℕ}
 use native.Mathlib.Omega.{arith}
-use native.Mathlib.Decide.{ℕ-discrete}
 use borrow.Author.Tests.{ne-eqb}
 use Rattle.prelude.specs.Checks.{Check, _unless_, settle}
 use Rattle.prelude.specs.Choice.{pick}
@@ -19,7 +17,7 @@ use Rattle.session.specs.Session.{potentialsIn, sumsIn, fresh, void, hand, acce
 use Rattle.session.specs.Steps.{opening, readStep, endStep, claimStep, numberStep, repeatStep, finishStep}
 use Rattle.session.specs.declared.Reply.{Reply}
 use Rattle.session.specs.declared.Session.{Session}
-use Rattle.runs.specs.Run.{Step, read, end, claim, number, repeat, finish, step, run, sessionAfter, runFrom}
+use Rattle.runs.specs.Run.{Step, read, end, claim, number, repeat, finish, step, run, sessionAfter}
 use Rattle.runs.specs.Promises.{IsOver, VoidIsOver, OverForEver, RefusalLeaves, FiveChangesNothing, FinishEnds, RefusedOpeningVoid, OnlyRefusals}
 
 -- ---- the answers differ

@@ -1,5 +1,4 @@
 -- The sums over the repeated arcs, as the panel's machine words hold them: small enough, and what one load more makes of them.
--- Assumes nothing.
 use mathlib.Core.Path.{_≡_, sym, _∙_, ap}
 use mathlib.Core.Logic.{inl, inr}
 use mathlib.Core.Bool.{Bool, true, false}

@@ -1,6 +1,5 @@
 -- A run of a session is the run of the lists that it has accepted, for every opening: what its steps answer, the session that they hand back, and the list that was read.
 -- What is accepted does not depend on the point.
--- Assumes nothing.
 use mathlib.Core.Path.{_≡_, refl, sym, _∙_, ap, ap₂, subst}
 use mathlib.Core.Bool.{Bool, true, false}
 use mathlib.Core.List.{List, [], _∷_, _++_}

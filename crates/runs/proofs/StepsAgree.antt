@@ -1,11 +1,10 @@
 -- A step of the session that has accepted some lists is a step of the lists: what the session hands back, and what it answers.
--- Assumes nothing.
 use mathlib.Core.Path.{_≡_, refl, sym, _∙_, ap, ap₂}
 use mathlib.Core.Bool.{Bool, true, false}
 use mathlib.Core.List.{List, [], _∷_, _++_}
 use Prim.Native.Nat.{ℕ, _*_, _≤_, _<_}
 use native.Mathlib.Omega.{arith}
-use lib.Dec.{eqb, leb, leb→le, ltb→lt}
+use lib.Dec.{eqb, leb→le, ltb→lt}
 use lib.IntN.{ℤ, pos}
 use lib.ListN.{length, length-append, length-map}
 use Rattle.prelude.specs.Checks.{Check, _unless_, settle, Hold}
@@ -18,9 +17,9 @@ use Rattle.arc_records.specs.Arcs.{Arc}
 use Rattle.network.specs.Network.{Load, arcs, sumOf, balance, crosses, sumAcross}
 use Rattle.network.specs.Question.{Setting, asks, unitCost, unitsMost, Opened}
 use Rattle.network.specs.Certificate.{marked, Sums, rulesOf}
-use Rattle.network.specs.Tests.{readingChecks, claimOf, claimingChecks, Numbers, numberingChecks, repeatingChecks, balancesOk, sumsOk, finishingChecks, answerOf}
+use Rattle.network.specs.Tests.{readingChecks, claimOf, claimingChecks, Numbers, numberingChecks, repeatingChecks, finishingChecks, answerOf}
 use Rattle.network.proofs.Append.{arcs-snoc}
-use Rattle.points.specs.Points.{printOf, samePrint, extendStream}
+use Rattle.points.specs.Points.{extendStream}
 use Rattle.points.specs.declared.Point.{Point}
 use Rattle.points.proofs.Prints.{print-none, print-more}
 use Rattle.state.specs.Answers.{Said, accepted, gives, refused, answered}

@@ -1,5 +1,4 @@
 -- Lists that pass every check of a session meet the rules of the certificate; where the arcs are those read, in any order, the answer is true.
--- Assumes nothing.
 use mathlib.Core.Path.{_≡_, refl, sym, _∙_, ap}
 use mathlib.Core.Bool.{Bool, _&&_}
 use mathlib.Core.List.{List}

@@ -1,5 +1,4 @@
 -- How an exchange comes out: its first answer that is not `accepted` is the verdict, and its last tells the verdict on the first n node numbers.
--- Assumes nothing.
 use mathlib.Core.Path.{_≡_, refl, sym, _∙_, ap, ap₂, subst}
 use mathlib.Core.Logic.{_↔_}
 use mathlib.Core.Bool.{Bool}

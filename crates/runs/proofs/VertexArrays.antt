@@ -1,5 +1,4 @@
 -- Arrays with one entry for each vertex, as the lists of what a function gives: of the node numbers, and of the balances.
--- Assumes nothing.
 use mathlib.Core.Path.{_≡_, refl, sym, _∙_, ap, fun-ext}
 use mathlib.Core.Logic.{inl, inr}
 use mathlib.Core.List.{List, [], _∷_, _++_}

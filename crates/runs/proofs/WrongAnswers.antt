@@ -1,9 +1,8 @@
 -- Demand 3 for lists of steps: a fixed list gives a wrong answer at m - 1 points at most.
--- Assumes nothing.
 use mathlib.Core.Path.{_≡_, refl, sym, _∙_, ap, subst}
 use mathlib.Core.Logic.{_⊎_, inl, inr}
 use mathlib.Core.Bool.{Bool, true, false}
-use mathlib.Core.List.{List, [], _∷_, _++_, tail}
+use mathlib.Core.List.{List, [], _∷_, tail}
 use Prim.Native.Nat.{ℕ}
 use native.Mathlib.Omega.{arith}
 use native.Mathlib.Decide.{ℕ-discrete}
@@ -14,18 +13,18 @@ use Rattle.prelude.specs.Checks.{Check, _unless_, settle, firstBroken, Hold}
 use Rattle.prelude.specs.Choice.{pick}
 use Rattle.prelude.specs.Lists.{Every, Some, Perm, AtMost}
 use Rattle.prelude.proofs.Lists.{every-map}
-use Rattle.prelude.proofs.Settle.{settled, hold-left, none-broken, part-refused}
+use Rattle.prelude.proofs.Settle.{settled, none-broken}
 use Rattle.arc_records.specs.Arcs.{Arc}
 use Rattle.network.specs.Network.{Load, arcs}
 use Rattle.network.specs.Question.{Setting, Opened, Allowed, Answer, TrueAnswer}
-use Rattle.network.specs.Tests.{openingChecks, readingChecks, claimOf, claimingChecks, numberingChecks, repeatingChecks, finishingChecks, answerOf}
+use Rattle.network.specs.Tests.{openingChecks, claimOf, finishingChecks, answerOf}
 use Rattle.network.proofs.Allowed.{opening-rule, opening-test}
-use Rattle.points.specs.Points.{IsPoint, pointOk, printOf, misleadingPoints}
+use Rattle.points.specs.Points.{IsPoint, printOf, misleadingPoints}
 use Rattle.points.specs.declared.Point.{Point}
 use Rattle.points.proofs.Prints.{same-print}
 use Rattle.points.proofs.Promises.{few-mislead}
 use Rattle.state.specs.Answers.{Said, accepted, gives, refused}
-use Rattle.runs.specs.Run.{Step, read, end, claim, number, repeat, finish, run, withArc, listFrom, listRead, Wrong, WrongAt}
+use Rattle.runs.specs.Run.{Step, read, end, claim, number, repeat, finish, listRead, Wrong, WrongAt}
 use Rattle.runs.specs.Promises.{FewWrong}
 use Rattle.runs.specs.AcceptedLists.{AcceptedLists, over, reading, hasRead, claimed, numbersOf, sumsAt, agreeAt, stepChecks, next, reply, replies, openedLists}
 use Rattle.runs.proofs.Invariant.{AnnotationPassed, Invariant, settle-keeps, invariant-next}

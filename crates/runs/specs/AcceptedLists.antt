@@ -1,6 +1,5 @@
 -- What a session has accepted, as lists: the checks of each step, what an accepted step adds, what a refusal leaves, and what is answered (PANEL 6).
 -- No array, no word of marks and no point is here: the point enters only where two lists are compared at it, check 14.
--- Assumes nothing.
 use mathlib.Core.Path.{_≡_}
 use mathlib.Core.Bool.{Bool, true, false}
 use mathlib.Core.List.{List, [], _∷_, _++_}

@@ -1,5 +1,4 @@
 -- An exchange in order: the arcs read, the claim, the node numbers, the arcs again, finishing; and its rules in the order in which a session meets them (PANEL 6).
--- Assumes nothing.
 use mathlib.Core.Path.{_≡_}
 use mathlib.Core.List.{List, [], _∷_, _++_, map}
 use Prim.Native.Nat.{ℕ, suc, _≤_}

@@ -1,5 +1,4 @@
 -- What is promised of sessions and of whole runs: the second sentence of demand 1, demand 2, and demand 3 for lists of steps (PANEL 12); proofs/Promises.antt keeps it.
--- Assumes nothing.
 use mathlib.Core.Path.{_≡_}
 use mathlib.Core.Logic.{_↔_}
 use mathlib.Core.Bool.{false}

@@ -1,5 +1,4 @@
 -- Lists of session steps, and what demand 3 counts (PANEL 12).
--- Assumes nothing.
 use mathlib.Core.List.{List, [], _∷_, _++_}
 use Prim.Native.Nat.{ℕ}
 use lib.IntN.{ℤ}

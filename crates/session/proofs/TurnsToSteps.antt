@@ -1,5 +1,4 @@
 -- The steps of a session, by what they make of its state.
--- Assumes nothing.
 use mathlib.Core.Path.{_≡_, refl, sym, _∙_, ap, ap₂}
 use mathlib.Core.Bool.{Bool, true, false, false≢true, not, _&&_}
 use mathlib.Core.List.{List, [], append-nil}
@@ -8,7 +7,6 @@ use native.Mathlib.Decide.{ℕ-discrete}
 use borrow.Author.Tests.{eq-eqb, ne-eqb}
 use lib.Dec.{eqb}
 use lib.IntN.{ℤ}
-use lib.ListN.{set}
 use Rattle.prelude.specs.Checks.{Check, settle, firstBroken}
 use Rattle.prelude.specs.Choice.{pick}
 use Rattle.prelude.proofs.Choice.{on, off, eqb-on, eqb-off}
@@ -19,10 +17,9 @@ use Rattle.network.specs.Question.{Setting}
 use Rattle.network.specs.Tests.{answerOf}
 use Rattle.points.specs.declared.Point.{Point}
 use Rattle.state.specs.Answers.{answered}
-use Rattle.vertex_arrays.specs.Arrays.{moved}
 use Rattle.state.specs.State.{isClaimed, settingHeld, claimHeld, idle, openChecks, opened, readChecks, withRead, endChecks, withEnd, claimChecks, withClaim, numberChecks, withNumber, repeatChecks, withRepeat, finishChecks}
 use Rattle.state.specs.Turns.{turned, openTurn, readTurn, endTurn, claimTurn, numberTurn, repeatTurn}
-use Rattle.session.specs.Session.{arraysOf, withPotentials, withBalances, zeros, potentialsIn, sumsIn, joined, withArrays, withState, fresh, void, hand, accept, refuse}
+use Rattle.session.specs.Session.{arraysOf, zeros, potentialsIn, sumsIn, joined, withArrays, withState, fresh, void, hand, accept, refuse}
 use Rattle.session.specs.Steps.{opening, readStep, endStep, claimStep, numberedArrays, numberStep, repeatedArrays, repeatStep, finishStep}
 use Rattle.state.specs.declared.Response.{Response}
 use Rattle.state.specs.declared.Response.the-variants.{Accepted, Refused}

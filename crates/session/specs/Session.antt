@@ -1,5 +1,4 @@
 -- A session: its state with what it holds of each vertex, the node number and the balance, and what a refusal leaves of it (PANEL 6).
--- Assumes nothing.
 use mathlib.Core.List.{List}
 use Prim.Native.Nat.{ℕ}
 use lib.Dec.{eqb}

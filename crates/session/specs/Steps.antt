@@ -1,5 +1,4 @@
 -- Opening and the six steps of a session (PANEL 6): each by the checks and the next state of State.antt of the crate state.
--- Assumes nothing.
 use Prim.Native.Nat.{ℕ}
 use lib.IntN.{ℤ}
 use lib.ListN.{set}

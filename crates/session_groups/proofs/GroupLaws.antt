@@ -1,5 +1,4 @@
 -- Laws on the groups: one after a step, sums that fit, and checks that follow other checks.
--- Assumes nothing.
 use mathlib.Core.Path.{_≡_, refl}
 use mathlib.Core.Bool.{Bool, true, false, _&&_}
 use mathlib.Core.List.{List, _++_}

@@ -1,5 +1,4 @@
 -- The groups of what a session knows, and what each step makes of one (PANEL 6).
--- Assumes nothing.
 use mathlib.Core.List.{List}
 use Prim.Native.Nat.{ℕ, _+_}
 use lib.IntN.{ℤ, pos}

@@ -1,5 +1,4 @@
 -- The promises of specs/Promises.antt, kept.
--- Assumes nothing.
 use mathlib.Core.Path.{sym, _∙_, subst}
 use mathlib.Core.Bool.{false≢true}
 use mathlib.Core.List.{List}

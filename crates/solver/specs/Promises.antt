@@ -1,5 +1,4 @@
 -- What the solver promises: every network that a session accepts has one true answer, and the solver finds it.
--- Assumes nothing.
 use mathlib.Core.Path.{_≡_}
 use mathlib.Core.Bool.{true}
 use mathlib.Core.List.{List}

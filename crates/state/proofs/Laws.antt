@@ -1,5 +1,4 @@
 -- Laws that the proofs of the steps cite: a turn by the number that its checks gave, and what its checks say.
--- Assumes nothing.
 use mathlib.Core.Path.{_≡_, refl, sym, _∙_, ap}
 use mathlib.Core.Bool.{Bool, true}
 use mathlib.Core.List.{List, [], _∷_, _++_, append-nil}
@@ -7,13 +6,13 @@ use Prim.Native.Nat.{ℕ, _*_, _≤_, _<_}
 use native.Mathlib.Nat.{le-trans}
 use lib.Dec.{T, eqb, leb, ltb, leb→le, ltb→lt, lit≤}
 use lib.IntN.{ℤ, pos}
-use Rattle.prelude.specs.Checks.{Check, _unless_, settle, firstBroken, Hold}
+use Rattle.prelude.specs.Checks.{Check, _unless_, firstBroken, Hold}
 use Rattle.prelude.specs.Choice.{indicator}
 use Rattle.prelude.specs.Lists.{at}
 use Rattle.prelude.specs.Sums.{allTo}
 use Rattle.words.specs.Bounded.{boundedSum}
 use Rattle.prelude.proofs.Choice.{on}
-use Rattle.prelude.proofs.Settle.{settled, hold-left, Numbered, none-broken, part-refused, part-passed}
+use Rattle.prelude.proofs.Settle.{settled, hold-left, Numbered, none-broken, part-refused}
 use Rattle.arc_records.specs.Arcs.{Arc, arcHeld}
 use Rattle.network.specs.Network.{Load, loadHeld}
 use Rattle.network.specs.Question.{Question, shortestPath, maximumFlow, assignment, acyclicity, unasked, Setting, asks, unitCost}

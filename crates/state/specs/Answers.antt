@@ -1,5 +1,4 @@
 -- What the answers of steps say (PANEL 6).
--- Assumes nothing.
 use Prim.Native.Nat.{ℕ}
 use Rattle.network.specs.Question.{Answer, value, none}
 use Rattle.state.specs.declared.Response.{Response}

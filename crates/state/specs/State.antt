@@ -1,5 +1,4 @@
 -- What a session knows but for the node numbers and the balances of the vertices: its groups, what they say, and what each step makes of them (PANEL 6).
--- Assumes nothing.
 use mathlib.Core.Bool.{Bool}
 use mathlib.Core.List.{List, [], _∷_, _++_}
 use Prim.Native.Nat.{ℕ, _*_}

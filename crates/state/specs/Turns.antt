@@ -1,5 +1,4 @@
 -- The steps on a state alone (PANEL 6): what each makes of it.
--- Assumes nothing.
 use mathlib.Core.List.{List}
 use Prim.Native.Nat.{ℕ}
 use lib.IntN.{ℤ}

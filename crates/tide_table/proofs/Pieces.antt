@@ -1,5 +1,4 @@
 -- A text that is read piece by piece: the bytes before the first that passes a test, and what stands after them.
--- Assumes nothing.
 use mathlib.Core.Path.{_≡_, refl, ap, _∙_}
 use mathlib.Core.Bool.{Bool, true, false, not}
 use mathlib.Core.List.{List, [], _∷_}

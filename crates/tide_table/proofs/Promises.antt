@@ -1,5 +1,4 @@
 -- The promise of specs/Promises.antt, kept.
--- Assumes nothing.
 use mathlib.Core.Path.{_≡_, ap}
 use mathlib.Core.List.{map, flatMap}
 use lib.ListN.{length}

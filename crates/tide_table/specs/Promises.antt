@@ -1,5 +1,4 @@
 -- What is promised of tide tables (PANEL 14); proofs/Promises.antt keeps it.
--- Assumes nothing.
 use mathlib.Core.Path.{_≡_}
 use mathlib.Core.List.{List, [], _∷_, _++_, map, flatMap}
 use Prim.Native.Nat.{ℕ, _≤_}

@@ -1,5 +1,4 @@
 -- What the functions answer that read a tide table piece by piece: a byte, a number, a word, a line, the lines.
--- Assumes nothing.
 use mathlib.Core.Path.{_≡_}
 use mathlib.Core.Bool.{Bool, true, false, not}
 use mathlib.Core.List.{List, [], _∷_, map}

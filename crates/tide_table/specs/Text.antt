@@ -1,5 +1,4 @@
 -- Lines, words and decimal numbers of a text, a list of bytes (PANEL 14).
--- Assumes nothing.
 use mathlib.Core.Bool.{Bool, _&&_, _||_}
 use mathlib.Core.List.{List, [], _∷_}
 use Prim.Native.Nat.{ℕ, _+_, _-_, _*_}

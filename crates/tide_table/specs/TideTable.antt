@@ -1,5 +1,4 @@
 -- What a tide table says (PANEL 14): the windows of its lines, or the first line that is no window.
--- Assumes nothing.
 use mathlib.Core.Path.{_≡_}
 use mathlib.Core.Bool.{_&&_}
 use mathlib.Core.List.{List, [], _∷_, map}

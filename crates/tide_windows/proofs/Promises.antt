@@ -1,5 +1,4 @@
 -- The promises of specs/Promises.antt, kept.
--- Assumes nothing.
 use Rattle.tide_windows.specs.Promises.{OpenMeans, WindowMeans}
 use Rattle.tide_windows.proofs.OpenTests.{open-rule, open-test, window-rule, window-test}
 

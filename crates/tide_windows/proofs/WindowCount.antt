@@ -1,5 +1,4 @@
 -- Check 21, by the number of rows.
--- Assumes nothing.
 use mathlib.Core.Path.{_≡_}
 use mathlib.Core.Bool.{true, false}
 use mathlib.Core.List.{List}

@@ -1,5 +1,4 @@
 -- Windows of a tide table: when a channel record is open, and the checks of windows (PANEL 14).
--- Assumes nothing.
 use mathlib.Core.Path.{_≡_}
 use mathlib.Core.Logic.{_⊎_, _≢_}
 use mathlib.Core.Bool.{Bool, _&&_, _||_, not}

@@ -1,5 +1,4 @@
 -- What the loops of finishing reach: the test of every vertex, and sums of node numbers, each of which fits 32 bits.
--- Assumes nothing.
 use mathlib.Core.Path.{_≡_, sym, _∙_, ap, subst}
 use mathlib.Core.Bool.{Bool, true, false}
 use mathlib.Core.List.{List, [], _∷_}

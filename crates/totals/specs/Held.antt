@@ -1,5 +1,4 @@
 -- What the code holds of the sums that finishing looks at, as the definitions of the network have them.
--- Assumes nothing.
 use mathlib.Core.List.{List}
 use lib.IntN.{ℤ}
 use Rattle.prelude.specs.Lists.{at}

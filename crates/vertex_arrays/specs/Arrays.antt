@@ -1,5 +1,4 @@
 -- The balances of the vertices, as a list: an amount that moves along an arc.
--- Assumes nothing.
 use mathlib.Core.List.{List}
 use Prim.Native.Nat.{ℕ}
 use lib.IntN.{ℤ, pos}

@@ -1,5 +1,4 @@
 -- What the queue's calls keep, and what is taken out: a vertex with the least key of all.
--- Assumes nothing.
 use mathlib.Core.Path.{_≡_, refl, sym, _∙_, ap}
 use mathlib.Core.List.{List}
 use mathlib.Core.Logic.{_⊎_, inl, inr, _≢_}

@@ -1,5 +1,4 @@
 -- The vertices that wait in a search, each with a key: 256 keys, and the least of each block of 16.
--- Assumes nothing.
 use mathlib.Core.Path.{_≡_}
 use mathlib.Core.List.{List}
 use Prim.Native.Nat.{ℕ, zero, suc, _+_, _*_, _/_, _≤_, _<_, min}

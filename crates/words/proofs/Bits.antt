@@ -1,5 +1,4 @@
 -- Bits of a word: one bit in its place, and the ones of a range of bits, as a sum.
--- Assumes nothing.
 use mathlib.Core.Path.{_≡_, refl, sym, _∙_, ap}
 use Prim.Native.Nat.{ℕ, zero, suc, _+_, _-_, _*_, _/_, _%_, _^_, _≤_, _<_}
 use native.Mathlib.Nat.{one-mul, mod-eq-of-lt, mod-lt, lt-of-le-of-lt, add-zero}

@@ -1,5 +1,4 @@
 -- A mark that is set is there, the other marks are as they were, and there is none past the words.
--- Assumes nothing.
 use mathlib.Core.Path.{_≡_, refl, sym, _∙_, ap}
 use mathlib.Core.Bool.{true, false}
 use mathlib.Core.List.{List}

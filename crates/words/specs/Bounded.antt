@@ -1,5 +1,4 @@
 -- Sums of integers as the panel's machine words hold them.
--- Assumes nothing.
 use mathlib.Core.Bool.{Bool, _&&_}
 use lib.IntN.{ℤ, pos, negℤ, _+ℤ_, _-ℤ_}
 use Rattle.prelude.specs.Choice.{pick}

@@ -1,5 +1,4 @@
 -- Marks of vertices as bits (PANEL 5): bit v % 64 of word v / 64 is the mark of the vertex v, and there are four words of 64 bits.
--- Assumes nothing.
 use mathlib.Core.Bool.{Bool}
 use mathlib.Core.List.{List}
 use Prim.Native.Nat.{ℕ, _/_, _%_, _^_}

@@ -1,5 +1,4 @@
 -- The bits of a word of marks that belong to a range of vertices: the mask under which marked pumps, or sites, are counted (PANEL 5, check 16).
--- Assumes nothing.
 use Prim.Native.Nat.{ℕ, _-_, _*_, _^_, min}
 
 -- How many of the 64 bits of word k belong to vertices below h: the first ones.

@@ -1,5 +1,4 @@
 -- Meetings: where two products of two factors each agree modulo p. Their difference is a line in R8, a constant in R9.
--- Assumes nothing.
 use mathlib.Core.Path.{_≡_, refl, _∙_, ap}
 use mathlib.Core.Logic.{inl}
 use Prim.Native.Nat.{ℕ, _+_, _*_, _-_, _%_, _<_}

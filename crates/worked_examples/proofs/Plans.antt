@@ -1,5 +1,4 @@
 -- Plans: one whose tests pass when they are computed yields its outcomes.
--- Assumes nothing.
 use mathlib.Core.Path.{_≡_, refl, sym, _∙_, ap, subst}
 use mathlib.Core.Bool.{Bool, true, _&&_}
 use mathlib.Core.List.{List, [], _∷_}

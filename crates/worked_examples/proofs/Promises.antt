@@ -1,5 +1,4 @@
 -- The promise of specs/Promises.antt, kept.
--- Assumes nothing.
 use mathlib.Core.Path.{refl}
 use mathlib.Core.List.{flatMap}
 use Rattle.prelude.specs.Lists.{listTo}

@@ -1,5 +1,4 @@
 -- The node numbers of R1 and R4 are those of a helper's annotation: least lengths, and marks where a walk leads.
--- Assumes nothing.
 use mathlib.Core.Path.{_≡_, refl, sym, _∙_, ap}
 use mathlib.Core.Logic.{inl, inr}
 use mathlib.Core.Bool.{false}

@@ -1,5 +1,4 @@
 -- What is promised of the worked examples (PANEL 13); proofs/Promises.antt keeps it.
--- Assumes nothing.
 use Rattle.prelude.specs.Lists.{Every}
 use Rattle.worked_examples.specs.Table.{Yields, table}
 

@@ -1,5 +1,4 @@
 -- The worked examples R1 to R10, L1 and L2 (PANEL 13), one table, and what it means that the definitions yield the outcomes of an example.
--- Assumes nothing.
 use mathlib.Core.Path.{_≡_}
 use mathlib.Core.List.{List, [], _∷_, map}
 use Prim.Native.Nat.{ℕ}

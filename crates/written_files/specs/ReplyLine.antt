@@ -1,5 +1,4 @@
 -- The line for a writer's reply (PANEL 10).
--- Assumes nothing.
 use mathlib.Core.Bool.{Bool}
 use mathlib.Core.List.{List}
 use Prim.Native.Nat.{ℕ}

@@ -1,5 +1,4 @@
 // What a program does with a file that was written into a buffer: it is saved, and the line that says so is made.
-ghost use mathlib.Core.Path.{_≡_};
 ghost use Rattle.io.specs.Counts.{Counts};
 ghost use Rattle.format.specs.Replies.{writerSaid};
 ghost use Rattle.program_io.specs.Line.{LineIn};

@@ -1,5 +1,4 @@
--- `acceptance::records_check` meets its contract. The loop's invariant: the records below e pass.
--- Assumes nothing.
+-- The loop's invariant: the records below e pass.
 use mathlib.Core.Path.{_∙_, ap}
 use Prim.Native.Nat.{_-_}
 use native.Mathlib.Omega.{arith}

@@ -1,5 +1,3 @@
--- `acceptance::setting` meets its contract.
--- Assumes nothing.
 use borrow.Author.Needs.{needs}
 use Rattle.acceptance.proofs.setting.Statement.{statement}
 use Rattle.acceptance.proofs.setting.Tie as tie

@@ -1,5 +1,3 @@
--- `annotation_writing::annotate_check` meets its contract.
--- Assumes nothing.
 use mathlib.Core.Path.{_≡_, subst}
 use mathlib.Core.List.{List, [], _∷_}
 use Prim.Native.Nat.{ℕ, _≤_, _<_}

@@ -1,5 +1,4 @@
--- `annotation_writing::gather` meets its contract. The loop's invariant: the records below e are those of the file.
--- Assumes nothing.
+-- The loop's invariant: the records below e are those of the file.
 use mathlib.Core.Path.{_≡_}
 use Prim.Native.Nat.{_-_}
 use native.Mathlib.Omega.{arith}

@@ -1,5 +1,3 @@
--- `annotation_writing::write_body` meets its contract.
--- Assumes nothing.
 use mathlib.Core.List.{flatMap}
 use Prim.Native.Nat.{_*_}
 use lib.ListN.{length}

@@ -1,5 +1,3 @@
--- `annotation_writing::write_file` meets its contract.
--- Assumes nothing.
 use mathlib.Core.Path.{refl}
 use mathlib.Core.List.{_++_, flatMap}
 use borrow.Author.Needs.{needs}

@@ -1,5 +1,4 @@
--- `annotation_writing::write_loads` meets its contract. The loop's invariant: the records below e are written.
--- Assumes nothing.
+-- The loop's invariant: the records below e are written.
 use Prim.Native.Nat.{_-_}
 use lib.ListN.{length}
 use borrow.Author.Needs.{needs}

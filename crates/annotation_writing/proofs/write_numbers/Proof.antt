@@ -1,5 +1,4 @@
--- `annotation_writing::write_numbers` meets its contract. The loop's invariant: the numbers below v are written.
--- Assumes nothing.
+-- The loop's invariant: the numbers below v are written.
 use mathlib.Core.Path.{_∙_, ap}
 use Prim.Native.Nat.{_-_, _*_}
 use lib.IntN.{ℤ}

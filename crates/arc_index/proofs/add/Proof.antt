@@ -1,5 +1,3 @@
--- `arc_index::add` meets its contract.
--- Assumes nothing.
 use borrow.Author.Needs.{needs}
 use Rattle.arc_index.specs.ArcIndex.{indexOf}
 use Rattle.arc_index.proofs.Chains.{not-added, noted}

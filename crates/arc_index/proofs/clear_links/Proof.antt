@@ -1,5 +1,4 @@
--- `arc_index::clear_links` meets its contract. The loop's invariant: no arc stands below i.
--- Assumes nothing.
+-- The loop's invariant: no arc stands below i.
 use Prim.Native.Nat.{_-_}
 use lib.ListN.{length}
 use borrow.Author.Needs.{needs}

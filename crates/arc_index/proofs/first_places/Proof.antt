@@ -1,5 +1,4 @@
--- `arc_index::first_places` meets its contract. The loop's invariant: each vertex below v has its own place.
--- Assumes nothing.
+-- The loop's invariant: each vertex below v has its own place.
 use mathlib.Core.Path.{_∙_, ap}
 use Prim.Native.Nat.{ℕ, _-_}
 use native.Mathlib.Omega.{arith}

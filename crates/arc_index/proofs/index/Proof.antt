@@ -1,5 +1,3 @@
--- `arc_index::index` meets its contract.
--- Assumes nothing.
 use borrow.Author.Needs.{needs}
 use Rattle.arc_index.specs.ArcIndex.{recordEnds}
 use Rattle.arc_index.proofs.Building.{too-many, other-length, built}

@@ -1,5 +1,3 @@
--- `arc_index::note` meets its contract.
--- Assumes nothing.
 use mathlib.Core.Path.{sym}
 use lib.Seq.{set-out}
 use borrow.Author.Needs.{needs}

@@ -1,6 +1,4 @@
--- `calendar::request_check` meets its contract.
--- Assumes nothing.
-use mathlib.Core.Path.{_≡_, _∙_, ap}
+use mathlib.Core.Path.{_∙_, ap}
 use Prim.Native.Nat.{ℕ}
 use borrow.Author.Needs.{needs}
 use Rattle.prelude.specs.Checks.{firstBroken}

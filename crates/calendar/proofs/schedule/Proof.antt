@@ -1,5 +1,3 @@
--- `calendar::schedule` meets its contract.
--- Assumes nothing.
 use Prim.Native.Nat.{_≤_}
 use native.Mathlib.Omega.{arith}
 use Rattle.arc_records.specs.Limits.{mostArcs}

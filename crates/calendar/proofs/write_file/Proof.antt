@@ -1,5 +1,3 @@
--- `calendar::write_file` meets its contract.
--- Assumes nothing.
 use borrow.Author.Needs.{needs}
 use Rattle.tide_windows.specs.Windows.{windowsIn}
 use Rattle.calendar.proofs.MinuteFile.{file-written}

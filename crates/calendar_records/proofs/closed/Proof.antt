@@ -1,5 +1,3 @@
--- `calendar_records::closed` meets its contract.
--- Assumes nothing.
 use mathlib.Core.Path.{sym, ap}
 use borrow.Author.Needs.{needs}
 use Rattle.checks.specs.Held.{questionHeld}

@@ -1,5 +1,3 @@
--- `calendar_records::left_of` meets its contract.
--- Assumes nothing.
 use Rattle.calendar_records.proofs.left_of.Statement.{statement}
 use Rattle.calendar_records.proofs.left_of.Tie as tie
 

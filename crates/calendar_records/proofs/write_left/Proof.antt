@@ -1,5 +1,3 @@
--- `calendar_records::write_left` meets its contract.
--- Assumes nothing.
 use borrow.Author.Needs.{needs}
 use Rattle.calendar_records.proofs.LeftRecords.{one-written, none-written}
 use Rattle.calendar_records.proofs.write_left.Statement.{statement}

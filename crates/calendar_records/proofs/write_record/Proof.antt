@@ -1,5 +1,3 @@
--- `calendar_records::write_record` meets its contract.
--- Assumes nothing.
 use mathlib.Core.Path.{_∙_, ap}
 use borrow.Author.Needs.{needs}
 use Rattle.network.specs.Question.{questionOf, asks}

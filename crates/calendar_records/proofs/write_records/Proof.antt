@@ -1,5 +1,4 @@
--- `calendar_records::write_records` meets its contract. The loop's invariant: what is left of the records below e is written, k records.
--- Assumes nothing.
+-- The loop's invariant: what is left of the records below e is written, k records.
 use Prim.Native.Nat.{_-_}
 use native.Mathlib.Omega.{arith}
 use borrow.Author.Needs.{needs}

@@ -1,5 +1,3 @@
--- `solver::orders::certify_acyclicity` meets its contract.
--- Assumes nothing.
 use borrow.Author.Needs.{needs}
 use Rattle.cert_instances.proofs.CertifyCases.{one-each, lent}
 use Rattle.cert_acyclicity.proofs.certify_acyclicity.Statement.{statement}

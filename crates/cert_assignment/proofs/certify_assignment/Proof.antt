@@ -1,5 +1,3 @@
--- `solver::assignments::certify_assignment` meets its contract.
--- Assumes nothing.
 use borrow.Author.Needs.{needs}
 use Rattle.cert_instances.proofs.CertifyCases.{one-each, lent}
 use Rattle.cert_assignment.proofs.certify_assignment.Statement.{statement}

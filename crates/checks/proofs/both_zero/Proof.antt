@@ -1,5 +1,3 @@
--- `checks::both_zero` meets its contract.
--- Assumes nothing.
 use Rattle.prelude.proofs.Tested.{tested}
 use Rattle.checks.proofs.both_zero.Statement.{statement}
 use Rattle.checks.proofs.both_zero.Tie as tie

@@ -1,5 +1,3 @@
--- `checks::ends_ok` meets its contract.
--- Assumes nothing.
 use borrow.Author.Needs.{needs}
 use Rattle.checks.proofs.ends_ok.Statement.{statement}
 use Rattle.checks.proofs.ends_ok.Tie as tie

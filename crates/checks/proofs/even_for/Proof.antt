@@ -1,5 +1,3 @@
--- `checks::even_for` meets its contract.
--- Assumes nothing.
 use borrow.Author.Needs.{needs}
 use Rattle.prelude.proofs.Tested.{tested}
 use Rattle.checks.proofs.even_for.Statement.{statement}

@@ -1,5 +1,3 @@
--- `checks::opening_check` meets its contract.
--- Assumes nothing.
 use borrow.Author.Needs.{needs}
 use Rattle.prelude.proofs.Tested.{tested}
 use Rattle.checks.proofs.opening_check.Statement.{statement}

@@ -1,5 +1,3 @@
--- `checks::size_ok` meets its contract.
--- Assumes nothing.
 use borrow.Author.Needs.{needs}
 use Rattle.prelude.proofs.Tested.{tested}
 use Rattle.checks.proofs.size_ok.Statement.{statement}

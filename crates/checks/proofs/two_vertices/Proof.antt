@@ -1,5 +1,3 @@
--- `checks::two_vertices` meets its contract.
--- Assumes nothing.
 use Rattle.prelude.proofs.Tested.{tested}
 use Rattle.checks.proofs.two_vertices.Statement.{statement}
 use Rattle.checks.proofs.two_vertices.Tie as tie

@@ -1,5 +1,5 @@
--- `field::extend` meets its contract: the product of a residue and a 32-bit number fits 64 bits, and reducing the factor first changes no residue.
--- Assumes nothing. The needs are answered in place, so that an edit of the code's operations is refused at the fact that fails.
+-- The product of a residue and a 32-bit number fits 64 bits, and reducing the factor first changes no residue.
+-- The needs are answered in place, so that an edit of the code's operations is refused at the fact that fails.
 use borrow.Author.Needs.{needs}
 use Prim.Native.Nat.{_+_}
 use native.Mathlib.Omega.{arith}

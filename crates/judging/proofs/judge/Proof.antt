@@ -1,5 +1,4 @@
--- `judging::judge` meets its contract: at each place where it ends, what it gives is what the definition gives.
--- Assumes nothing.
+-- At each place where it ends, what it gives is what the definition gives.
 use mathlib.Core.Path.{_∙_}
 use Rattle.judging.proofs.JudgeReturns.{at-layout, at-opening, at-reading, at-annotation, at-steps}
 use Rattle.judging.proofs.judge.Statement.{statement}

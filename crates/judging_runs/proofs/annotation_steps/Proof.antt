@@ -1,5 +1,4 @@
--- `judging_runs::annotation_steps` meets its contract: at each place where it ends, what it gives is what the steps come out as.
--- Assumes nothing.
+-- At each place where it ends, what it gives is what the steps come out as.
 use borrow.Author.Needs.{needs}
 use Rattle.judging_runs.proofs.AnnotationReturns.{at-end, at-claim, at-numbers, at-repeats, at-finish, at-answer}
 use Rattle.judging_runs.proofs.annotation_steps.Statement.{statement}

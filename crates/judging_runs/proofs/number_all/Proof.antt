@@ -1,5 +1,4 @@
--- `judging_runs::number_all` meets its contract. The loop's invariant: the numbers below v were accepted and left the potentials and y.
--- Assumes nothing.
+-- The loop's invariant: the numbers below v were accepted and left the potentials and y.
 use mathlib.Core.Path.{_∙_, ap}
 use mathlib.Core.List.{List}
 use Prim.Native.Nat.{_-_}

@@ -1,5 +1,4 @@
--- `judging_runs::read_all` meets its contract. The loop's invariant: the arcs below e were accepted and left y.
--- Assumes nothing.
+-- The loop's invariant: the arcs below e were accepted and left y.
 use mathlib.Core.Path.{_∙_, ap, subst}
 use mathlib.Core.List.{map}
 use Prim.Native.Nat.{ℕ, _-_}

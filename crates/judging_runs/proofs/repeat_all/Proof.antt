@@ -1,5 +1,4 @@
--- `judging_runs::repeat_all` meets its contract. The loop's invariant: the loads below e were accepted and left the balances and y.
--- Assumes nothing.
+-- The loop's invariant: the loads below e were accepted and left the balances and y.
 use mathlib.Core.Path.{_≡_, _∙_, ap, subst}
 use mathlib.Core.List.{List, map}
 use Prim.Native.Nat.{ℕ, _-_}

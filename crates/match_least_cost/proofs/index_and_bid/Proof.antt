@@ -1,5 +1,3 @@
--- `match_least_cost::index_and_bid` meets its contract.
--- Assumes nothing.
 use borrow.Author.Needs.{needs}
 use Rattle.match_least_cost.proofs.Finding.{begun}
 use Rattle.match_least_cost.proofs.index_and_bid.Statement.{statement}

@@ -1,5 +1,3 @@
--- `match_results::far_mark` meets its contract.
--- Assumes nothing.
 use Rattle.prelude.proofs.Choice.{checks}
 use Rattle.match_results.proofs.far_mark.Statement.{statement}
 use Rattle.match_results.proofs.far_mark.Tie as tie

@@ -1,5 +1,3 @@
--- `match_results::mark_of` meets its contract.
--- Assumes nothing.
 use mathlib.Core.Path.{refl, sym, ap, subst, _∙_}
 use Prim.Native.Nat.{ℕ, _<_, _≤_}
 use native.Mathlib.Omega.{arith}

@@ -1,5 +1,4 @@
--- `match_results::write_amounts` meets its contract. The loop's invariant: the amounts below e are written.
--- Assumes nothing.
+-- The loop's invariant: the amounts below e are written.
 use mathlib.Core.Path.{_≡_, sym, _∙_}
 use Prim.Native.Nat.{_-_}
 use native.Mathlib.Omega.{arith}

@@ -1,5 +1,4 @@
--- `match_results::write_marks` meets its contract. The loop's invariant: the vertices below v have their marks.
--- Assumes nothing.
+-- The loop's invariant: the vertices below v have their marks.
 use mathlib.Core.Path.{_≡_, sym, subst}
 use Prim.Native.Nat.{ℕ, _-_}
 use native.Mathlib.Omega.{arith}

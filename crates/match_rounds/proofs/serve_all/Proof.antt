@@ -1,5 +1,4 @@
--- `match_rounds::serve_all` meets its contract. The loop's invariant: no vertex is stuck, and after a pass with the step 1 all are matched.
--- Assumes nothing.
+-- The loop's invariant: no vertex is stuck, and after a pass with the step 1 all are matched.
 use mathlib.Core.Path.{_≡_, refl, _∙_}
 use native.Mathlib.Omega.{arith}
 use lib.ListN.{length}

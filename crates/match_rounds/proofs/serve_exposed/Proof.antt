@@ -1,7 +1,4 @@
--- `match_rounds::serve_exposed` meets its contract.
--- Assumes nothing.
 use mathlib.Core.Path.{refl}
-use native.Mathlib.Omega.{arith}
 use borrow.Author.Needs.{needs}
 use Rattle.match_rounds.proofs.Serving.{was-matched, is-exposed}
 use Rattle.match_rounds.proofs.serve_exposed.Statement.{statement}

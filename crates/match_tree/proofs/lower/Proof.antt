@@ -1,5 +1,3 @@
--- `match_tree::lower` meets its contract.
--- Assumes nothing.
 use mathlib.Core.Path.{refl}
 use mathlib.Core.Bool.{false≢true}
 use native.Mathlib.Omega.{arith}

@@ -1,6 +1,4 @@
--- `match_tree::relax` meets its contract.
--- Assumes nothing.
-use mathlib.Core.Path.{refl, ap}
+use mathlib.Core.Path.{ap}
 use native.Mathlib.Omega.{arith}
 use borrow.Author.Needs.{needs}
 use Rattle.packed_arcs.specs.Entries.{entry}

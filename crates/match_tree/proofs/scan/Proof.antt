@@ -1,14 +1,12 @@
--- `match_tree::scan` meets its contract.
--- Assumes nothing.
 use mathlib.Core.Path.{_≡_, refl, sym, subst}
-use Prim.Native.Nat.{ℕ, _-_}
+use Prim.Native.Nat.{_-_}
 use native.Mathlib.Omega.{arith}
 use lib.ListN.{length}
 use borrow.Author.Needs.{needs}
 use Rattle.match_tree.specs.Tree.{Lowered}
 use Rattle.arc_index.specs.Columns.{recordTails, recordHeads, recordWeights}
 use Rattle.arc_index.proofs.ChainSteps.{in-links, shrinks}
-use Rattle.arc_index.proofs.Columns.{tails-len, heads-len}
+use Rattle.arc_index.proofs.Columns.{tails-len}
 use Rattle.match_tree.proofs.Scans.{Scanning, ready, here, scan-start, scan-step, scan-found, scan-end}
 use Rattle.match_tree.proofs.scan.Statement.{statement}
 use Rattle.match_tree.proofs.scan.Tie as tie

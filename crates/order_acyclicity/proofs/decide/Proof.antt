@@ -1,8 +1,5 @@
--- `order_acyclicity::decide` meets its contract.
--- Assumes nothing.
 use mathlib.Core.Path.{refl, _∙_, ap}
 use native.Mathlib.Omega.{arith}
-use borrow.Author.Needs.{needs}
 use Rattle.packed_arcs.specs.Entries.{zeroList}
 use Rattle.order_path.specs.Steps.OrderOrCycle.{ordered, cyclic}
 use Rattle.order_path.proofs.Rankings.{arcs-as}

@@ -1,5 +1,4 @@
--- `order_cycle::mark` meets its contract. The loop's invariant: the arcs into the vertices of the path, from where the cycle starts up to i, are marked.
--- Assumes nothing.
+-- The loop's invariant: the arcs into the vertices of the path, from where the cycle starts up to i, are marked.
 use mathlib.Core.Path.{_≡_, refl, _∙_, sym, ap}
 use Prim.Native.Nat.{ℕ, _-_, _<_}
 use native.Mathlib.Omega.{arith}

@@ -1,5 +1,4 @@
--- `order_ranking::first_unranked` meets its contract. The loop's invariant: every vertex below v has a rank.
--- Assumes nothing.
+-- The loop's invariant: every vertex below v has a rank.
 use Prim.Native.Nat.{_-_}
 use native.Mathlib.Omega.{arith}
 use lib.ListN.{length}

@@ -1,5 +1,3 @@
--- `order_ranking::index_and_rank` meets its contract.
--- Assumes nothing.
 use mathlib.Core.Path.{_∙_, ap}
 use Prim.Native.Nat.{ℕ}
 use lib.ListN.{take}

@@ -1,5 +1,4 @@
--- `order_ranking::rank_all` meets its contract. The loop's invariant: r vertices have a rank, and those on the path have none. Each turn gives one.
--- Assumes nothing.
+-- The loop's invariant: r vertices have a rank, and those on the path have none. Each turn gives one.
 use mathlib.Core.Path.{refl}
 use Prim.Native.Nat.{_-_}
 use native.Mathlib.Omega.{arith}

@@ -1,5 +1,3 @@
--- `panel_export::answer_code` meets its contract.
--- Assumes nothing.
 use mathlib.Core.Path.{sym, ap}
 use borrow.Author.Needs.{needs}
 use Rattle.state.specs.Answers.{said}

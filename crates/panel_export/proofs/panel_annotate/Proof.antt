@@ -1,5 +1,3 @@
--- `panel_export::panel_annotate` meets its contract.
--- Assumes nothing.
 use mathlib.Core.Path.{_∙_, ap, subst}
 use borrow.Author.Needs.{needs}
 use Rattle.format.specs.Replies.{WriterSaid}

@@ -1,5 +1,3 @@
--- `panel_export::panel_judge` meets its contract.
--- Assumes nothing.
 use mathlib.Core.Path.{_∙_, ap}
 use borrow.Author.Needs.{needs}
 use Rattle.panel_export.specs.Codes.{saidCode}

@@ -1,5 +1,3 @@
--- `panel_export::solver_certify` meets its contract.
--- Assumes nothing.
 use borrow.Author.Needs.{needs}
 use Rattle.cert_instances.proofs.CertifyCases.{by-number}
 use Rattle.panel_export.proofs.solver_certify.Statement.{statement}

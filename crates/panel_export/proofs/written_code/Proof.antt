@@ -1,5 +1,3 @@
--- `panel_export::written_code` meets its contract.
--- Assumes nothing.
 use mathlib.Core.Path.{sym, ap}
 use borrow.Author.Needs.{needs}
 use Rattle.format.specs.Replies.{writerSaid}

@@ -1,7 +1,5 @@
--- `draw` meets its contract. The loop's invariant: the words so far give nothing.
--- Assumes nothing.
+-- The loop's invariant: the words so far give nothing.
 use mathlib.Core.Path.{_≡_, refl, sym, ap, _∙_}
-use mathlib.Core.List.{List}
 use Prim.Native.Nat.{ℕ, _-_, _/_, _≤_}
 use native.Mathlib.Omega.{arith}
 use borrow.Author.Needs.{needs}

@@ -1,5 +1,4 @@
--- `entropy` meets its contract: all bytes of the buffer count, or none.
--- Assumes nothing.
+-- All bytes of the buffer count, or none.
 use native.Mathlib.Omega.{arith}
 use borrow.Author.Needs.{needs}
 use Rattle.io.proofs.Counting.{counts}

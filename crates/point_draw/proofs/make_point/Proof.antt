@@ -1,5 +1,4 @@
--- `make_point` meets its contract: the list of random bytes is what the system gave.
--- Assumes nothing.
+-- The list of random bytes is what the system gave.
 use mathlib.Core.Path.{ap, _∙_}
 use borrow.Author.Needs.{needs}
 use Rattle.program_io.proofs.Lines.{same-in}

@@ -1,11 +1,10 @@
--- `write_point` meets its contract: four bytes fill the buffer of four.
--- Assumes nothing.
+-- Four bytes fill the buffer of four.
 use mathlib.Core.Path.{_≡_, sym, ap, _∙_}
 use mathlib.Core.List.{List, _++_}
 use Prim.Native.Nat.{ℕ}
 use native.Mathlib.Omega.{arith}
 use borrow.Author.Needs.{needs}
-use lib.ListN.{length, drop, drop-of-length-le}
+use lib.ListN.{length, drop-of-length-le}
 use lib.Seq.{sets, sets-eq}
 use Rattle.file_fields.specs.Bytes.{bytes32}
 use Rattle.point_draw.specs.declared.Drawn.{Drawn}

@@ -1,5 +1,3 @@
--- `points::lists_check` meets its contract.
--- Assumes nothing.
 use borrow.Author.Needs.{needs}
 use Rattle.prelude.proofs.Tested.{tested}
 use Rattle.points.proofs.lists_check.Statement.{statement}

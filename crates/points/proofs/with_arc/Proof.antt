@@ -1,5 +1,3 @@
--- `points::with_arc` meets its contract.
--- Assumes nothing.
 use mathlib.Core.Path.{_∙_, ap}
 use borrow.Author.Needs.{needs}
 use Prim.Native.Nat.{ℕ}

@@ -1,5 +1,4 @@
 -- `random_networks::all` is safe and ends: it counts to 1920.
--- Assumes nothing.
 use Prim.Native.Nat.{_-_}
 use native.Mathlib.Omega.{arith}
 use borrow.Author.Needs.{needs}

@@ -1,5 +1,4 @@
 -- `random_schedules::all` is safe and ends: it counts to 640.
--- Assumes nothing.
 use Prim.Native.Nat.{_-_}
 use native.Mathlib.Omega.{arith}
 use borrow.Author.Needs.{needs}

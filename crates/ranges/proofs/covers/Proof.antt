@@ -1,5 +1,3 @@
--- `ranges::covers` meets its contract.
--- Assumes nothing.
 use native.Mathlib.Omega.{arith}
 use mir.Syntax.{w32}
 use mir.Facts.{toZ-ofZ}

@@ -1,5 +1,4 @@
--- `ranges::in_table` meets its contract. The loop's invariant: no row before the row i covers the number.
--- Assumes nothing.
+-- The loop's invariant: no row before the row i covers the number.
 use mathlib.Core.Path.{_≡_, sym, ap, _∙_}
 use Prim.Native.Nat.{_-_}
 use lib.ListN.{getD}

@@ -1,5 +1,3 @@
--- `ranges::range_at` meets its contract.
--- Assumes nothing.
 use mathlib.Core.Path.{sym}
 use mathlib.Core.List.{map}
 use lib.IntN.{pos}

@@ -1,5 +1,3 @@
--- `reading::arc_check` meets its contract.
--- Assumes nothing.
 use borrow.Author.Needs.{needs}
 use borrow.Author.Tests.{le-leb, lt-leb}
 use Rattle.prelude.proofs.Tested.{passed, refused}

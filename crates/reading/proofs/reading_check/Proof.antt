@@ -1,5 +1,3 @@
--- `reading::reading_check` meets its contract.
--- Assumes nothing.
 use borrow.Author.Needs.{needs}
 use Rattle.prelude.proofs.Tested.{tested}
 use Rattle.reading.proofs.reading_check.Statement.{statement}

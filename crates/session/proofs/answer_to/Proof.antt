@@ -1,5 +1,3 @@
--- `session::answer_to` meets its contract.
--- Assumes nothing.
 use Rattle.prelude.proofs.Choice.{checks}
 use Rattle.session.proofs.answer_to.Statement.{statement}
 use Rattle.session.proofs.answer_to.Tie as tie

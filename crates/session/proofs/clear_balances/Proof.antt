@@ -1,5 +1,3 @@
--- `session::clear_balances` meets its contract.
--- Assumes nothing.
 use Rattle.prelude.proofs.Tested.{tested}
 use Rattle.session.proofs.clear_balances.Statement.{statement}
 use Rattle.session.proofs.clear_balances.Tie as tie

@@ -1,5 +1,3 @@
--- `session::clear_numbers` meets its contract.
--- Assumes nothing.
 use Rattle.prelude.proofs.Tested.{tested}
 use Rattle.session.proofs.clear_numbers.Statement.{statement}
 use Rattle.session.proofs.clear_numbers.Tie as tie

@@ -1,5 +1,3 @@
--- `session::ended` meets its contract.
--- Assumes nothing.
 use mathlib.Core.Path.{_∙_, ap}
 use Rattle.session.specs.Session.{fresh}
 use Rattle.state.specs.declared.State.{State}

@@ -1,5 +1,3 @@
--- `session::fresh` meets its contract.
--- Assumes nothing.
 use mathlib.Core.Path.{ap}
 use Rattle.session.specs.Session.{joined}
 use Rattle.session.specs.declared.Arrays.{Arrays}

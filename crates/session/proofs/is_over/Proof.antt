@@ -1,5 +1,3 @@
--- `session::is_over` meets its contract.
--- Assumes nothing.
 use Rattle.prelude.proofs.Tested.{tested}
 use Rattle.session.proofs.is_over.Statement.{statement}
 use Rattle.session.proofs.is_over.Tie as tie

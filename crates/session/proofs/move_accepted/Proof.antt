@@ -1,5 +1,3 @@
--- `session::move_accepted` meets its contract.
--- Assumes nothing.
 use Rattle.prelude.proofs.Choice.{checks}
 use Rattle.session.proofs.move_accepted.Statement.{statement}
 use Rattle.session.proofs.move_accepted.Tie as tie

@@ -1,5 +1,3 @@
--- `session::store_accepted` meets its contract.
--- Assumes nothing.
 use mathlib.Core.Path.{_∙_, ap}
 use Rattle.prelude.proofs.Choice.{checks}
 use lib.IntN.{ℤ}

@@ -1,5 +1,3 @@
--- `session_groups::cut_after` meets its contract.
--- Assumes nothing.
 use mathlib.Core.Path.{sym, _∙_, ap, ap₂}
 use mathlib.Core.Bool.{Bool}
 use Prim.Native.Nat.{_*_}

@@ -1,5 +1,3 @@
--- `session_groups::no_list` meets its contract.
--- Assumes nothing.
 use Rattle.session_groups.proofs.no_list.Statement.{statement}
 use Rattle.session_groups.proofs.no_list.Tie as tie
 

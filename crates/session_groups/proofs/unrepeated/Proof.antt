@@ -1,5 +1,3 @@
--- `session_groups::unrepeated` meets its contract.
--- Assumes nothing.
 use Rattle.session_groups.proofs.unrepeated.Statement.{statement}
 use Rattle.session_groups.proofs.unrepeated.Tie as tie
 

@@ -1,5 +1,4 @@
 -- `session_speed::marked` is safe and ends: it counts to 254.
--- Assumes nothing.
 use Prim.Native.Nat.{_-_, _≤_}
 use native.Mathlib.Omega.{arith}
 use borrow.Author.Needs.{needs}

@@ -1,5 +1,4 @@
 -- `session_speed::rounds` is safe and ends: it goes through the bytes.
--- Assumes nothing.
 use Prim.Native.Nat.{_-_, _≤_}
 use native.Mathlib.Omega.{arith}
 use borrow.Author.Needs.{needs}

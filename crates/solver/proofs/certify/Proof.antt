@@ -1,5 +1,3 @@
--- `solver::certify` meets its contract.
--- Assumes nothing.
 use mathlib.Core.Path.{_≡_, sym, _∙_, ap, subst}
 use mathlib.Core.Bool.{false, not}
 use mathlib.Core.List.{List}

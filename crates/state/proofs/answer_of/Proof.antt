@@ -1,5 +1,3 @@
--- `state::answer_of` meets its contract.
--- Assumes nothing.
 use mathlib.Core.Path.{_∙_, ap}
 use mir.Facts.{toZ-ofZ}
 use borrow.Author.Needs.{needs}

@@ -1,5 +1,3 @@
--- `state::begun` meets its contract.
--- Assumes nothing.
 use Rattle.state.proofs.begun.Statement.{statement}
 use Rattle.state.proofs.begun.Tie as tie
 

@@ -1,5 +1,3 @@
--- `state::idle` meets its contract.
--- Assumes nothing.
 use Rattle.state.proofs.idle.Statement.{statement}
 use Rattle.state.proofs.idle.Tie as tie
 

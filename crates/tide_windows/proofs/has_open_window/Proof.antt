@@ -1,5 +1,4 @@
--- `tide_windows::has_open_window` meets its contract. The loop's invariant: no window before the row i opens the position.
--- Assumes nothing.
+-- The loop's invariant: no window before the row i opens the position.
 use mathlib.Core.Path.{sym}
 use mathlib.Core.Bool.{_&&_}
 use mathlib.Core.List.{[]}

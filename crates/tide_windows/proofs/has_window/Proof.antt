@@ -1,5 +1,4 @@
--- `tide_windows::has_window` meets its contract. The loop's invariant: no window before the row i is of the position.
--- Assumes nothing.
+-- The loop's invariant: no window before the row i is of the position.
 use mathlib.Core.Path.{sym}
 use mathlib.Core.List.{[]}
 use Prim.Native.Nat.{_-_}

@@ -1,5 +1,3 @@
--- `tide_windows::is_open` meets its contract.
--- Assumes nothing.
 use Rattle.tide_windows.specs.Windows.{isOpen}
 use Rattle.tide_windows.proofs.is_open.Statement.{statement}
 use Rattle.tide_windows.proofs.is_open.Tie as tie

@@ -1,5 +1,3 @@
--- `tide_windows::opens` meets its contract.
--- Assumes nothing.
 use borrow.Author.Needs.{needs}
 use borrow.Author.Tests.{le-leb, lt-leb}
 use Rattle.prelude.proofs.Tested.{passed, refused}

@@ -1,5 +1,3 @@
--- `tide_windows::window_ok` meets its contract.
--- Assumes nothing.
 use borrow.Author.Needs.{needs}
 use Rattle.prelude.proofs.Tested.{tested}
 use Rattle.tide_windows.proofs.window_ok.Statement.{statement}

@@ -1,5 +1,3 @@
--- `tide_windows::windows_check` meets its contract.
--- Assumes nothing.
 use borrow.Author.Tests.{le-leb, lt-leb}
 use Rattle.prelude.proofs.Tested.{passed, refused}
 use Rattle.tide_windows.proofs.WindowCount.{too-many, few-enough}

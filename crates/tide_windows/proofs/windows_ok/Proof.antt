@@ -1,5 +1,4 @@
--- `tide_windows::windows_ok` meets its contract. The loop's invariant: every window before the row i fits.
--- Assumes nothing.
+-- The loop's invariant: every window before the row i fits.
 use mathlib.Core.Path.{sym}
 use mathlib.Core.List.{[]}
 use Prim.Native.Nat.{_-_}

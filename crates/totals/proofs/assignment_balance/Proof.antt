@@ -1,5 +1,3 @@
--- `totals::assignment_balance` meets its contract.
--- Assumes nothing.
 use borrow.Author.Needs.{needs}
 use Rattle.rules.proofs.Signed.{signed}
 use Rattle.totals.proofs.assignment_balance.Statement.{statement}

@@ -1,5 +1,4 @@
--- `totals::balances_ok` meets its contract. The loop's invariant: the vertices passed have balances that they may have.
--- Assumes nothing.
+-- The loop's invariant: the vertices passed have balances that they may have.
 use mathlib.Core.Path.{sym, _∙_}
 use Prim.Native.Nat.{_≤_, _-_}
 use native.Mathlib.Omega.{arith}

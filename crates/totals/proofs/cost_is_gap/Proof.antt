@@ -1,5 +1,3 @@
--- `totals::cost_is_gap` meets its contract.
--- Assumes nothing.
 use mir.Syntax.{w64}
 use mir.Facts.{toZ-ofZ}
 use borrow.Author.Needs.{needs}

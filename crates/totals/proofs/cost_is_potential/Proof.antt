@@ -1,5 +1,3 @@
--- `totals::cost_is_potential` meets its contract.
--- Assumes nothing.
 use mathlib.Core.Path.{_∙_}
 use mir.Syntax.{w32, w64}
 use mir.Facts.{toZ-ofZ}

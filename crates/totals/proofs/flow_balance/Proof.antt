@@ -1,5 +1,3 @@
--- `totals::flow_balance` meets its contract.
--- Assumes nothing.
 use Rattle.rules.proofs.Signed.{signed}
 use Rattle.totals.proofs.flow_balance.Statement.{statement}
 use Rattle.totals.proofs.flow_balance.Tie as tie

@@ -1,5 +1,3 @@
--- `totals::flow_is_cut` meets its contract.
--- Assumes nothing.
 use mir.Syntax.{w64}
 use mir.Facts.{toZ-ofZ}
 use borrow.Author.Needs.{needs}

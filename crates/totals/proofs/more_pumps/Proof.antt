@@ -1,5 +1,3 @@
--- `totals::more_pumps` meets its contract.
--- Assumes nothing.
 use native.Mathlib.Nat.{zero-add, sub-zero}
 use borrow.Author.Needs.{needs}
 use Rattle.totals.proofs.more_pumps.Statement.{statement}

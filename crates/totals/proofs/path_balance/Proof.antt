@@ -1,5 +1,3 @@
--- `totals::path_balance` meets its contract.
--- Assumes nothing.
 use Rattle.rules.proofs.Signed.{signed}
 use Rattle.totals.proofs.path_balance.Statement.{statement}
 use Rattle.totals.proofs.path_balance.Tie as tie

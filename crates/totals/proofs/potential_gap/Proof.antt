@@ -1,5 +1,3 @@
--- `totals::potential_gap` meets its contract.
--- Assumes nothing.
 use Prim.Native.Nat.{_-_, _/_}
 use native.Mathlib.Nat.{sub-zero}
 use borrow.Author.Needs.{needs}

@@ -1,5 +1,4 @@
--- `totals::sum_between` meets its contract. The loop's invariant: the sum of the numbers passed.
--- Assumes nothing.
+-- The loop's invariant: the sum of the numbers passed.
 use mathlib.Core.Path.{_≡_, _∙_}
 use Prim.Native.Nat.{_+_, _-_, _≤_, max}
 use native.Mathlib.Omega.{arith}

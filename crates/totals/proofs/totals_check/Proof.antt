@@ -1,5 +1,3 @@
--- `totals::totals_check` meets its contract.
--- Assumes nothing.
 use mir.Facts.{toZ-ofZ}
 use borrow.Author.Needs.{needs}
 use Rattle.prelude.proofs.Tested.{tested}

@@ -1,5 +1,3 @@
--- `totals::zero_balance` meets its contract.
--- Assumes nothing.
 use Rattle.rules.proofs.Signed.{signed}
 use Rattle.totals.proofs.zero_balance.Statement.{statement}
 use Rattle.totals.proofs.zero_balance.Tie as tie

@@ -1,5 +1,3 @@
--- `vertex_arrays::ends_of` meets its contract.
--- Assumes nothing.
 use mathlib.Core.Path.{_∙_}
 use mir.Syntax.{w32}
 use borrow.Author.Needs.{needs}

@@ -1,5 +1,3 @@
--- `vertex_arrays::potential_of` meets its contract.
--- Assumes nothing.
 use mathlib.Core.Path.{sym}
 use borrow.Author.Needs.{needs}
 use lib.IntN.{pos}

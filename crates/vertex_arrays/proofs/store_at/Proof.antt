@@ -1,5 +1,3 @@
--- `vertex_arrays::store_at` meets its contract.
--- Assumes nothing.
 use mathlib.Core.Path.{sym}
 use borrow.Author.Needs.{needs}
 use lib.Seq.{set-out}

@@ -1,5 +1,4 @@
--- `vertex_queue::first_least` meets its contract. The loop's invariant: the least among the first i entries.
--- Assumes nothing.
+-- The loop's invariant: the least among the first i entries.
 use mathlib.Core.Logic.{⊎-elim}
 use Prim.Native.Nat.{_-_}
 use native.Mathlib.Omega.{arith}

@@ -1,5 +1,4 @@
--- `vertex_queue::least_entry` meets its contract. The loop's invariant: the least among the first e entries.
--- Assumes nothing.
+-- The loop's invariant: the least among the first e entries.
 use Prim.Native.Nat.{_-_}
 use native.Mathlib.Omega.{arith}
 use borrow.Author.Needs.{needs}

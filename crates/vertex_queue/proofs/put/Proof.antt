@@ -1,5 +1,3 @@
--- `vertex_queue::put` meets its contract.
--- Assumes nothing.
 use mathlib.Core.Path.{ap}
 use Prim.Native.Nat.{ℕ, _/_}
 use lib.ListN.{set}

@@ -1,5 +1,3 @@
--- `vertex_queue::take` meets its contract.
--- Assumes nothing.
 use borrow.Author.Needs.{needs}
 use Rattle.vertex_queue.proofs.LeastPlaces.{vertex-found, taken-found}
 use Rattle.vertex_queue.proofs.take.Statement.{statement}

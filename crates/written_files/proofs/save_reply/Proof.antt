@@ -1,5 +1,4 @@
 -- `written_files::save_reply` is safe: the bytes that it saves stand in the buffer.
--- Assumes nothing.
 use borrow.Author.Needs.{needs}
 use Rattle.io.proofs.Counting.{front}
 use Rattle.written_files.proofs.save_reply.Statement.{statement}

@@ -1,5 +1,3 @@
--- `arc_index::packed::index_packed` meets its contract.
--- Assumes nothing.
 use borrow.Author.Needs.{needs}
 use Rattle.arc_index.specs.ArcIndex.{packedEnds}
 use Rattle.arc_index.proofs.Building.{too-many, other-length, built}

@@ -1,5 +1,3 @@
--- `arc_index::packed::packed_end` meets its contract.
--- Assumes nothing.
 use borrow.Author.Needs.{needs}
 use Rattle.arc_index.proofs.packed.packed_end.Statement.{statement}
 use Rattle.arc_index.proofs.packed.packed_end.Tie as tie

@@ -1,5 +1,3 @@
--- `checks::rows::question_of` meets its contract.
--- Assumes nothing.
 use mathlib.Core.Path.{sym}
 use Rattle.checks.proofs.Laws.{is-path, is-flow, is-assignment, is-acyclicity, is-unasked}
 use Rattle.checks.proofs.rows.question_of.Statement.{statement}

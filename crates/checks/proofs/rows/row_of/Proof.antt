@@ -1,5 +1,3 @@
--- `checks::rows::row_of` meets its contract.
--- Assumes nothing.
 use mathlib.Core.Path.{sym, ap, _∙_}
 use borrow.Author.Needs.{needs}
 use Rattle.checks.specs.Held.{questionHeld}

@@ -1,5 +1,4 @@
 -- `file_cases::print::counts` is safe and ends: it counts to 30.
--- Assumes nothing.
 use Prim.Native.Nat.{_-_, _≤_}
 use native.Mathlib.Omega.{arith}
 use borrow.Author.Needs.{needs}

@@ -1,5 +1,3 @@
--- `file_fields::bytes::pattern` meets its contract.
--- Assumes nothing.
 use mir.Facts.{toZ-ofZ}
 use Rattle.file_fields.proofs.Reading.{other-bits, other-fits, other-pattern, pattern-fits, pattern-abs}
 use Rattle.file_fields.proofs.bytes.pattern.Statement.{statement}

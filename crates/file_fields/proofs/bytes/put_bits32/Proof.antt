@@ -1,5 +1,3 @@
--- `file_fields::bytes::put_bits32` meets its contract.
--- Assumes nothing.
 use mathlib.Core.Path.{refl, _∙_}
 use Prim.Native.Nat.{_+_, _/_, _%_}
 use native.Mathlib.Omega.{arith}

@@ -1,5 +1,3 @@
--- `file_fields::bytes::put_byte` meets its contract.
--- Assumes nothing.
 use mathlib.Core.Path.{sym}
 use native.Mathlib.Omega.{arith}
 use lib.Seq.{set-out}

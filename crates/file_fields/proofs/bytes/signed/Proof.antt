@@ -1,5 +1,3 @@
--- `file_fields::bytes::signed` meets its contract.
--- Assumes nothing.
 use mathlib.Core.Path.{_≡_, _∙_, ap}
 use Prim.Native.Nat.{_-_}
 use native.Mathlib.Omega.{arith}

@@ -1,5 +1,4 @@
--- `file_fields::layout::layout_check` meets its contract.
--- Assumes nothing. Where the version is another is said, so that an edit of the test is refused at the fact that fails.
+-- Where the version is another is said, so that an edit of the test is refused at the fact that fails.
 use borrow.Author.Needs.{needs}
 use borrow.Author.Tests.{le-leb, lt-leb, eq-eqb, ne-eqb}
 use Rattle.file_fields.specs.Bytes.{read16}

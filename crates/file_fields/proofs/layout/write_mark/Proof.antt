@@ -1,5 +1,3 @@
--- `file_fields::layout::write_mark` meets its contract.
--- Assumes nothing.
 use mathlib.Core.Path.{_∙_}
 use borrow.Author.Needs.{needs}
 use Rattle.file_fields.proofs.Writing.{mark-stored}

@@ -1,5 +1,3 @@
--- `format::annotation_file::number` meets its contract.
--- Assumes nothing.
 use mathlib.Core.Path.{sym}
 use Prim.Native.Nat.{_+_, _*_}
 use native.Mathlib.Omega.{arith}

@@ -1,5 +1,3 @@
--- `format::annotation_file::write_header` meets its contract.
--- Assumes nothing.
 use borrow.Author.Needs.{needs}
 use Rattle.format.proofs.Stores.{stored-annotation-header}
 use Rattle.format.proofs.annotation_file.write_header.Statement.{statement}

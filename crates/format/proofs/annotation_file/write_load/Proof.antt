@@ -1,5 +1,3 @@
--- `format::annotation_file::write_load` meets its contract.
--- Assumes nothing.
 use Prim.Native.Nat.{_*_}
 use native.Mathlib.Omega.{arith}
 use borrow.Author.Needs.{needs}

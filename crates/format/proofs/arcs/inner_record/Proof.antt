@@ -1,8 +1,5 @@
--- `format::arcs::inner_record` meets its contract.
--- Assumes nothing.
 use mathlib.Core.Path.{refl, _∙_}
 use native.Mathlib.Omega.{arith}
-use borrow.Author.Needs.{needs}
 use Rattle.format.proofs.Reading.{arc-by}
 use Rattle.format.proofs.arcs.inner_record.Statement.{statement}
 use Rattle.format.proofs.arcs.inner_record.Tie as tie

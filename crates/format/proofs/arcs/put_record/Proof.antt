@@ -1,5 +1,3 @@
--- `format::arcs::put_record` meets its contract.
--- Assumes nothing.
 use native.Mathlib.Omega.{arith}
 use borrow.Author.Needs.{needs}
 use Rattle.arc_records.specs.Arcs.{arcHeld}

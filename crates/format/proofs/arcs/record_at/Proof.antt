@@ -1,5 +1,3 @@
--- `format::arcs::record_at` meets its contract.
--- Assumes nothing.
 use mathlib.Core.Path.{sym, _∙_}
 use native.Mathlib.Omega.{arith}
 use Rattle.format.proofs.Reading.{arc-by, arc-past}

@@ -1,5 +1,3 @@
--- `format::inner::inner_bits32` meets its contract.
--- Assumes nothing.
 use borrow.Author.Needs.{needs}
 use Rattle.format.proofs.inner.inner_bits32.Statement.{statement}
 use Rattle.format.proofs.inner.inner_bits32.Tie as tie

@@ -1,5 +1,3 @@
--- `format::network_file::write_arc` meets its contract.
--- Assumes nothing.
 use Prim.Native.Nat.{_*_}
 use native.Mathlib.Omega.{arith}
 use borrow.Author.Needs.{needs}

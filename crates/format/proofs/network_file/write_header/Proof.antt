@@ -1,5 +1,3 @@
--- `format::network_file::write_header` meets its contract.
--- Assumes nothing.
 use borrow.Author.Needs.{needs}
 use Rattle.format.proofs.Stores.{stored-network-header}
 use Rattle.format.proofs.network_file.write_header.Statement.{statement}

@@ -1,5 +1,4 @@
--- `helper::writing::write_annotation` meets its contract: the parts that are lent are as long as the file says.
--- Assumes nothing.
+-- The parts that are lent are as long as the file says.
 use mathlib.Core.Path.{_≡_, sym, _∙_}
 use mathlib.Core.List.{_++_}
 use Prim.Native.Nat.{_≤_}

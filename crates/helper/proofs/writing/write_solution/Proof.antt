@@ -1,5 +1,3 @@
--- `helper::writing::write_solution` meets its contract.
--- Assumes nothing.
 use mathlib.Core.Path.{sym, _∙_}
 use native.Mathlib.Omega.{arith}
 use Rattle.checks.specs.Held.{asked}

@@ -1,11 +1,7 @@
--- `match_augmenting::raise::raise` meets its contract.
--- Assumes nothing.
-use mathlib.Core.Path.{_≡_, ap}
-use Prim.Native.Nat.{ℕ, _-_}
+use Prim.Native.Nat.{_-_}
 use native.Mathlib.Omega.{arith}
 use lib.ListN.{length}
 use borrow.Author.Needs.{needs}
-use Rattle.packed_arcs.specs.Entries.{entry}
 use Rattle.arc_index.specs.Columns.{recordTails}
 use Rattle.match_augmenting.specs.Augmenting.{riseOf}
 use Rattle.arc_index.proofs.Columns.{tails-len}

@@ -1,5 +1,3 @@
--- `match_least_cost::limits::each_leads_across` meets its contract.
--- Assumes nothing.
 use mathlib.Core.Path.{refl, sym, _∙_}
 use Prim.Native.Nat.{_-_}
 use lib.ListN.{length}

@@ -1,5 +1,3 @@
--- `match_least_cost::limits::is_matchable` meets its contract.
--- Assumes nothing.
 use borrow.Author.Needs.{needs}
 use Rattle.prelude.proofs.Tested.{tested}
 use Rattle.match_least_cost.proofs.limits.is_matchable.Statement.{statement}

@@ -1,5 +1,3 @@
--- `match_least_cost::limits::leads_across` meets its contract.
--- Assumes nothing.
 use mathlib.Core.Path.{ap}
 use Prim.Native.Nat.{ℕ}
 use native.Mathlib.Omega.{arith}

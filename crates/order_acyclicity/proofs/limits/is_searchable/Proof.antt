@@ -1,5 +1,3 @@
--- `order_acyclicity::limits::is_searchable` meets its contract.
--- Assumes nothing.
 use borrow.Author.Needs.{needs}
 use Rattle.prelude.proofs.Tested.{tested}
 use Rattle.order_acyclicity.proofs.limits.is_searchable.Statement.{statement}

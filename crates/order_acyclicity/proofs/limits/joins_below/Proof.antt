@@ -1,5 +1,3 @@
--- `order_acyclicity::limits::joins_below` meets its contract.
--- Assumes nothing.
 use mathlib.Core.Path.{ap}
 use native.Mathlib.Omega.{arith}
 use borrow.Author.Needs.{needs}

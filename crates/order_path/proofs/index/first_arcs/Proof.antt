@@ -1,5 +1,4 @@
--- `order_path::index::first_arcs` meets its contract. The loop's invariant: each vertex below v has its first arc.
--- Assumes nothing.
+-- The loop's invariant: each vertex below v has its first arc.
 use mathlib.Core.Path.{_≡_, refl}
 use Prim.Native.Nat.{_-_}
 use native.Mathlib.Omega.{arith}

@@ -1,5 +1,3 @@
--- `order_path::index::tail_at` meets its contract.
--- Assumes nothing.
 use mathlib.Core.Path.{sym, ap, _∙_}
 use borrow.Author.Needs.{needs}
 use Rattle.arc_records.specs.Arcs.{Arc}

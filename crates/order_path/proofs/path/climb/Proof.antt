@@ -1,5 +1,4 @@
--- `order_path::path::climb` meets its contract. The loop's invariant: a path of vertices without a rank, that is not empty. There is room for one vertex fewer at each turn.
--- Assumes nothing.
+-- The loop's invariant: a path of vertices without a rank, that is not empty. There is room for one vertex fewer at each turn.
 use mathlib.Core.Path.{refl, _∙_, sym, ap}
 use Prim.Native.Nat.{_-_, _<_}
 use native.Mathlib.Omega.{arith}

@@ -1,5 +1,4 @@
--- `order_path::path::look` meets its contract. The loop's invariant: only the current arc of v moved on. Fewer arcs are left at each turn.
--- Assumes nothing.
+-- The loop's invariant: only the current arc of v moved on. Fewer arcs are left at each turn.
 use mathlib.Core.Path.{_∙_, sym, ap}
 use Prim.Native.Nat.{_-_}
 use native.Mathlib.Omega.{arith}

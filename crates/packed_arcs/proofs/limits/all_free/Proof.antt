@@ -1,5 +1,4 @@
--- `packed_arcs::limits::all_free` meets its contract. The loop's invariant: the arcs from e on decide.
--- Assumes nothing.
+-- The loop's invariant: the arcs from e on decide.
 use mathlib.Core.Path.{refl, sym, _∙_}
 use Prim.Native.Nat.{_-_}
 use lib.ListN.{length}

@@ -1,5 +1,3 @@
--- `packed_arcs::limits::arc_fits` meets its contract.
--- Assumes nothing.
 use native.Mathlib.Omega.{arith}
 use borrow.Author.Needs.{needs}
 use Rattle.packed_arcs.proofs.LimitTests.{tail-beyond, head-beyond, cost-decides}

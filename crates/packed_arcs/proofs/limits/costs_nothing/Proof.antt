@@ -1,5 +1,3 @@
--- `packed_arcs::limits::costs_nothing` meets its contract.
--- Assumes nothing.
 use mathlib.Core.Path.{ap}
 use Prim.Native.Nat.{ℕ}
 use lib.Dec.{eqb}

@@ -1,5 +1,4 @@
--- `annotation_line::annotate_read` meets its contract: the list of bytes is what was read.
--- Assumes nothing.
+-- The list of bytes is what was read.
 use mathlib.Core.Path.{ap, subst}
 use mathlib.Core.List.{List}
 use Prim.Native.Nat.{ℕ}

@@ -1,5 +1,4 @@
--- `answer_line::answer` meets its contract: a short point is refused, and what counts of the files is judged at a whole one.
--- Assumes nothing.
+-- A short point is refused, and what counts of the files is judged at a whole one.
 use mathlib.Core.Path.{refl, _∙_}
 use native.Mathlib.Omega.{arith}
 use borrow.Author.Needs.{needs}

@@ -1,5 +1,3 @@
--- `answer_line::judge_line` meets its contract.
--- Assumes nothing.
 use mathlib.Core.Path.{ap}
 use borrow.Author.Needs.{needs}
 use Rattle.program_io.proofs.Lines.{same-in}

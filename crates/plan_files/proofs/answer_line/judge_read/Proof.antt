@@ -1,5 +1,4 @@
--- `answer_line::judge_read` meets its contract: the three lists of bytes are what was read.
--- Assumes nothing.
+-- The three lists of bytes are what was read.
 use borrow.Author.Needs.{needs}
 use Rattle.plan_files.proofs.answer_line.judge_read.Statement.{statement}
 use Rattle.plan_files.proofs.answer_line.judge_read.Tie as tie

@@ -1,5 +1,4 @@
--- `answer_line::line_for` meets its contract, variant by variant.
--- Assumes nothing.
+-- Variant by variant.
 use mathlib.Core.Path.{_≡_, sym, ap}
 use mathlib.Core.List.{List}
 use Prim.Native.Nat.{ℕ}

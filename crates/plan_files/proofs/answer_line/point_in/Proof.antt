@@ -1,5 +1,4 @@
--- `answer_line::point_in` meets its contract: of the bytes only the first four are read.
--- Assumes nothing.
+-- Of the bytes only the first four are read.
 use mathlib.Core.Path.{_≡_, sym, ap, ap₂, _∙_}
 use mathlib.Core.List.{List}
 use Prim.Native.Nat.{ℕ, _<_}

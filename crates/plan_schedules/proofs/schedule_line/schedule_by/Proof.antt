@@ -1,5 +1,4 @@
--- `schedule_line::schedule_by` meets its contract: the list of bytes is what was read.
--- Assumes nothing.
+-- The list of bytes is what was read.
 use mathlib.Core.Path.{ap}
 use borrow.Author.Needs.{needs}
 use Rattle.format.specs.Replies.{WriterSaid}

@@ -1,8 +1,6 @@
--- `schedule_line::schedule_for` meets its contract: the windows that are handed on decide as all of the table's do.
--- Assumes nothing.
+-- The windows that are handed on decide as all of the table's do.
 use mathlib.Core.Path.{refl, sym, _∙_}
-use mathlib.Core.List.{List, []}
-use Prim.Native.Nat.{ℕ}
+use mathlib.Core.List.{[]}
 use native.Mathlib.Omega.{arith}
 use lib.ListN.{length}
 use lib.Seq.{length-take-le}

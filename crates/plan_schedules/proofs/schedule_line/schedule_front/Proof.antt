@@ -1,5 +1,3 @@
--- `schedule_line::schedule_front` meets its contract.
--- Assumes nothing.
 use mathlib.Core.List.{[]}
 use lib.ListN.{length, take}
 use borrow.Author.Needs.{needs}

@@ -1,5 +1,4 @@
--- `schedule_line::schedule_read` meets its contract: the list of bytes is what was read.
--- Assumes nothing.
+-- The list of bytes is what was read.
 use mathlib.Core.Path.{_≡_, sym, _∙_, ap}
 use mathlib.Core.Bool.{Bool, true, false}
 use mathlib.Core.List.{[]}

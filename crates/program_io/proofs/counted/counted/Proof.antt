@@ -1,5 +1,4 @@
--- `counted::counted` meets its contract: a shorter file counts whole.
--- Assumes nothing.
+-- A shorter file counts whole.
 use mathlib.Core.Path.{refl, sym, _∙_}
 use native.Mathlib.Omega.{arith}
 use lib.ListN.{length}

@@ -1,5 +1,4 @@
 -- `front::fill` answers a count of the buffer's bytes and ends: each turn leaves fewer places free.
--- Assumes nothing.
 use mathlib.Core.Path.{_≡_}
 use Prim.Native.Nat.{_-_, _≤_}
 use native.Mathlib.Omega.{arith}

@@ -1,5 +1,4 @@
--- `line::plain` meets its contract: the text stands at the front.
--- Assumes nothing.
+-- The text stands at the front.
 use mathlib.Core.List.{[]}
 use native.Mathlib.Omega.{arith}
 use borrow.Author.Needs.{needs}

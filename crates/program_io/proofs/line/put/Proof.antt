@@ -1,5 +1,4 @@
--- `line::put` meets its contract. The loop's invariant: so many bytes of the text are pasted into the buffer.
--- Assumes nothing.
+-- The loop's invariant: so many bytes of the text are pasted into the buffer.
 use mathlib.Core.Path.{_≡_, refl, sym, ap, _∙_}
 use mathlib.Core.List.{List}
 use Prim.Native.Nat.{ℕ, _+_, _-_, _≤_, zero-le}

@@ -1,5 +1,3 @@
--- `line::refused` meets its contract.
--- Assumes nothing.
 use borrow.Author.Needs.{needs}
 use Rattle.program_io.proofs.line.refused.Statement.{statement}
 use Rattle.program_io.proofs.line.refused.Tie as tie

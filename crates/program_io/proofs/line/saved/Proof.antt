@@ -1,5 +1,4 @@
--- `line::saved` meets its contract: one line or the other.
--- Assumes nothing.
+-- One line or the other.
 use borrow.Author.Needs.{needs}
 use Rattle.prelude.proofs.Choice.{tests}
 use Rattle.program_io.proofs.Lines.{same-in}

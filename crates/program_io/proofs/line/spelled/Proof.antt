@@ -1,5 +1,4 @@
--- `line::spelled` meets its contract: three texts, one after the other, of at most 11, 20 and 1 bytes.
--- Assumes nothing.
+-- Three texts, one after the other, of at most 11, 20 and 1 bytes.
 use mathlib.Core.Path.{_≡_, ap, _∙_}
 use mathlib.Core.List.{List, [], _∷_, _++_}
 use Prim.Native.Nat.{ℕ, _-_, _^_, _≤_, _<_}

@@ -1,5 +1,4 @@
 -- `random_networks::trial::everywhere` is safe and ends: it counts to 5.
--- Assumes nothing.
 use Prim.Native.Nat.{_-_}
 use native.Mathlib.Omega.{arith}
 use borrow.Author.Needs.{needs}

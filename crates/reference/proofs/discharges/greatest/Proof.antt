@@ -1,5 +1,4 @@
 -- `reference::discharges::greatest` is safe and ends: it takes 1000000 paths at most.
--- Assumes nothing.
 use Prim.Native.Nat.{_-_}
 use native.Mathlib.Omega.{arith}
 use borrow.Author.Needs.{needs}

@@ -1,5 +1,4 @@
 -- `reference::discharges::send` is safe and ends: it takes 256 arcs at most.
--- Assumes nothing.
 use Prim.Native.Nat.{_-_}
 use native.Mathlib.Omega.{arith}
 use borrow.Author.Needs.{needs}

@@ -1,5 +1,4 @@
 -- `reference::network_files::write_records` is safe and ends: it goes through the records.
--- Assumes nothing.
 use Prim.Native.Nat.{_-_}
 use native.Mathlib.Omega.{arith}
 use borrow.Author.Needs.{needs}

@@ -1,5 +1,4 @@
 -- `reference::pairings::change` is safe and ends: it goes through 256 sites at most.
--- Assumes nothing.
 use Prim.Native.Nat.{_-_}
 use native.Mathlib.Omega.{arith}
 use borrow.Author.Needs.{needs}

@@ -1,5 +1,4 @@
 -- `reference::pairings::take_all_in` is safe and ends: it goes through the pumps.
--- Assumes nothing.
 use Prim.Native.Nat.{_-_}
 use native.Mathlib.Omega.{arith}
 use borrow.Author.Needs.{needs}

@@ -1,5 +1,4 @@
 -- `reference::routes::passes` is safe and ends: it makes as many passes as there are vertices.
--- Assumes nothing.
 use Prim.Native.Nat.{_-_}
 use native.Mathlib.Omega.{arith}
 use borrow.Author.Needs.{needs}

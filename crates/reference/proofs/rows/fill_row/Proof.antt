@@ -1,5 +1,4 @@
 -- `reference::rows::fill_row` is safe and ends: it counts to 256.
--- Assumes nothing.
 use Prim.Native.Nat.{_-_}
 use native.Mathlib.Omega.{arith}
 use borrow.Author.Needs.{needs}

@@ -1,5 +1,3 @@
--- `rules::annotation::amount_ok` meets its contract.
--- Assumes nothing.
 use borrow.Author.Needs.{needs}
 use Rattle.rules.proofs.annotation.amount_ok.Statement.{statement}
 use Rattle.rules.proofs.annotation.amount_ok.Tie as tie

@@ -1,5 +1,3 @@
--- `rules::annotation::claim_number` meets its contract.
--- Assumes nothing.
 use borrow.Author.Tests.{eq-eqb, ne-eqb}
 use Rattle.rules.proofs.annotation.claim_number.Statement.{statement}
 use Rattle.rules.proofs.annotation.claim_number.Tie as tie

@@ -1,5 +1,3 @@
--- `rules::annotation::claim_ok` meets its contract.
--- Assumes nothing.
 use borrow.Author.Needs.{needs}
 use Rattle.prelude.proofs.Tested.{tested}
 use Rattle.rules.proofs.annotation.claim_ok.Statement.{statement}

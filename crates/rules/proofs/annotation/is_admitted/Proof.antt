@@ -1,5 +1,3 @@
--- `rules::annotation::is_admitted` meets its contract.
--- Assumes nothing.
 use borrow.Author.Needs.{needs}
 use Rattle.rules.proofs.annotation.is_admitted.Statement.{statement}
 use Rattle.rules.proofs.annotation.is_admitted.Tie as tie

@@ -1,5 +1,3 @@
--- `rules::annotation::load_check` meets its contract.
--- Assumes nothing.
 use borrow.Author.Needs.{needs}
 use Rattle.prelude.proofs.Tested.{tested}
 use Rattle.rules.proofs.annotation.load_check.Statement.{statement}

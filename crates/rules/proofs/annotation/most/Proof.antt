@@ -1,5 +1,3 @@
--- `rules::annotation::most` meets its contract.
--- Assumes nothing.
 use borrow.Author.Needs.{needs}
 use Rattle.rules.proofs.annotation.most.Statement.{statement}
 use Rattle.rules.proofs.annotation.most.Tie as tie

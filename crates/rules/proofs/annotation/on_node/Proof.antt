@@ -1,5 +1,3 @@
--- `rules::annotation::on_node` meets its contract.
--- Assumes nothing.
 use mir.Facts.{toZ-ofZ}
 use borrow.Author.Needs.{needs}
 use Rattle.rules.proofs.annotation.on_node.Statement.{statement}

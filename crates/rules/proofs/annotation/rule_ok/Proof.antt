@@ -1,5 +1,3 @@
--- `rules::annotation::rule_ok` meets its contract.
--- Assumes nothing.
 use Rattle.words.proofs.Signs.{back}
 use mir.Syntax.{w32}
 use native.Mathlib.Omega.{arith}

@@ -1,5 +1,3 @@
--- `rules::annotation::source_zero` meets its contract.
--- Assumes nothing.
 use borrow.Author.Needs.{needs}
 use Rattle.rules.proofs.Signed.{signed}
 use Rattle.rules.proofs.annotation.source_zero.Statement.{statement}

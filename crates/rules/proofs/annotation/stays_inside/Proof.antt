@@ -1,5 +1,3 @@
--- `rules::annotation::stays_inside` meets its contract.
--- Assumes nothing.
 use mathlib.Core.Bool.{Bool·not-not}
 use borrow.Author.Needs.{needs}
 use Rattle.rules.proofs.annotation.stays_inside.Statement.{statement}

@@ -1,5 +1,3 @@
--- `session::Session::claim` meets its contract.
--- Assumes nothing.
 use mathlib.Core.Path.{_∙_}
 use Rattle.session.proofs.TurnsToSteps.{claim-replies, by-state}
 use Rattle.session.proofs.Session.claim.Statement.{statement}

@@ -1,5 +1,3 @@
--- `session::Session::end_reading` meets its contract.
--- Assumes nothing.
 use mathlib.Core.Path.{_∙_}
 use Rattle.session.proofs.TurnsToSteps.{end-replies, by-state}
 use Rattle.session.proofs.Session.end_reading.Statement.{statement}

@@ -1,5 +1,3 @@
--- `session::Session::finish` meets its contract.
--- Assumes nothing.
 use mathlib.Core.Path.{_∙_}
 use Rattle.session.proofs.TurnsToSteps.{finish-refused, finish-answered}
 use Rattle.session.proofs.Session.finish.Statement.{statement}

@@ -1,5 +1,3 @@
--- `session::Session::node_number` meets its contract.
--- Assumes nothing.
 use mathlib.Core.Path.{_∙_, ap}
 use Rattle.prelude.specs.Choice.{pick}
 use lib.Dec.{eqb}

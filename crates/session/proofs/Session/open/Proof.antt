@@ -1,5 +1,3 @@
--- `session::Session::open` meets its contract.
--- Assumes nothing.
 use mathlib.Core.Path.{_∙_, ap}
 use Rattle.state.specs.declared.Response.the-variants.{Refused}
 use Rattle.checks.specs.Held.{handed}

@@ -1,5 +1,3 @@
--- `session::Session::read_channel` meets its contract.
--- Assumes nothing.
 use mathlib.Core.Path.{_∙_}
 use Rattle.arc_records.specs.Arcs.{arcOf}
 use Rattle.session.proofs.TurnsToSteps.{read-replies, by-state}

@@ -1,8 +1,4 @@
--- `session::Session::refuse` meets its contract.
--- Assumes nothing.
 use mathlib.Core.Path.{sym, _∙_}
-use lib.Dec.{eqb}
-use Rattle.state.specs.State.{isClaimed}
 use Rattle.session.proofs.TurnsToSteps.{refused-ended, refused-same}
 use Rattle.session.proofs.Session.refuse.Statement.{statement}
 use Rattle.session.proofs.Session.refuse.Tie as tie

@@ -1,5 +1,3 @@
--- `session::Session::repeat_channel` meets its contract.
--- Assumes nothing.
 use lib.Dec.{eqb}
 use Rattle.network.specs.Network.{loadOf}
 use Rattle.vertex_arrays.specs.Arrays.{moved}

@@ -1,5 +1,3 @@
--- `session::Session::turned` meets its contract.
--- Assumes nothing.
 use Rattle.prelude.proofs.Choice.{checks}
 use Rattle.session.proofs.Session.turned.Statement.{statement}
 use Rattle.session.proofs.Session.turned.Tie as tie

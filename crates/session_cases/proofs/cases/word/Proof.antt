@@ -1,5 +1,4 @@
 -- `session_cases::cases::word` is safe and ends: it counts to a number.
--- Assumes nothing.
 use Prim.Native.Nat.{_-_, _≤_}
 use native.Mathlib.Omega.{arith}
 use borrow.Author.Needs.{needs}

@@ -1,5 +1,3 @@
--- `session_groups::refusals::is_ended_by` meets its contract.
--- Assumes nothing.
 use Rattle.prelude.proofs.Tested.{tested}
 use Rattle.session_groups.proofs.refusals.is_ended_by.Statement.{statement}
 use Rattle.session_groups.proofs.refusals.is_ended_by.Tie as tie

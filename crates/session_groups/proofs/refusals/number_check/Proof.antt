@@ -1,5 +1,3 @@
--- `session_groups::refusals::number_check` meets its contract.
--- Assumes nothing.
 use mir.Facts.{toZ-ofZ}
 use Rattle.prelude.proofs.Tested.{tested}
 use borrow.Author.Needs.{needs}

@@ -1,5 +1,3 @@
--- `session_groups::refusals::read_check` meets its contract.
--- Assumes nothing.
 use borrow.Author.Tests.{eq-eqb, ne-eqb}
 use Rattle.session_groups.proofs.refusals.read_check.Statement.{statement}
 use Rattle.session_groups.proofs.refusals.read_check.Tie as tie

@@ -1,5 +1,3 @@
--- `session_groups::refusals::repeat_check` meets its contract.
--- Assumes nothing.
 use borrow.Author.Needs.{needs}
 use Rattle.prelude.proofs.Tested.{tested}
 use Rattle.session_groups.proofs.refusals.repeat_check.Statement.{statement}

@@ -1,5 +1,3 @@
--- `state::State::answer` meets its contract.
--- Assumes nothing.
 use mathlib.Core.Path.{_∙_, ap₂}
 use native.Mathlib.Omega.{arith}
 use lib.IntN.{ℤ}

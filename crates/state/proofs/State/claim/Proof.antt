@@ -1,5 +1,3 @@
--- `state::State::claim` meets its contract.
--- Assumes nothing.
 use borrow.Author.Tests.{eq-eqb, ne-eqb}
 use Rattle.prelude.proofs.Tested.{passed, refused}
 use Rattle.state.specs.Turns.{claimTurn}

@@ -1,5 +1,3 @@
--- `state::State::end_reading` meets its contract.
--- Assumes nothing.
 use borrow.Author.Tests.{eq-eqb, ne-eqb}
 use Rattle.state.specs.Turns.{endTurn}
 use Rattle.state.proofs.State.end_reading.Statement.{statement}

@@ -1,7 +1,4 @@
--- `state::State::node_number` meets its contract.
--- Assumes nothing.
 use mathlib.Core.Path.{refl, _∙_, ap}
-use native.Mathlib.Omega.{arith}
 use lib.Dec.{ltb→lt}
 use lib.IntN.{ℤ}
 use mir.Facts.{toZ-ofZ}

@@ -1,7 +1,4 @@
--- `state::State::read_channel` meets its contract.
--- Assumes nothing.
 use mathlib.Core.Path.{refl}
-use native.Mathlib.Omega.{arith}
 use lib.Dec.{ltb→lt}
 use Rattle.arc_records.specs.Arcs.{arcHeld}
 use Rattle.state.specs.State.{readChecks, withRead}

@@ -1,5 +1,3 @@
--- `state::State::repeat_channel` meets its contract.
--- Assumes nothing.
 use mathlib.Core.Path.{_≡_, refl, _∙_, ap, ap₂}
 use mathlib.Core.Bool.{Bool, not, _&&_}
 use mathlib.Core.List.{List}

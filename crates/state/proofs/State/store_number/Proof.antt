@@ -1,5 +1,3 @@
--- `state::State::store_number` meets its contract.
--- Assumes nothing.
 use mathlib.Core.Path.{_∙_, ap}
 use lib.IntN.{ℤ}
 use lib.ListN.{set}

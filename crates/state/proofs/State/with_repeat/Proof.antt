@@ -1,5 +1,3 @@
--- `state::State::with_repeat` meets its contract.
--- Assumes nothing.
 use mathlib.Core.Path.{_∙_, ap, ap₂}
 use native.Mathlib.Omega.{arith}
 use lib.IntN.{ℤ, pos}

@@ -1,5 +1,3 @@
--- `state::additions::with_arc` meets its contract.
--- Assumes nothing.
 use borrow.Author.Needs.{needs}
 use Rattle.state.proofs.additions.with_arc.Statement.{statement}
 use Rattle.state.proofs.additions.with_arc.Tie as tie

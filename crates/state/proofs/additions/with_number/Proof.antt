@@ -1,5 +1,3 @@
--- `state::additions::with_number` meets its contract.
--- Assumes nothing.
 use Rattle.prelude.proofs.Choice.{checks}
 use Rattle.words.proofs.Signs.{signs}
 use Rattle.session_groups.proofs.GroupLaws.{number-done}

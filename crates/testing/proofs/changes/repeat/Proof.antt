@@ -1,5 +1,4 @@
 -- `testing::changes::repeat` is safe and ends: it goes through the bytes that are added.
--- Assumes nothing.
 use Prim.Native.Nat.{_-_}
 use native.Mathlib.Omega.{arith}
 use borrow.Author.Needs.{needs}

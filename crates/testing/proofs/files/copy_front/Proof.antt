@@ -1,5 +1,4 @@
 -- `testing::files::copy_front` is safe and ends: it goes through the bytes.
--- Assumes nothing.
 use Prim.Native.Nat.{_-_}
 use mathlib.Core.Path.{_≡_}
 use native.Mathlib.Omega.{arith}

@@ -1,5 +1,4 @@
 -- `testing::files::kept` is safe and ends: it goes through the annotation's part from an index on.
--- Assumes nothing.
 use Prim.Native.Nat.{_-_}
 use native.Mathlib.Omega.{arith}
 use borrow.Author.Needs.{needs}

@@ -1,5 +1,4 @@
 -- `testing::print::counts` is safe and ends: it goes through the names.
--- Assumes nothing.
 use Prim.Native.Nat.{_-_, _≤_}
 use native.Mathlib.Omega.{arith}
 use borrow.Author.Needs.{needs}

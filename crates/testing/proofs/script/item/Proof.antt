@@ -1,5 +1,4 @@
 -- `testing::script::item` is safe and ends: it passes k commas.
--- Assumes nothing.
 use Prim.Native.Nat.{_-_, _≤_}
 use native.Mathlib.Omega.{arith}
 use borrow.Author.Needs.{needs}

@@ -1,5 +1,3 @@
--- `lines::line_says` meets its contract.
--- Assumes nothing.
 use mathlib.Core.Path.{_∙_}
 use native.Mathlib.Omega.{arith}
 use Rattle.tide_table.proofs.Words.{line-said, line-skipped}

@@ -1,5 +1,4 @@
--- `lines::read_lines` meets its contract. The loop's invariant: a line begins at the index, and what the whole says is what the lines from there on say behind those read.
--- Assumes nothing.
+-- The loop's invariant: a line begins at the index, and what the whole says is what the lines from there on say behind those read.
 use mathlib.Core.Path.{_∙_}
 use Prim.Native.Nat.{_-_}
 use native.Mathlib.Omega.{arith}

@@ -1,6 +1,3 @@
--- `lines::words_say` meets its contract.
--- Assumes nothing.
-use borrow.Author.Needs.{needs}
 use Rattle.prelude.proofs.Tested.{tested}
 use Rattle.tide_table.proofs.lines.words_say.Statement.{statement}
 use Rattle.tide_table.proofs.lines.words_say.Tie as tie

@@ -1,5 +1,4 @@
--- `text::find` meets its contract. The loop's invariant: from i on it finds the same byte.
--- Assumes nothing.
+-- The loop's invariant: from i on it finds the same byte.
 use mathlib.Core.Path.{_≡_, refl, sym, _∙_}
 use Prim.Native.Nat.{_+_, _-_}
 use native.Mathlib.Numerals.{add-one}

@@ -1,5 +1,3 @@
--- `text::is_blank` meets its contract.
--- Assumes nothing.
 use borrow.Author.Tests.{eq-eqb, ne-eqb}
 use Rattle.tide_table.proofs.text.is_blank.Statement.{statement}
 use Rattle.tide_table.proofs.text.is_blank.Tie as tie

@@ -1,5 +1,3 @@
--- `text::is_digit` meets its contract.
--- Assumes nothing.
 use Rattle.prelude.proofs.Tested.{tested}
 use Rattle.tide_table.proofs.text.is_digit.Statement.{statement}
 use Rattle.tide_table.proofs.text.is_digit.Tie as tie

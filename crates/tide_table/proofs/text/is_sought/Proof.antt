@@ -1,5 +1,3 @@
--- `text::is_sought` meets its contract.
--- Assumes nothing.
 use mathlib.Core.Path.{ap}
 use mathlib.Core.Bool.{not}
 use borrow.Author.Needs.{needs}

@@ -1,5 +1,3 @@
--- `text::next_word` meets its contract.
--- Assumes nothing.
 use borrow.Author.Needs.{needs}
 use Rattle.tide_table.proofs.Words.{no-word-read, word-within, word-read}
 use Rattle.tide_table.proofs.text.next_word.Statement.{statement}

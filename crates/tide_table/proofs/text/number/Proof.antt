@@ -1,5 +1,4 @@
--- `text::number` meets its contract. The loop's invariant: the digits from i on decide, and go on with n.
--- Assumes nothing.
+-- The loop's invariant: the digits from i on decide, and go on with n.
 use mathlib.Core.Path.{_≡_, refl, sym, _∙_}
 use mathlib.Core.Bool.{true}
 use Prim.Native.Nat.{_-_}

@@ -1,5 +1,3 @@
--- `words::marks::is_marked` meets its contract.
--- Assumes nothing.
 use mathlib.Core.Path.{_≡_, sym}
 use native.Mathlib.Omega.{arith}
 use lib.Bits.{and-mask}

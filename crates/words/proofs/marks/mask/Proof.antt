@@ -1,5 +1,3 @@
--- `words::marks::mask` meets its contract.
--- Assumes nothing.
 use native.Mathlib.Omega.{arith}
 use borrow.Author.Needs.{needs}
 use Rattle.words.specs.Masks.{mask}

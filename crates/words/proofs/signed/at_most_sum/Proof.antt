@@ -1,5 +1,4 @@
--- `words::signed::at_most_sum` meets its contract: the sum is far below the end of 64 bits.
--- Assumes nothing.
+-- The sum is far below the end of 64 bits.
 use native.Mathlib.Omega.{arith}
 use lib.IntN.{pos}
 use mir.Facts.{toZ-ofZ}

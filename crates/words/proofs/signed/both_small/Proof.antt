@@ -1,5 +1,3 @@
--- `words::signed::both_small` meets its contract.
--- Assumes nothing.
 use mathlib.Core.Path.{sym, _∙_}
 use mir.Facts.{toZ-ofZ}
 use borrow.Author.Needs.{needs}

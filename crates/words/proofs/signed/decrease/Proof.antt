@@ -1,7 +1,5 @@
--- `words::signed::decrease` meets its contract.
--- Assumes nothing.
 use mathlib.Core.Path.{_∙_, ap}
-use lib.IntN.{pos, _-ℤ_}
+use lib.IntN.{pos}
 use mir.Syntax.{w64}
 use mir.Val.{toZ, ofZ}
 use mir.Facts.{toZ-ofZ}

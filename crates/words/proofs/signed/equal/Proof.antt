@@ -1,5 +1,3 @@
--- `words::signed::equal` meets its contract.
--- Assumes nothing.
 use mir.Syntax.{w64}
 use Rattle.words.proofs.Signs.{bits-eq}
 use Rattle.words.proofs.signed.equal.Statement.{statement}

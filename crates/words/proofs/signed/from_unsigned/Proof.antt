@@ -1,5 +1,3 @@
--- `words::signed::from_unsigned` meets its contract.
--- Assumes nothing.
 use borrow.Author.Needs.{needs}
 use Rattle.words.proofs.Signs.{wide-pos}
 use Rattle.words.proofs.signed.from_unsigned.Statement.{statement}

@@ -1,5 +1,3 @@
--- `words::signed::is_small` meets its contract.
--- Assumes nothing.
 use mir.Facts.{toZ-ofZ}
 use Rattle.words.proofs.signed.is_small.Statement.{statement}
 use Rattle.words.proofs.signed.is_small.Tie as tie

@@ -1,6 +1,3 @@
--- `words::signed::subtract` meets its contract.
--- Assumes nothing.
-use lib.IntN.{_-ℤ_}
 use borrow.Author.Needs.{needs}
 use Rattle.words.proofs.Signs.{mag-sub, op-fits, op-done, op-not}
 use Rattle.words.proofs.signed.subtract.Statement.{statement}

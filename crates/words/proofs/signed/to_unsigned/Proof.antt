@@ -1,5 +1,4 @@
--- `words::signed::to_unsigned` meets its contract: the test reads the number back from its bits.
--- Assumes nothing.
+-- The test reads the number back from its bits.
 use mir.Facts.{toZ-ofZ}
 use Rattle.words.proofs.Signs.{natural-none, natural-fits, natural-is}
 use Rattle.words.proofs.signed.to_unsigned.Statement.{statement}

@@ -1,5 +1,3 @@
--- `words::signed::widened` meets its contract.
--- Assumes nothing.
 use Rattle.words.proofs.Signs.{wide, wide-fits}
 use Rattle.words.proofs.signed.widened.Statement.{statement}
 use Rattle.words.proofs.signed.widened.Tie as tie

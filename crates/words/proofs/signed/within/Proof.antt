@@ -1,5 +1,3 @@
--- `words::signed::within` meets its contract.
--- Assumes nothing.
 use mir.Facts.{toZ-ofZ}
 use Rattle.words.proofs.signed.within.Statement.{statement}
 use Rattle.words.proofs.signed.within.Tie as tie
