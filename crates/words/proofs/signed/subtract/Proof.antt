@@ -1,3 +1,4 @@
+use lib.IntN.{_-ℤ_}
 use borrow.Author.Needs.{needs}
 use Rattle.words.proofs.Signs.{mag-sub, op-fits, op-done, op-not}
 use Rattle.words.proofs.signed.subtract.Statement.{statement}
