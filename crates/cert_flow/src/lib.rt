@@ -5,15 +5,15 @@ ghost use Rattle.arc_records.specs.Arcs.{wordArcs};
 ghost use Rattle.network.specs.Question.{shortestPath, maximumFlow, asks, Admissible};
 ghost use Rattle.checks.specs.Held.{asked};
 ghost use Rattle.cert_instances.specs.Certify.{findingNumber, Solution};
+use arc_records::MOST_ARCS;
+use arc_records::MOST_VERTICES;
 use cert_instances::Finding;
 use cert_instances::records::pack;
 use cert_instances::vertices::NumberKind;
 use cert_instances::vertices::stand;
 use cert_instances::vertices::write;
 use checks::HeldSetting;
-use flow_maximum::Sent;
-use arc_records::MOST_ARCS;
-use arc_records::MOST_VERTICES;
+use flow_path::Sent;
 
 // More units than all arcs together can carry.
 const PLENTY: u32 = 134213633;
@@ -76,7 +76,7 @@ fn answer_path(
     let mut arcs = [0u64; MOST_ARCS as usize];
     pack(st, records, &mut arcs[..m]);
     stand(st.s, left);
-    let sent = flow_maximum::send(&arcs[..m], t, 1, amounts, left, key);
+    let sent = flow_path::send(&arcs[..m], t, 1, amounts, left, key);
     match sent {
         Sent::Reached(_) => {
             write(NumberKind::Distance, key, numbers);
