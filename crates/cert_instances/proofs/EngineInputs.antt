@@ -18,12 +18,11 @@ use Rattle.network.proofs.Sums.{Inside, delta-same, delta-other}
 use Rattle.packed_arcs.specs.Entries.{entry, zeroList}
 use Rattle.packed_arcs.specs.PackedArcs.{tailOf, headOf, costOf}
 use Rattle.packed_arcs.specs.Limits.{arcFits, arcsFit}
-use Rattle.flow_preflow.specs.Outcome.{standingAt}
+use Rattle.flow_moves.specs.Preflow.{standingAt}
 use Rattle.flow_residual.specs.Phase.{Solved}
 use Rattle.flow_residual.specs.PackedNetwork.{PackedSolved}
 use Rattle.flow_maximum.specs.Calls.{solvable, Finished, SolveOutcome}
-use Rattle.flow_maximum.proofs.Settled.{standing-here, standing-other}
-use Rattle.flow_preflow.proofs.Outcomes.{standing-len}
+use Rattle.flow_moves.proofs.Standing.{standing-len, standing-here, standing-other}
 use Rattle.prelude.proofs.Tested.{both-on}
 use Rattle.cert_instances.specs.declared.vertices.NumberKind.the-variants.{Mark}
 use Rattle.cert_instances.specs.Instance.{Fits, tails, heads, constant, VertexList, single, plenty, reached, numberOf}

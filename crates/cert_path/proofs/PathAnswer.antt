@@ -20,9 +20,9 @@ use Rattle.flow_residual.specs.Residual.{unreached, ResidualNetwork, residual}
 use Rattle.flow_residual.specs.PackedNetwork.{residualOf, PackedPhaseState, PackedMoved}
 use Rattle.flow_residual.specs.Push.{Moved}
 use Rattle.flow_residual.specs.Phase.{SearchResult, PhaseState}
-use Rattle.flow_maximum.specs.Calls.{SearchAndPush, SendOutcome}
-use Rattle.flow_maximum.specs.declared.Sent.{Sent}
-use Rattle.flow_maximum.specs.declared.Sent.the-variants.{Reached, Unreached, Refused}
+use Rattle.flow_path.specs.Sending.{SearchAndPush, SendOutcome}
+use Rattle.flow_path.specs.declared.Sent.{Sent}
+use Rattle.flow_path.specs.declared.Sent.the-variants.{Reached, Unreached, Refused}
 use Rattle.packed_arcs.proofs.LentParts.{zero-at}
 use Rattle.prelude.proofs.Tested.{both-on}
 use Rattle.flow_residual.proofs.LastSearch.{near-enough}

@@ -13,7 +13,7 @@ use cert_instances::vertices::NumberKind;
 use cert_instances::vertices::stand;
 use cert_instances::vertices::write;
 use checks::HeldSetting;
-use flow_maximum::Sent;
+use flow_path::Sent;
 
 // What is found, and numbers and amounts that certify it, for a path.
 fn answer_path(
@@ -34,7 +34,7 @@ fn answer_path(
     let mut arcs = [0u64; MOST_ARCS as usize];
     pack(st, records, &mut arcs[..m]);
     stand(st.s, left);
-    let sent = flow_maximum::send(&arcs[..m], t, 1, amounts, left, key);
+    let sent = flow_path::send(&arcs[..m], t, 1, amounts, left, key);
     match sent {
         Sent::Reached(_) => {
             write(NumberKind::Distance, key, numbers);

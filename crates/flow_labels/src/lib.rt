@@ -1,64 +1,14 @@
 // Labels of the vertices: a breadth-first search back from a root over the residual arcs, the lowest label next to a vertex, and how many have a label.
 // No contract says what a label is: it is below 256, so it is an index by its type, and 255 stands for a vertex from which the root is not reached.
 ghost use mathlib.Core.Path.{_≡_};
-ghost use Prim.Native.Nat.{_+_, _<_, _≤_};
+ghost use Prim.Native.Nat.{_<_, _≤_};
 ghost use lib.ListN.{length};
-ghost use Rattle.prelude.specs.Choice.{pick};
-ghost use Rattle.packed_arcs.specs.Entries.{entry};
-ghost use Rattle.packed_arcs.specs.PackedArcs.{tailOf, headOf};
 ghost use Rattle.flow_moves.specs.Preflow.{Links};
-use packed_arcs::arcs::capacity_of;
-use packed_arcs::arcs::head_of;
-use packed_arcs::arcs::tail_of;
-
-// A label or a vertex as an index into an array of 256.
-pub fn index_of(l: u8) -> usize
-    ensures { λ r. ⌜ r < 256 ⌝ }
-{
-    l as usize
-}
-
-// An arc, or none, as an index.
-pub fn place(code: u16) -> usize
-    ensures { λ r. ⌜ r ≡ code ⌝ }
-{
-    code as usize
-}
-
-// The first arc at the vertex v.
-pub fn first_arc(v: usize, links: &[u16]) -> usize
-    requires { ⌜ v < length (now links) ⌝ }
-{
-    place(links[v])
-}
-
-// The arc after e at the same vertex.
-pub fn next_arc(e: usize, links: &[u16]) -> usize
-    requires { ⌜ 256 + e < length (now links) ⌝ }
-    ensures { λ r. ⌜ r ≡ entry (now (links .entry)) (256 + e) ⌝ }
-{
-    place(links[256 + e])
-}
-
-// ---- residual arcs, forward or back
-
-// Does the residual network have the arc, which carries the amount: forward where there is room, back where it carries something?
-pub fn is_residual(back: bool, arc: u64, amount: u16) -> bool {
-    if back {
-        return 0 < amount;
-    }
-    amount < capacity_of(arc)
-}
-
-// The vertex that the residual arc leads to.
-pub fn end_of(back: bool, arc: u64) -> usize
-    ensures { λ r. ⌜ (r ≡ pick back (tailOf arc) (headOf arc)) × (r < 256) ⌝ }
-{
-    if back {
-        return tail_of(arc);
-    }
-    head_of(arc)
-}
+use flow_arcs::end_of;
+use flow_arcs::first_arc;
+use flow_arcs::index_of;
+use flow_arcs::is_residual;
+use flow_arcs::next_arc;
 
 // ---- the search
 

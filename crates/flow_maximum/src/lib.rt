@@ -1,23 +1,76 @@
-// Successive shortest paths over the residual network of a list of packed arcs.
-// Both calls refuse what is not within the limits, and then change nothing.
+// A preflow, and successive shortest paths over the residual network after it, of a list of packed arcs.
+// What is not within the limits is refused, and then nothing is changed.
 ghost use mathlib.Core.Path.{_≡_};
 ghost use Prim.Native.Nat.{_+_};
 ghost use lib.ListN.{length};
-ghost use Rattle.flow_maximum.specs.Calls.{SolveOutcome, SendOutcome};
+ghost use Rattle.packed_arcs.specs.Entries.{zeroList};
+ghost use Rattle.packed_arcs.specs.PackedArcs.{tailsOf, headsOf};
+ghost use Rattle.arc_index.specs.Chains.{Chains};
+ghost use Rattle.flow_moves.specs.Preflow.{PackedConserved, standingAt};
+ghost use Rattle.flow_settling.specs.Settling.{SolveReady};
+ghost use Rattle.flow_maximum.specs.Calls.{Finished, SolveOutcome};
+use flow_phases::run;
 use flow_preflow::preflow;
-use packed_arcs::clearing::clear_amounts;
-use packed_arcs::limits::is_sendable;
-use sending::index_and_send;
-use settling::finish;
+use flow_settling::prepare;
 
-mod sending;
-mod settling;
+// Phases after a preflow, on arrays of zeros.
+fn move_on(
+    s: usize,
+    t: usize,
+    supply: u32,
+    arcs: &[u64],
+    out: &[u16],
+    into: &[u16],
+    x: &mut [u16],
+    pi: &mut [u32],
+    left: &mut [u32],
+    need: &mut [u32],
+    key: &mut [u32],
+    par: &mut [u16],
+)
+    requires { ⌜ SolveReady (now arcs) s t (length (now left)) × PackedConserved (now arcs) (standingAt (length (now left)) s supply) (now x) (now left) ⌝ }
+    requires { ⌜ Chains (tailsOf (now arcs)) (now out) × Chains (headsOf (now arcs)) (now into) × (length (now key) ≡ length (now left)) × (length (now par) ≡ length (now left)) ⌝ }
+    requires { ⌜ (now need ≡ zeroList (length (now left))) × (now pi ≡ zeroList (length (now left))) ⌝ }
+    ensures { λ _. ⌜ Finished (now (arcs .entry)) s t supply (length (now (left .entry))) (now (x .exit)) (now (key .exit)) ⌝ }
+{
+    prepare(s, t, supply, arcs, x, left, need);
+    run(arcs, out, into, x, pi, left, need, key, par);
+}
 
-// What came of a call of `send`: how much reached the vertex, that no path leads there, or a refusal.
-pub enum Sent {
-    Reached(u32),
-    Unreached,
-    Refused,
+// Phases after a preflow.
+fn finish(
+    s: usize,
+    t: usize,
+    supply: u32,
+    arcs: &[u64],
+    out: &[u16],
+    into: &[u16],
+    x: &mut [u16],
+    left: &mut [u32],
+    key: &mut [u32],
+)
+    requires { ⌜ SolveReady (now arcs) s t (length (now left)) × PackedConserved (now arcs) (standingAt (length (now left)) s supply) (now x) (now left) ⌝ }
+    requires { ⌜ Chains (tailsOf (now arcs)) (now out) × Chains (headsOf (now arcs)) (now into) × (length (now key) ≡ length (now left)) ⌝ }
+    ensures { λ _. ⌜ Finished (now (arcs .entry)) s t supply (length (now (left .entry))) (now (x .exit)) (now (key .exit)) ⌝ }
+{
+    let n = left.len();
+    let mut pi = [0u32; 255];
+    let mut need = [0u32; 255];
+    let mut par = [0u16; 255];
+    move_on(
+        s,
+        t,
+        supply,
+        arcs,
+        out,
+        into,
+        x,
+        &mut pi[..n],
+        left,
+        &mut need[..n],
+        key,
+        &mut par[..n],
+    );
 }
 
 // A preflow, and phases after it.
@@ -68,38 +121,5 @@ pub fn solve(arcs: &[u64], s: usize, t: usize, supply: u32, x: &mut [u16], key: 
         &mut out[..end],
         &mut into[..end],
         key,
-    )
-}
-
-// Moves at most want from the vertices with supply left to the vertex t, along one path of least cost. The amounts x start at 0, and keys are written over.
-pub fn send(
-    arcs: &[u64],
-    t: usize,
-    want: u32,
-    x: &mut [u16],
-    left: &mut [u32],
-    key: &mut [u32],
-) -> Sent
-    ensures { λ r. ⌜ SendOutcome (now (arcs .entry)) t want (now (x .entry)) (now (left .entry)) (now (key .entry)) (now (x .exit)) (now (left .exit)) (now (key .exit)) r ⌝ }
-{
-    let n = left.len();
-    if !is_sendable(arcs, t, x.len(), n, key.len()) {
-        return Sent::Refused;
-    }
-    clear_amounts(x);
-    let end = 256 + arcs.len();
-    let mut out = [0u16; 4352];
-    let pi = [0u32; 255];
-    let mut par = [0u16; 255];
-    index_and_send(
-        t,
-        want,
-        arcs,
-        &mut out[..end],
-        &pi[..n],
-        x,
-        left,
-        key,
-        &mut par[..n],
     )
 }

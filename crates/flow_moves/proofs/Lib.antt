@@ -1,1 +1,2 @@
 pub mod Conserving
+pub mod Standing

@@ -4,7 +4,7 @@ use mathlib.Core.Path.{_≡_}
 use mathlib.Core.List.{List}
 use Prim.Native.Nat.{ℕ, _+_, _-_, _<_, _≤_}
 use lib.ListN.{length, set}
-use Rattle.packed_arcs.specs.Entries.{entry, sum, flowAt}
+use Rattle.packed_arcs.specs.Entries.{entry, sum, flowAt, zeroList}
 use Rattle.packed_arcs.specs.PackedArcs.{tailsOf, headsOf, capacitiesOf}
 
 -- The amounts x leave `left` at the vertices, where `start` stood when all amounts were 0.
@@ -36,6 +36,10 @@ pub record Moves (arcs x left x' left' : List ℕ) : Type 0 where
   pub x-len : length x' ≡ length x
   pub left-len : length left' ≡ length left
   pub keeps : (start : List ℕ) → PackedConserved arcs start x left → PackedConserved arcs start x' left'
+
+-- The supply at s, of n vertices, and nothing elsewhere.
+abbrev pub standingAt : ℕ → ℕ → ℕ → List ℕ
+standingAt n s supply = set (zeroList n) s supply
 
 -- What stands at the vertices after g moved from a to b; a and b may be the same.
 abbrev pub transferred : List ℕ → ℕ → ℕ → ℕ → List ℕ

@@ -3,11 +3,13 @@
 ghost use mathlib.Core.Path.{_≡_};
 ghost use Prim.Native.Nat.{_<_, _≤_, min};
 ghost use lib.ListN.{length};
-ghost use Rattle.packed_arcs.specs.Entries.{entry, sum};
-ghost use Rattle.flow_moves.specs.Preflow.{Ready, Moves, transferred};
+ghost use Rattle.packed_arcs.specs.Entries.{entry, sum, zeroList};
+ghost use Rattle.flow_moves.specs.Preflow.{Ready, Moves, standingAt, transferred};
 use packed_arcs::arcs::capacity_of;
 use packed_arcs::arcs::head_of;
 use packed_arcs::arcs::tail_of;
+use packed_arcs::clearing::clear_amounts;
+use packed_arcs::clearing::clear_potentials;
 
 // An amount as a supply.
 fn wide(amount: u16) -> u32
@@ -74,4 +76,14 @@ pub fn shift(back: bool, e: usize, arcs: &[u64], x: &mut [u16], left: &mut [u32]
         return shift_backward(e, arcs, x, left);
     }
     shift_forward(e, arcs, x, left)
+}
+
+// Nothing has moved yet: the supply stands at s.
+pub fn stand_at(s: usize, supply: u32, x: &mut [u16], left: &mut [u32])
+    requires { ⌜ s < length (now left) ⌝ }
+    ensures { λ _. ⌜ (now (x .exit) ≡ zeroList (length (now (x .entry)))) × (now (left .exit) ≡ standingAt (length (now (left .entry))) s supply) ⌝ }
+{
+    clear_amounts(x);
+    clear_potentials(left);
+    left[s] = supply;
 }

@@ -6,9 +6,10 @@ ghost use lib.ListN.{length};
 ghost use Rattle.packed_arcs.specs.Entries.{entry};
 ghost use Rattle.packed_arcs.specs.PackedArcs.{tailsOf, headsOf};
 ghost use Rattle.arc_index.specs.Chains.{Chains};
-ghost use Rattle.flow_residual.specs.PackedNetwork.{PackedSolved, PackedPhaseState};
-ghost use Rattle.flow_residual.specs.Phase.{Nearest};
+ghost use Rattle.flow_residual.specs.PackedNetwork.{residualOf, PackedSolved, PackedPhaseState};
+ghost use Rattle.flow_residual.specs.Phase.{Nearest, SearchResult};
 ghost use Rattle.flow_residual.specs.Residual.{RaisedPotentials};
+ghost use Rattle.flow_phases.specs.Advancing.{PackedAdvanced};
 use flow_push::least;
 use flow_push::push;
 use flow_search::UNREACHED;
@@ -59,6 +60,27 @@ fn nearest(need: &[u32], key: &[u32]) -> usize
     best
 }
 
+// A phase after its search: potentials are raised, and supply moves to t, the nearest vertex with need.
+fn advance(
+    t: usize,
+    arcs: &[u64],
+    key: &[u32],
+    par: &[u16],
+    x: &mut [u16],
+    pi: &mut [u32],
+    left: &mut [u32],
+    need: &mut [u32],
+)
+    requires { ⌜ PackedPhaseState (now arcs) (now x) (now pi) (now left) (now need) × SearchResult (residualOf (now arcs) (now x) (now pi)) (now left) (now key) (now par) ⌝ }
+    requires { ⌜ Nearest (now need) (now key) t × (t < length (now key)) ⌝ }
+    ensures { λ _. ⌜ PackedAdvanced (now (arcs .entry)) (now (x .entry)) (now (pi .entry)) (now (left .entry)) (now (need .entry)) (now (x .exit)) (now (pi .exit)) (now (left .exit)) (now (need .exit)) ⌝ }
+{
+    raise(key[t], key, pi);
+    let want = need[t];
+    let got = push(t, want, arcs, par, key, x, left);
+    need[t] = want - got;
+}
+
 // Moves supply to where it is needed, at least cost, until no vertex with need is reached.
 pub fn run(
     arcs: &[u64],
@@ -78,13 +100,9 @@ pub fn run(
     loop {
         search(arcs, out, into, x, pi, left, key, par);
         let t = nearest(need, key);
-        if t < key.len() {
-            raise(key[t], key, pi);
-            let want = need[t];
-            let got = push(t, want, arcs, par, key, x, left);
-            need[t] = want - got;
-        } else {
-            break;
+        if key.len() <= t {
+            return;
         }
+        advance(t, arcs, key, par, x, pi, left, need);
     }
 }

@@ -6,7 +6,7 @@ use mathlib.Core.List.{List}
 use Prim.Native.Nat.{ℕ, _+_, _<_, _≤_}
 use native.Mathlib.Omega.{arith}
 use lib.Dec.{eqb, ltb, leb, eqb→eq, leb→le, ltb→lt}
-use lib.ListN.{length, set, length-map, length-set, length-replicate}
+use lib.ListN.{length, length-map, length-replicate}
 use Rattle.prelude.proofs.Booleans.{and-left, and-right, true→T}
 use Rattle.prelude.proofs.Tested.{passed, refused as failed}
 use Rattle.packed_arcs.specs.Entries.{zeroList}
@@ -16,13 +16,13 @@ use Rattle.packed_arcs.proofs.ArcColumns.{columns}
 use Rattle.packed_arcs.proofs.ColumnSums.{flow-none}
 use Rattle.packed_arcs.proofs.LentParts.{zero-at}
 use Rattle.packed_arcs.proofs.LimitTests.{Fitting, fitting, tail-below, head-below}
-use Rattle.packed_arcs.proofs.Sums.{sum-none, sum-at}
 use Rattle.arc_index.specs.Chains.{Chains}
 use Rattle.arc_index.specs.declared.End.the-variants.{Tail, Head}
 use Rattle.arc_index.proofs.Building.{Built, links-built}
 use Rattle.arc_index.proofs.Ends.{packed-chains}
-use Rattle.flow_moves.specs.Preflow.{PackedConserved, Ready, Moves}
-use Rattle.flow_preflow.specs.Outcome.{preflowable, standingAt, PreflowOutcome}
+use Rattle.flow_moves.specs.Preflow.{PackedConserved, standingAt, Ready, Moves}
+use Rattle.flow_moves.proofs.Standing.{standing-len, standing-sum}
+use Rattle.flow_preflow.specs.Outcome.{preflowable, PreflowOutcome}
 
 -- ---- what it is to pass the test
 
@@ -34,7 +34,8 @@ pub record Preflowable (arcs : List ℕ) (s t supply amounts n outs intos : ℕ)
   pub out-len : outs ≡ 256 + length arcs
   pub into-len : intos ≡ 256 + length arcs
 
-pub preflowable-facts : (arcs : List ℕ) (s t supply amounts n outs intos : ℕ) → preflowable arcs s t supply amounts n outs intos ≡ true → Preflowable arcs s t supply amounts n outs intos
+pub preflowable-facts : (arcs : List ℕ) (s t supply amounts n outs intos : ℕ) → preflowable arcs s t supply amounts n outs intos ≡ true
+    → Preflowable arcs s t supply amounts n outs intos
 preflowable-facts arcs s t supply amounts n outs intos ok =
     let two = ltb s n && ltb t n in
     let three = two && leb supply 2147483648 in
@@ -56,9 +57,6 @@ preflowable-facts arcs s t supply amounts n outs intos ok =
 
 -- ---- the supply at s, before anything moved
 
-pub standing-len : (n s supply : ℕ) → length (standingAt n s supply) ≡ n
-standing-len n s supply = length-set (zeroList n) s supply ∙ length-replicate n 0
-
 pub start-conserved : {arcs : List ℕ} {amounts n : ℕ} → Fitting arcs amounts n → (s supply : ℕ) → s < n → supply ≤ 2147483648
     → PackedConserved arcs (standingAt n s supply) (zeroList amounts) (standingAt n s supply)
 start-conserved {arcs} {amounts} {n} F s supply hs hb =
@@ -75,51 +73,54 @@ start-conserved {arcs} {amounts} {n} F s supply hs hb =
       within = λ e h. omega (arith, zero-at amounts e);
       balance = λ w. omega (arith, flow-none (tailsOf arcs) amounts w, flow-none (headsOf arcs) amounts w);
       total = refl;
-      bounded = omega (arith, sum-at (zeroList n) s supply (omega (arith, length-replicate {A = ℕ} n 0)), sum-none n);
+      bounded = omega (arith, standing-sum n s supply hs);
     }
 
 -- ---- the outcome
 
-module _ (arcs : List ℕ) (s t supply : ℕ) (x left out into : List ℕ) (u : Bool) (e : u ≡ preflowable arcs s t supply (length x) (length left) (length out) (length into)) where
+-- the test is passed
+pub record Passed (arcs : List ℕ) (s t supply : ℕ) (x left out into : List ℕ) : Type 0 where
+  pub ok : preflowable arcs s t supply (length x) (length left) (length out) (length into) ≡ true
+
+module _ (arcs : List ℕ) (s t supply : ℕ) (x left out into : List ℕ) (u : Bool)
+    (e : u ≡ preflowable arcs s t supply (length x) (length left) (length out) (length into)) where
   pub preflow-refused : not u ≡ true → PreflowOutcome arcs s t supply x left out into x left out into false
-  preflow-refused h = PreflowOutcome.refused (failed (preflowable arcs s t supply (length x) (length left) (length out) (length into)) u h e) refl refl refl refl
+  preflow-refused h =
+      PreflowOutcome.refused (failed (preflowable arcs s t supply (length x) (length left) (length out) (length into)) u h e) refl refl refl refl
 
-  module _ (h : not u ≡ false) where
-    ok : preflowable arcs s t supply (length x) (length left) (length out) (length into) ≡ true
-    ok = passed (preflowable arcs s t supply (length x) (length left) (length out) (length into)) u h e
+  pub preflow-passed : not u ≡ false → Passed arcs s t supply x left out into
+  preflow-passed h = record { ok = passed (preflowable arcs s t supply (length x) (length left) (length out) (length into)) u h e }
 
-    pub preflow-facts : Preflowable arcs s t supply (length x) (length left) (length out) (length into)
-    preflow-facts = preflowable-facts arcs s t supply (length x) (length left) (length out) (length into) ok
+module _ {arcs : List ℕ} {s t supply : ℕ} {x left out into : List ℕ} (P : Passed arcs s t supply x left out into) where
+  pub preflow-facts : Preflowable arcs s t supply (length x) (length left) (length out) (length into)
+  preflow-facts = preflowable-facts arcs s t supply (length x) (length left) (length out) (length into) (P .ok)
 
-    -- the links after the arcs were indexed
-    pub by-tail : {out₁ : List ℕ} → Built arcs (tailsOf arcs) out out₁ → Chains (tailsOf arcs) out₁
-    by-tail {out₁} b =
+  -- the links after the arcs were indexed
+  pub by-tail : {out₁ : List ℕ} → Built arcs (tailsOf arcs) out out₁ → Chains (tailsOf arcs) out₁
+  by-tail {out₁} b =
+      let f = preflow-facts in
+      subst (Chains (tailsOf arcs)) (sym (links-built arcs (tailsOf arcs) out out₁ (f .fit .few) (f .out-len) b)) (packed-chains Tail arcs (f .fit .few))
+
+  pub by-head : {into₁ : List ℕ} → Built arcs (headsOf arcs) into into₁ → Chains (headsOf arcs) into₁
+  by-head {into₁} b =
+      let f = preflow-facts in
+      subst (Chains (headsOf arcs)) (sym (links-built arcs (headsOf arcs) into into₁ (f .fit .few) (f .into-len) b)) (packed-chains Head arcs (f .fit .few))
+
+  -- with the supply at s, before anything moved
+  module _ {x₁ left₁ : List ℕ} (S : (x₁ ≡ zeroList (length x)) × (left₁ ≡ standingAt (length left) s supply)) where
+    pub supplied-len : length left₁ ≡ length left
+    supplied-len = ap length (S .1) ∙ standing-len (length left) s supply
+
+    starts : PackedConserved arcs (standingAt (length left) s supply) x₁ left₁
+    starts =
         let f = preflow-facts in
-        subst (Chains (tailsOf arcs)) (sym (links-built arcs (tailsOf arcs) out out₁ (f .fit .few) (f .out-len) b)) (packed-chains Tail arcs (f .fit .few))
+        subst (λ (l : List ℕ). PackedConserved arcs (standingAt (length left) s supply) l left₁) (sym (S .0))
+        (subst (λ (l : List ℕ). PackedConserved arcs (standingAt (length left) s supply) (zeroList (length x)) l) (sym (S .1))
+        (start-conserved (f .fit) s supply (f .source) (f .bounded)))
 
-    pub by-head : {into₁ : List ℕ} → Built arcs (headsOf arcs) into into₁ → Chains (headsOf arcs) into₁
-    by-head {into₁} b =
-        let f = preflow-facts in
-        subst (Chains (headsOf arcs)) (sym (links-built arcs (headsOf arcs) into into₁ (f .fit .few) (f .into-len) b)) (packed-chains Head arcs (f .fit .few))
+    pub supplied : Ready arcs x₁ left₁
+    supplied = record { start = standingAt (length left) s supply; holds = starts }
 
-    -- after the amounts and what stands at the vertices were cleared
-    module _ {x₁ left₁ : List ℕ} (no-amounts : x₁ ≡ zeroList (length x)) (nothing : left₁ ≡ zeroList (length left)) where
-      pub left-within : (v : ℕ) → v < length left → v < length left₁
-      left-within v l = omega (arith, ap length nothing, length-replicate {A = ℕ} (length left) 0)
-
-      pub supplied-len : length (set left₁ s supply) ≡ length left
-      supplied-len = ap (λ (l : List ℕ). length (set l s supply)) nothing ∙ standing-len (length left) s supply
-
-      starts : PackedConserved arcs (standingAt (length left) s supply) x₁ (set left₁ s supply)
-      starts =
-          let f = preflow-facts in
-          subst (λ (l : List ℕ). PackedConserved arcs (standingAt (length left) s supply) l (set left₁ s supply)) (sym no-amounts)
-          (subst (λ (l : List ℕ). PackedConserved arcs (standingAt (length left) s supply) (zeroList (length x)) (set l s supply)) (sym nothing)
-          (start-conserved (f .fit) s supply (f .source) (f .bounded)))
-
-      pub supplied : Ready arcs x₁ (set left₁ s supply)
-      supplied = record { start = standingAt (length left) s supply; holds = starts }
-
-      pub preflow-moved : {out₁ into₁ x' left' : List ℕ} → Built arcs (tailsOf arcs) out out₁ → Built arcs (headsOf arcs) into into₁ → Moves arcs x₁ (set left₁ s supply) x' left'
-          → PreflowOutcome arcs s t supply x left out into x' left' out₁ into₁ true
-      preflow-moved o i m = PreflowOutcome.moved ok (by-tail o) (by-head i) (m .keeps (standingAt (length left) s supply) starts)
+    pub preflow-moved : {out₁ into₁ x' left' : List ℕ} → Built arcs (tailsOf arcs) out out₁ → Built arcs (headsOf arcs) into into₁
+        → Moves arcs x₁ left₁ x' left' → PreflowOutcome arcs s t supply x left out into x' left' out₁ into₁ true
+    preflow-moved o i m = PreflowOutcome.moved (P .ok) (by-tail o) (by-head i) (m .keeps (standingAt (length left) s supply) starts)

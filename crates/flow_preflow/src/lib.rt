@@ -8,14 +8,12 @@ ghost use Rattle.flow_moves.specs.Preflow.{Ready, Moves};
 ghost use Rattle.flow_preflow.specs.Outcome.{PreflowOutcome};
 use arc_index::End;
 use arc_index::packed::index_packed;
+use flow_moves::stand_at;
+use flow_stages::push_to_sink;
+use flow_stages::push_to_source;
 use limits::is_preflowable;
-use packed_arcs::clearing::clear_amounts;
-use packed_arcs::clearing::clear_potentials;
-use toward::push_to_sink;
-use toward::push_to_source;
 
 mod limits;
-mod toward;
 
 // Moves what stands at s as far as it goes to t, and what is left over at other vertices back to s.
 fn push_all(
@@ -55,9 +53,7 @@ pub fn preflow(
     if !is_preflowable(arcs, s, t, supply, x.len(), n, out.len(), into.len()) {
         return false;
     }
-    clear_amounts(x);
-    clear_potentials(left);
-    left[s] = supply;
+    stand_at(s, supply, x, left);
     index_packed(arcs, End::Tail, out);
     index_packed(arcs, End::Head, into);
     push_all(s, t, arcs, out, into, x, left);

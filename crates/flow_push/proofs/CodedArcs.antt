@@ -14,7 +14,7 @@ use Rattle.packed_arcs.specs.PackedArcs.{tailOf, headOf, capacityOf, tailsOf, h
 use Rattle.packed_arcs.proofs.ArcColumns.{columns, listed, tail-at, head-at, capacity-at}
 use Rattle.flow_residual.specs.PackedNetwork.{PackedPushReady}
 use Rattle.flow_residual.specs.Push.{codeArc, residualCapacity}
-use Rattle.flow_search.proofs.ArcReads.{ArcPlaces}
+use Rattle.flow_relaxing.proofs.ArcReads.{ArcPlaces}
 use Rattle.flow_residual.proofs.PushedAmounts.{codeStart, shifted}
 
 pub still : {m n e : ℕ} → m ≡ n → e < n → e < m

@@ -1,2 +1,1 @@
-pub mod ArcReads
 pub mod SearchLaws

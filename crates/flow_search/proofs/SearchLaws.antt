@@ -21,7 +21,8 @@ use Rattle.arc_index.proofs.ChainSteps as steps
 use Rattle.vertex_queue.specs.VertexQueue.{waitsNot, Kept, Holds, nobody, putIn, takenOut, leastVertex, leastEntry}
 use Rattle.vertex_queue.proofs.Laws.{begin-kept, put-kept, take-kept, taken-key, none-waits, vertex-below}
 use Rattle.flow_residual.specs.Residual.{unreached, ResidualNetwork, keyBeyond, WithinLimits, ParentArc, LoweredKeys, RelaxedArc, AllRelaxed}
-use Rattle.flow_search.specs.Search.{startOf, finishOf, IsResidual, lengthOf, codeOf, starts, Relaxed, LowerOutcome, RelaxOutcome, SearchReady, waiting, work, SearchState, Looking, firstCode, endCode, ScannedFrom, BackwardIndex}
+use Rattle.flow_relaxing.specs.Relaxing.{startOf, finishOf, IsResidual, lengthOf, codeOf, LowerOutcome, RelaxOutcome, SearchReady}
+use Rattle.flow_search.specs.Search.{starts, Relaxed, waiting, work, SearchState, Looking, firstCode, endCode, ScannedFrom, BackwardIndex}
 use Rattle.flow_residual.specs.Phase.{FirstKeys, firstKey, StartOutcome}
 use Rattle.flow_residual.proofs.FallingKeys.{lower-refl, lower-trans, lower-one}
 

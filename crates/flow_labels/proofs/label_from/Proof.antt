@@ -1,4 +1,4 @@
--- `flow_preflow::labels::label_from` meets its contract.
+-- `flow_labels::label_from` meets its contract.
 -- Assumes nothing.
 use Prim.Native.Nat.{_-_, _≤_}
 use native.Mathlib.Omega.{arith}
@@ -15,10 +15,17 @@ abbrev μ-loop : tie.MeasureT-loop
     256 - done
 
 reach-starts-requires : tie.Need-reach-starts-requires Inv-loop μ-loop
-reach-starts-requires c κs = ((c .before .before .before .before .index-of .ensures, c .before .before .before .before .before .before .before .before .before .before .before .before .before .before .pre .1, c .before .before .before .before .before .before .before .loop .inv), c .before .before .before .before .before .before .before .before .before .before .before .before .before .before .pre .3)
+reach-starts-requires c κs =
+    let at-index-of = c .before .before .before .before in
+    let at-loop = at-index-of .before .before .before in
+    let start = at-loop .before .before .before .before .before .before .before in
+    ((at-index-of .index-of .ensures, start .pre .1, at-loop .loop .inv), start .pre .3)
 
 reach-starts-requires-2 : tie.Need-reach-starts-requires-2 Inv-loop μ-loop
-reach-starts-requires-2 c κs = ((c .before .before .before .before .before .before .before .index-of .ensures, c .before .before .before .before .before .before .before .before .before .before .before .before .before .before .before .before .before .pre .1, c .before .before .reach-starts .ensures), c .before .before .before .before .before .before .before .before .before .before .before .before .before .before .before .before .before .pre .2)
+reach-starts-requires-2 c κs =
+    let at-index-of = c .before .before .before .before .before .before .before in
+    let start = at-index-of .before .before .before .before .before .before .before .before .before .before in
+    ((at-index-of .index-of .ensures, start .pre .1, c .before .before .reach-starts .ensures), start .pre .2)
 
 pub label-from-spec : {M : Type 1} → statement M
 label-from-spec =

@@ -1,4 +1,4 @@
--- `flow_preflow::labels::lowest_end` meets its contract.
+-- `flow_labels::lowest_end` meets its contract.
 -- Assumes nothing.
 use Prim.Native.Nat.{_-_}
 use native.Mathlib.Omega.{arith}
@@ -24,7 +24,15 @@ next-arc-requires : tie.Need-next-arc-requires Inv-loop μ-loop
 next-arc-requires c κs = omega (arith, c .before .before .before .before .before .before .before .pre .2 .len, c .before .loop-test .taken)
 
 loop-less : tie.Need-loop-less Inv-loop μ-loop
-loop-less c = omega (arith, c .before .before .before .before .before .before .before .before .pre .2 .few, c .before .before .before .before .before .before .before .before .pre .2 .later (c .before .before .before .loop .e) (c .before .before .loop-test .taken), c .next-arc .ensures, c .before .before .loop-test .taken)
+loop-less c =
+    let start = c .before .before .before .before .before .before .before .before in
+    omega (
+      arith,
+      start .pre .2 .few,
+      start .pre .2 .later (c .before .before .before .loop .e) (c .before .before .loop-test .taken),
+      c .next-arc .ensures,
+      c .before .before .loop-test .taken,
+    )
 
 pub lowest-end-spec : {M : Type 1} → statement M
 lowest-end-spec =

@@ -1,4 +1,4 @@
--- `flow_preflow::labels::reach_starts` meets its contract.
+-- `flow_labels::reach_starts` meets its contract.
 -- Assumes nothing.
 use Prim.Native.Nat.{_-_, _≤_}
 use native.Mathlib.Omega.{arith}
@@ -18,13 +18,27 @@ first-arc-requires : tie.Need-first-arc-requires Inv-loop μ-loop
 first-arc-requires c κs = omega (arith, c .before .before .before .pre .1 .len, c .before .before .before .pre .0 .0)
 
 reach-start-requires : tie.Need-reach-start-requires Inv-loop μ-loop
-reach-start-requires c κs = (c .before .before .loop-test .taken, c .before .before .before .before .before .before .before .before .pre .0 .1, c .before .before .before .loop .inv)
+reach-start-requires c κs =
+    let start = c .before .before .before .before .before .before .before .before in
+    (c .before .before .loop-test .taken, start .pre .0 .1, c .before .before .before .loop .inv)
 
 next-arc-requires : tie.Need-next-arc-requires Inv-loop μ-loop
-next-arc-requires c κs = omega (arith, c .before .before .before .before .before .before .before .before .before .pre .1 .len, c .before .before .before .loop-test .taken)
+next-arc-requires c κs =
+    let start = c .before .before .before .before .before .before .before .before .before in
+    omega (arith, start .pre .1 .len, c .before .before .before .loop-test .taken)
 
 loop-less : tie.Need-loop-less Inv-loop μ-loop
-loop-less c = omega (arith, c .before .before .before .before .before .before .before .before .before .before .pre .1 .few, c .before .before .before .before .before .before .before .before .before .before .pre .1 .later (c .before .before .before .before .before .loop .e) (c .before .before .before .before .loop-test .taken), c .next-arc .ensures, c .before .before .before .before .loop-test .taken)
+loop-less c =
+    let at-loop-test = c .before .before .before .before in
+    let at-loop = at-loop-test .before in
+    let start = at-loop .before .before .before .before .before in
+    omega (
+      arith,
+      start .pre .1 .few,
+      start .pre .1 .later (at-loop .loop .e) (at-loop-test .loop-test .taken),
+      c .next-arc .ensures,
+      at-loop-test .loop-test .taken,
+    )
 
 pub reach-starts-spec : {M : Type 1} → statement M
 reach-starts-spec =

@@ -7,13 +7,41 @@ use Rattle.flow_maximum.proofs.solve_by.Statement.{statement}
 use Rattle.flow_maximum.proofs.solve_by.Tie as tie
 
 returns : tie.Need-returns
-returns c = let s = c .before .before .before .before .before .before .before .before .before .before .before .before .before .before .before .before .before .before .before .before in let a = s .args in solve-refused (a .arcs .now) (a .s) (a .t) (a .supply) (a .x .now) (a .key .now) (s .pre .0) (s .pre .1) (s .pre .2) (c .before .before .before .before .before .before .before .before .before .preflow .ensures) (c .if1 .taken)
+returns c =
+    let at-preflow = c .before .before .before .before .before .before .before .before .before in
+    let s = at-preflow .before .before .before .before .before .before .before .before .before .before .before in
+    let a = s .args in
+    solve-refused (a .arcs .now) (a .s) (a .t) (a .supply) (a .x .now) (a .key .now) (s .pre .0) (s .pre .1) (s .pre .2)
+    (at-preflow .preflow .ensures) (c .if1 .taken)
 
 finish-requires : tie.Need-finish-requires
-finish-requires c κs = let s = c .before .before .before .before .before .before .before .before .before .before .before .before .before .before .before .before .before .before .before .before .before .before .before .before .before in let a = s .args in (solve-ready (a .arcs .now) (a .s) (a .t) (a .supply) (a .x .now) (a .key .now) (s .pre .0) (s .pre .1) (s .pre .2) (c .before .before .before .before .before .before .before .before .before .before .before .before .before .before .preflow .ensures) (c .before .before .before .before .before .if1 .left), (by-tail (a .arcs .now) (a .s) (a .t) (a .supply) (a .x .now) (a .key .now) (s .pre .0) (s .pre .1) (s .pre .2) (c .before .before .before .before .before .before .before .before .before .before .before .before .before .before .preflow .ensures) (c .before .before .before .before .before .if1 .left), by-head (a .arcs .now) (a .s) (a .t) (a .supply) (a .x .now) (a .key .now) (s .pre .0) (s .pre .1) (s .pre .2) (c .before .before .before .before .before .before .before .before .before .before .before .before .before .before .preflow .ensures) (c .before .before .before .before .before .if1 .left), sym (left-size (a .arcs .now) (a .s) (a .t) (a .supply) (a .x .now) (a .key .now) (s .pre .0) (s .pre .1) (s .pre .2) (c .before .before .before .before .before .before .before .before .before .before .before .before .before .before .preflow .ensures) (c .before .before .before .before .before .if1 .left))))
+finish-requires c κs =
+    let at-if1 = c .before .before .before .before .before in
+    let at-preflow = at-if1 .before .before .before .before .before .before .before .before .before in
+    let s = at-preflow .before .before .before .before .before .before .before .before .before .before .before in
+    let a = s .args in (
+      solve-ready (a .arcs .now) (a .s) (a .t) (a .supply) (a .x .now) (a .key .now) (s .pre .0) (s .pre .1) (s .pre .2)
+          (at-preflow .preflow .ensures) (at-if1 .if1 .left),
+      (
+        by-tail (a .arcs .now) (a .s) (a .t) (a .supply) (a .x .now) (a .key .now) (s .pre .0) (s .pre .1) (s .pre .2)
+            (at-preflow .preflow .ensures) (at-if1 .if1 .left),
+        by-head (a .arcs .now) (a .s) (a .t) (a .supply) (a .x .now) (a .key .now) (s .pre .0) (s .pre .1) (s .pre .2)
+            (at-preflow .preflow .ensures) (at-if1 .if1 .left),
+        sym
+            (left-size (a .arcs .now) (a .s) (a .t) (a .supply) (a .x .now) (a .key .now) (s .pre .0) (s .pre .1) (s .pre .2)
+            (at-preflow .preflow .ensures) (at-if1 .if1 .left)),
+      ),
+    )
 
 returns-2 : tie.Need-returns-2
-returns-2 c = let s = c .before .before .before .before .before .before .before .before .before .before .before .before .before .before .before .before .before .before .before .before .before .before .before .before .before .before .before .before .before .before .before .before in let a = s .args in solve-ends (a .arcs .now) (a .s) (a .t) (a .supply) (a .x .now) (a .key .now) (s .pre .0) (s .pre .1) (s .pre .2) (c .before .before .before .before .before .before .before .before .before .before .before .before .before .before .before .before .before .before .before .before .before .preflow .ensures) (c .before .before .before .before .before .before .before .before .before .before .before .before .if1 .left) (c .before .before .before .before .before .before .finish .ensures)
+returns-2 c =
+    let at-finish = c .before .before .before .before .before .before in
+    let at-if1 = at-finish .before .before .before .before .before .before in
+    let at-preflow = at-if1 .before .before .before .before .before .before .before .before .before in
+    let s = at-preflow .before .before .before .before .before .before .before .before .before .before .before in
+    let a = s .args in
+    solve-ends (a .arcs .now) (a .s) (a .t) (a .supply) (a .x .now) (a .key .now) (s .pre .0) (s .pre .1) (s .pre .2) (at-preflow .preflow .ensures)
+    (at-if1 .if1 .left) (at-finish .finish .ensures)
 
 pub solve-by-spec : {M : Type 1} → statement M
 solve-by-spec =

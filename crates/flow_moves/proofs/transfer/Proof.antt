@@ -1,4 +1,4 @@
--- `flow_preflow::shifting::transfer` meets its contract.
+-- `flow_moves::transfer` meets its contract.
 -- Assumes nothing.
 use Rattle.flow_moves.proofs.Conserving.{transfer-fits}
 use borrow.Author.Needs.{needs}

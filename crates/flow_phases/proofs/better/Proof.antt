@@ -1,4 +1,4 @@
--- `flow_maximum::phases::better` meets its contract.
+-- `flow_phases::better` meets its contract.
 -- Assumes nothing.
 use mathlib.Core.Path.{sym}
 use mathlib.Core.Bool.{false≢true}

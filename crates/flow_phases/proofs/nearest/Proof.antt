@@ -1,4 +1,4 @@
--- `flow_maximum::phases::nearest` meets its contract. The loop's invariant: the best of the vertices below v.
+-- `flow_phases::nearest` meets its contract. The loop's invariant: the best of the vertices below v.
 -- Assumes nothing.
 use Prim.Native.Nat.{ℕ, _-_, _≤_}
 use mathlib.Core.List.{List}

@@ -1,4 +1,4 @@
--- `flow_maximum::phases::raise` meets its contract. The loop's invariant: the potentials below v are raised, the others are as they were.
+-- `flow_phases::raise` meets its contract. The loop's invariant: the potentials below v are raised, the others are as they were.
 -- Assumes nothing.
 use Prim.Native.Nat.{_-_}
 use native.Mathlib.Omega.{arith}

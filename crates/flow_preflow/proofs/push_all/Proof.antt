@@ -14,10 +14,16 @@ by-head : (s : tie.Start) → Links (s .args .arcs .now) (s .args .into .now)
 by-head s = into-links (s .args .arcs .now) (s .args .into .now) (s .pre .1 .1)
 
 push-to-sink-requires : tie.Need-push-to-sink-requires
-push-to-sink-requires c κs = let s = c .before .before .before .before .before .before .before .before .before in (s .pre .0, (by-tail s, by-head s, s .pre .1 .2))
+push-to-sink-requires c κs =
+    let s = c .before .before .before .before .before .before .before .before .before in
+    (s .pre .0, (by-tail s, by-head s, s .pre .1 .2))
 
 push-to-source-requires : tie.Need-push-to-source-requires
-push-to-source-requires c κs = let s = c .before .before .before .before .before .before .before .before .before .before .before .before .before .before .before .before .before .before in let m = c .before .before .before .before .before .before .before .before .push-to-sink .ensures in ((omega (arith, s .pre .0 .0, m .left-len), omega (arith, s .pre .0 .1, m .left-len)), (by-tail s, by-head s, ready-then (s .pre .1 .2) m))
+push-to-source-requires c κs =
+    let at-push-to-sink = c .before .before .before .before .before .before .before .before in
+    let s = at-push-to-sink .before .before .before .before .before .before .before .before .before .before in
+    let m = at-push-to-sink .push-to-sink .ensures in
+    ((omega (arith, s .pre .0 .0, m .left-len), omega (arith, s .pre .0 .1, m .left-len)), (by-tail s, by-head s, ready-then (s .pre .1 .2) m))
 
 same-length : tie.Need-same-length
 same-length c = search needs
@@ -26,7 +32,10 @@ same-length-2 : tie.Need-same-length-2
 same-length-2 c = search needs
 
 returns : tie.Need-returns
-returns c = moves-then (c .before .before .before .before .before .before .before .before .before .before .before .before .before .push-to-sink .ensures) (c .before .before .before .before .push-to-source .ensures)
+returns c =
+    let at-push-to-source = c .before .before .before .before in
+    let at-push-to-sink = at-push-to-source .before .before .before .before .before .before .before .before .before in
+    moves-then (at-push-to-sink .push-to-sink .ensures) (at-push-to-source .push-to-source .ensures)
 
 pub push-all-spec : {M : Type 1} → statement M
 push-all-spec =

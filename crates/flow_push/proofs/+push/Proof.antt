@@ -1,4 +1,4 @@
--- `flow_maximum::push::push` meets its contract. The measure is the vertex's key, which is lower at the other end of its parent arc.
+-- `flow_push::push` meets its contract. The measure is the vertex's key, which is lower at the other end of its parent arc.
 -- Assumes nothing.
 use mathlib.Core.Path.{ap, _∙_}
 use Prim.Native.Nat.{ℕ, _<_}
@@ -63,28 +63,33 @@ pub +push-spec : {M : Type 1} → statement M
     let n = c in
     let test = n .before .before in
     let s = test .before .before .before .before .before .before .before in
-    (coded-places (s .args .arcs .now) (entry (s .args .par .now) (s .args .v)) (n .arc-of .ensures) (s .pre .1 .1) (arc-ok (s .pre .1 .1) (s .args .v) (s .pre .1 .0 .0) (s .pre .1 .0 .1) (test .if1 .left))) .offset)
+    (coded-places (s .args .arcs .now) (entry (s .args .par .now) (s .args .v)) (n .arc-of .ensures) (s .pre .1 .1)
+    (arc-ok (s .pre .1 .1) (s .args .v) (s .pre .1 .0 .0) (s .pre .1 .0 .1) (test .if1 .left))) .offset)
     (λ c.
     let n = c .before in
     let test = n .before .before in
     let s = test .before .before .before .before .before .before .before in
-    (coded-places (s .args .arcs .now) (entry (s .args .par .now) (s .args .v)) (n .arc-of .ensures) (s .pre .1 .1) (arc-ok (s .pre .1 .1) (s .args .v) (s .pre .1 .0 .0) (s .pre .1 .0 .1) (test .if1 .left))) .inside)
+    (coded-places (s .args .arcs .now) (entry (s .args .par .now) (s .args .v)) (n .arc-of .ensures) (s .pre .1 .1)
+    (arc-ok (s .pre .1 .1) (s .args .v) (s .pre .1 .0 .0) (s .pre .1 .0 .1) (test .if1 .left))) .inside)
     (λ c κs. tt)
     (λ c.
     let n = c .before .before in
     let test = n .before .before in
     let s = test .before .before .before .before .before .before .before in
-    (coded-places (s .args .arcs .now) (entry (s .args .par .now) (s .args .v)) (n .arc-of .ensures) (s .pre .1 .1) (arc-ok (s .pre .1 .1) (s .args .v) (s .pre .1 .0 .0) (s .pre .1 .0 .1) (test .if1 .left))) .amount-offset)
+    (coded-places (s .args .arcs .now) (entry (s .args .par .now) (s .args .v)) (n .arc-of .ensures) (s .pre .1 .1)
+    (arc-ok (s .pre .1 .1) (s .args .v) (s .pre .1 .0 .0) (s .pre .1 .0 .1) (test .if1 .left))) .amount-offset)
     (λ c.
     let n = c .before .before .before in
     let test = n .before .before in
     let s = test .before .before .before .before .before .before .before in
-    (coded-places (s .args .arcs .now) (entry (s .args .par .now) (s .args .v)) (n .arc-of .ensures) (s .pre .1 .1) (arc-ok (s .pre .1 .1) (s .args .v) (s .pre .1 .0 .0) (s .pre .1 .0 .1) (test .if1 .left))) .amount-inside)
+    (coded-places (s .args .arcs .now) (entry (s .args .par .now) (s .args .v)) (n .arc-of .ensures) (s .pre .1 .1)
+    (arc-ok (s .pre .1 .1) (s .args .v) (s .pre .1 .0 .0) (s .pre .1 .0 .1) (test .if1 .left))) .amount-inside)
     (λ c κs.
     let n = c .before .before .before in
     let test = n .before .before in
     let s = test .before .before .before .before .before .before .before in
-    amount-low (s .args .arcs .now) (entry (s .args .par .now) (s .args .v)) (n .arc-of .ensures) (s .pre .1 .1) (arc-ok (s .pre .1 .1) (s .args .v) (s .pre .1 .0 .0) (s .pre .1 .0 .1) (test .if1 .left)))
+    amount-low (s .args .arcs .now) (entry (s .args .par .now) (s .args .v)) (n .arc-of .ensures) (s .pre .1 .1)
+    (arc-ok (s .pre .1 .1) (s .args .v) (s .pre .1 .0 .0) (s .pre .1 .0 .1) (test .if1 .left)))
     (λ c κs.
     let n = c .before .before .before .before .before .before in
     let test = n .before .before in
@@ -98,34 +103,42 @@ pub +push-spec : {M : Type 1} → statement M
     let n = c .before .before .before .before .before .before .before .before .before .before .before in
     let test = n .before .before in
     let s = test .before .before .before .before .before .before .before in
-    (coded-places (s .args .arcs .now) (entry (s .args .par .now) (s .args .v)) (n .arc-of .ensures) (s .pre .1 .1) (arc-ok (s .pre .1 .1) (s .args .v) (s .pre .1 .0 .0) (s .pre .1 .0 .1) (test .if1 .left))) .amount-offset)
+    (coded-places (s .args .arcs .now) (entry (s .args .par .now) (s .args .v)) (n .arc-of .ensures) (s .pre .1 .1)
+    (arc-ok (s .pre .1 .1) (s .args .v) (s .pre .1 .0 .0) (s .pre .1 .0 .1) (test .if1 .left))) .amount-offset)
     (λ c.
     let n = c .before .before .before .before .before .before .before .before .before .before .before .before in
     let test = n .before .before in
     let s = test .before .before .before .before .before .before .before in
     still (c .before .before .before .before .before .push .ensures .x-len)
-    (coded-places (s .args .arcs .now) (entry (s .args .par .now) (s .args .v)) (n .arc-of .ensures) (s .pre .1 .1) (arc-ok (s .pre .1 .1) (s .args .v) (s .pre .1 .0 .0) (s .pre .1 .0 .1) (test .if1 .left)) .amount-inside))
+    (coded-places (s .args .arcs .now) (entry (s .args .par .now) (s .args .v)) (n .arc-of .ensures) (s .pre .1 .1)
+    (arc-ok (s .pre .1 .1) (s .args .v) (s .pre .1 .0 .0) (s .pre .1 .0 .1) (test .if1 .left)) .amount-inside))
     (λ c κs.
     let n = c .before .before .before .before .before .before .before .before .before .before .before .before in
     let test = n .before .before in
     let s = test .before .before .before .before .before .before .before in
     let arcs = s .args .arcs .now in
     let room = c .before .before .before .before .before .before .before .before in
-    let ok = shift-ok (s .pre .1 .1) (s .args .v) (s .pre .1 .0 .0) (s .pre .1 .0 .1) (test .if1 .left) _ (s .args .want) _ _ _ _ (start-by arcs (entry (s .args .par .now) (s .args .v)) (n .arc-of .ensures) (room .before .before .start-of .ensures))
-    (room-by arcs (entry (s .args .par .now) (s .args .v)) (n .arc-of .ensures) (s .args .x .now) (s .args .want) (room .room-by .ensures)) (c .before .before .before .before .before .push .ensures) (capacity-fits arcs) in
+    let ok = shift-ok (s .pre .1 .1) (s .args .v) (s .pre .1 .0 .0) (s .pre .1 .0 .1) (test .if1 .left) _ (s .args .want) _ _ _ _
+    (start-by arcs (entry (s .args .par .now) (s .args .v)) (n .arc-of .ensures) (room .before .before .start-of .ensures))
+    (room-by arcs (entry (s .args .par .now) (s .args .v)) (n .arc-of .ensures) (s .args .x .now) (s .args .want) (room .room-by .ensures))
+    (c .before .before .before .before .before .push .ensures) (capacity-fits arcs) in
     after-fits arcs (entry (s .args .par .now) (s .args .v)) (n .arc-of .ensures) (c .before .before .before .before .before .push .last .1 .1 .1 .1 .1 .0) _ (ok .1) (ok .2))
     (λ c.
     let n = c .before .before .before .before .before .before .before .before .before .before .before .before .before in
     let test = n .before .before in
     let s = test .before .before .before .before .before .before .before in
-    (coded-places (s .args .arcs .now) (entry (s .args .par .now) (s .args .v)) (n .arc-of .ensures) (s .pre .1 .1) (arc-ok (s .pre .1 .1) (s .args .v) (s .pre .1 .0 .0) (s .pre .1 .0 .1) (test .if1 .left))) .amount-offset)
+    (coded-places (s .args .arcs .now) (entry (s .args .par .now) (s .args .v)) (n .arc-of .ensures) (s .pre .1 .1)
+    (arc-ok (s .pre .1 .1) (s .args .v) (s .pre .1 .0 .0) (s .pre .1 .0 .1) (test .if1 .left))) .amount-offset)
     (λ c.
     let n = c .before .before .before .before .before .before .before .before .before .before .before .before .before in
     let test = n .before .before in
     let s = test .before .before .before .before .before .before .before in
     still (c .before .before .before .before .before .before .push .ensures .x-len)
-    (coded-places (s .args .arcs .now) (entry (s .args .par .now) (s .args .v)) (n .arc-of .ensures) (s .pre .1 .1) (arc-ok (s .pre .1 .1) (s .args .v) (s .pre .1 .0 .0) (s .pre .1 .0 .1) (test .if1 .left)) .amount-inside))
-    (λ c. length-set (c .before .before .before .before .before .before .push .last .1 .1 .1 .1 .1 .0) (c .before .before .before .before .before .before .before .before .before .before .before .before .before .arc-of .result) (c .amount-after .result) ∙ c .before .before .before .before .before .before .push .kept .1 .1 .1 .1 .1 .0)
+    (coded-places (s .args .arcs .now) (entry (s .args .par .now) (s .args .v)) (n .arc-of .ensures) (s .pre .1 .1)
+    (arc-ok (s .pre .1 .1) (s .args .v) (s .pre .1 .0 .0) (s .pre .1 .0 .1) (test .if1 .left)) .amount-inside))
+    (λ c. length-set (c .before .before .before .before .before .before .push .last .1 .1 .1 .1 .1 .0)
+    (c .before .before .before .before .before .before .before .before .before .before .before .before .before .arc-of .result)
+    (c .amount-after .result) ∙ c .before .before .before .before .before .before .push .kept .1 .1 .1 .1 .1 .0)
     (λ c. c .before .before .before .before .before .before .push .kept .1 .1 .1 .1 .1 .1 .0)
     (λ c.
     let n = c .before .before .before .before .before .before .before .before .before .before .before .before .before in
@@ -133,5 +146,9 @@ pub +push-spec : {M : Type 1} → statement M
     let s = test .before .before .before .before .before .before .before in
     let arcs = s .args .arcs .now in
     let room = c .before .before .before .before .before .before .before .before .before in
-    moved-step (s .pre .1 .1) (s .args .v) (s .pre .1 .0 .0) (s .pre .1 .0 .1) (test .if1 .left) _ (s .args .want) _ _ _ _ (start-by arcs (entry (s .args .par .now) (s .args .v)) (n .arc-of .ensures) (room .before .before .start-of .ensures))
-    (room-by arcs (entry (s .args .par .now) (s .args .v)) (n .arc-of .ensures) (s .args .x .now) (s .args .want) (room .room-by .ensures)) (c .before .before .before .before .before .before .push .ensures) _ (amounts-after arcs (entry (s .args .par .now) (s .args .v)) (n .arc-of .ensures) (c .before .before .before .before .before .before .push .last .1 .1 .1 .1 .1 .0) _ (c .amount-after .ensures)))
+    moved-step (s .pre .1 .1) (s .args .v) (s .pre .1 .0 .0) (s .pre .1 .0 .1) (test .if1 .left) _ (s .args .want) _ _ _ _
+    (start-by arcs (entry (s .args .par .now) (s .args .v)) (n .arc-of .ensures) (room .before .before .start-of .ensures))
+    (room-by arcs (entry (s .args .par .now) (s .args .v)) (n .arc-of .ensures) (s .args .x .now) (s .args .want) (room .room-by .ensures))
+    (c .before .before .before .before .before .before .push .ensures) _
+    (amounts-after arcs (entry (s .args .par .now) (s .args .v)) (n .arc-of .ensures)
+    (c .before .before .before .before .before .before .push .last .1 .1 .1 .1 .1 .0) _ (c .amount-after .ensures)))

@@ -1,4 +1,4 @@
--- `flow_maximum::push::amount_after` meets its contract.
+-- `flow_push::amount_after` meets its contract.
 -- Assumes nothing.
 use mathlib.Core.Path.{refl}
 use native.Mathlib.Omega.{arith}

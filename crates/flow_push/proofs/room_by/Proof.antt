@@ -1,4 +1,4 @@
--- `flow_maximum::push::room_by` meets its contract.
+-- `flow_push::room_by` meets its contract.
 -- Assumes nothing.
 use mathlib.Core.Path.{ap, _∙_}
 use Prim.Native.Nat.{ℕ, _-_, min}

@@ -1,4 +1,4 @@
--- `flow_maximum::search::first_key` meets its contract.
+-- `flow_search::first_key` meets its contract.
 -- Assumes nothing.
 use Rattle.prelude.proofs.Choice.{tests}
 use Rattle.flow_search.proofs.first_key.Statement.{statement}

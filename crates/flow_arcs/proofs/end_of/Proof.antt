@@ -1,0 +1,14 @@
+-- `flow_arcs::end_of` meets its contract.
+-- Assumes nothing.
+use native.Mathlib.Omega.{arith}
+use Rattle.flow_arcs.proofs.end_of.Statement.{statement}
+use Rattle.flow_arcs.proofs.end_of.Tie as tie
+
+pub end-of-spec : {M : Type 1} → statement M
+end-of-spec =
+    tie.close
+    (tie.spec
+    (λ c κs. tt)
+    (λ c. (rw (c .before .if1 .taken) (c .tail-of .ensures), omega (arith, c .tail-of .ensures)))
+    (λ c κs. tt)
+    (λ c. (rw (c .before .if1 .left) (c .head-of .ensures), omega (arith, c .head-of .ensures))))

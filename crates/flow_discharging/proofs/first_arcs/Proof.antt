@@ -1,0 +1,28 @@
+-- `flow_discharging::first_arcs` meets its contract.
+-- Assumes nothing.
+use Prim.Native.Nat.{_-_}
+use borrow.Author.Needs.{needs}
+use Rattle.flow_discharging.proofs.first_arcs.Statement.{statement}
+use Rattle.flow_discharging.proofs.first_arcs.Tie as tie
+
+abbrev Inv-loop : tie.InvT-loop
+Inv-loop out current₀ v₀ current v = Unit {0}
+
+abbrev μ-loop : tie.MeasureT-loop
+μ-loop out current₀ v₀ current v = 256 - v
+
+pub first-arcs-spec : {M : Type 1} → statement M
+first-arcs-spec =
+    tie.close
+    (tie.spec
+    Inv-loop
+    μ-loop
+    (λ c. search needs)
+    (λ c. search needs)
+    (λ c. search needs)
+    (λ c. search needs)
+    (λ c. search needs)
+    (λ c. search needs)
+    (λ c. search needs)
+    (λ c. search needs)
+    (λ c. search needs))
