@@ -1,4 +1,4 @@
--- `match_least_cost::bids::bid_all` meets its contract.
+-- `match_bids::bid_all` meets its contract.
 -- Assumes nothing.
 use borrow.Author.Needs.{needs}
 use Rattle.match_bids.proofs.Bidding.{sized, resized}
