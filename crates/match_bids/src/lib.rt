@@ -1,124 +1,18 @@
 // Bids, before the searches: an exposed right vertex takes its cheapest left vertex, and both their potentials rise as far as its second choice allows.
-ghost use mathlib.Core.Path.{_≡_};
-ghost use mathlib.Core.Logic.{_⊎_};
 ghost use Prim.Native.Nat.{_<_, _≤_};
 ghost use lib.ListN.{length};
 ghost use Rattle.packed_arcs.specs.Entries.{entry};
-ghost use Rattle.arc_index.specs.ArcIndex.{noArc};
-ghost use Rattle.arc_index.specs.Chains.{Chains};
-ghost use Rattle.match_bids.specs.Bidding.{bidCost, costUnless, Affordable, Cheapest, Room, freed, assignedMates, assignedPotentials};
 ghost use Rattle.arc_index.specs.Columns.{recordTails, recordHeads, recordWeights};
 ghost use Rattle.match_state.specs.Matching.{State};
 use arc_index::NO_ARC;
-use arc_index::place;
-use match_state::head_at;
+use match_offers::assign;
+use match_offers::cheapest;
+use match_offers::choose;
+use match_offers::cost_of;
 use match_state::tail_at;
-use match_state::weight_at;
-
-// More than any arc costs.
-const TOO_MUCH: u32 = 4294967295;
 
 // No potential is above this.
 const MOST: u32 = 8322818;
-
-// What the arc e costs at its head: its weight, and the potential of its tail.
-fn cost_of(e: usize, records: &[u32], pi: &[u32]) -> u32
-    requires { ⌜ Affordable (recordTails (now records)) (recordWeights (now records)) (now pi) × (e < length (now records)) ⌝ }
-    ensures { λ r. ⌜ r ≡ bidCost (recordTails (now (records .entry))) (recordWeights (now (records .entry))) (now (pi .entry)) e ⌝ }
-{
-    let a = tail_at(e, records);
-    weight_at(e, records) + pi[a]
-}
-
-// The same, and too much for an arc from the vertex `except`.
-fn cost_unless(e: usize, except: usize, records: &[u32], pi: &[u32]) -> u32
-    requires { ⌜ Affordable (recordTails (now records)) (recordWeights (now records)) (now pi) × (e < length (now records)) ⌝ }
-    ensures { λ r. ⌜ r ≡ costUnless (recordTails (now (records .entry))) (recordWeights (now (records .entry))) (now (pi .entry)) except e ⌝ }
-{
-    if tail_at(e, records) == except {
-        return TOO_MUCH;
-    }
-    cost_of(e, records, pi)
-}
-
-// The first of the cheapest arcs to t that do not come from the vertex `except`, or no arc.
-fn cheapest(t: usize, except: usize, records: &[u32], links: &[u16], pi: &[u32]) -> usize
-    requires { ⌜ Chains (recordHeads (now records)) (now links) × (t < 256) ⌝ }
-    requires { ⌜ Affordable (recordTails (now records)) (recordWeights (now records)) (now pi) ⌝ }
-    ensures { λ r. ⌜ Cheapest (recordTails (now (records .entry))) (recordHeads (now (records .entry))) (recordWeights (now (records .entry))) (now (pi .entry)) t except r ⌝ }
-{
-    let mut best = NO_ARC as usize;
-    let mut least = TOO_MUCH;
-    let mut e = place(links[t]);
-    while e < 4096 {
-        let cost = cost_unless(e, except, records, pi);
-        if cost < least {
-            best = e;
-            least = cost;
-        }
-        e = place(links[256 + e]);
-    }
-    best
-}
-
-// Which of two arcs to take, the second at the cost u: the first, unless it costs as much and its tail is matched.
-fn choose(e1: usize, e2: usize, u: u32, records: &[u32], mate: &[u16], pi: &[u32]) -> usize
-    requires { ⌜ Affordable (recordTails (now records)) (recordWeights (now records)) (now pi) × (e1 < length (now records)) × (length (now mate) ≡ length (now pi)) ⌝ }
-    ensures { λ r. ⌜ (r ≡ e1) ⊎ ((r ≡ e2) × (u ≤ bidCost (recordTails (now (records .entry))) (recordWeights (now (records .entry))) (now (pi .entry)) e1)) ⌝ }
-{
-    let a = tail_at(e1, records);
-    if mate[a] == NO_ARC {
-        return e1;
-    }
-    if cost_of(e1, records, pi) < u {
-        return e1;
-    }
-    e2
-}
-
-// The head of the arc that is matched at a, if there is one, becomes exposed.
-fn free(a: usize, records: &[u32], mate: &mut [u16])
-    requires { ⌜ (a < length (now mate)) × (entry (now mate) a < noArc → (entry (now mate) a < length (now records)) × (entry (recordHeads (now records)) (entry (now mate) a) < length (now mate))) ⌝ }
-    ensures { λ _. ⌜ now (mate .exit) ≡ freed (recordHeads (now (records .entry))) (now (mate .entry)) a ⌝ }
-{
-    let e = place(mate[a]);
-    if NO_ARC as usize <= e {
-        return;
-    }
-    let b = head_at(e, records);
-    mate[b] = NO_ARC;
-}
-
-// The arc e from a to t is matched, in place of the arc that was matched at a.
-fn note(a: usize, t: usize, e: usize, records: &[u32], mate: &mut [u16])
-    requires { ⌜ (a < length (now mate)) × (entry (now mate) a < noArc → (entry (now mate) a < length (now records)) × (entry (recordHeads (now records)) (entry (now mate) a) < length (now mate))) ⌝ }
-    requires { ⌜ (t < length (now mate)) × (e < noArc) ⌝ }
-    ensures { λ _. ⌜ now (mate .exit) ≡ assignedMates (recordHeads (now (records .entry))) (now (mate .entry)) a t e ⌝ }
-{
-    free(a, records, mate);
-    mate[a] = e as u16;
-    mate[t] = e as u16;
-}
-
-// t gets the potential u, and a that with which an arc of weight w between them has no reduced cost.
-fn price(a: usize, t: usize, u: u32, w: u32, pi: &mut [u32])
-    requires { ⌜ (a < length (now pi)) × (t < length (now pi)) × (w ≤ u) ⌝ }
-    ensures { λ _. ⌜ now (pi .exit) ≡ assignedPotentials (now (pi .entry)) a t u w ⌝ }
-{
-    pi[t] = u;
-    pi[a] = u - w;
-}
-
-// The arc e to t is taken for u.
-fn assign(t: usize, e: usize, u: u32, records: &[u32], mate: &mut [u16], pi: &mut [u32])
-    requires { ⌜ Room (recordTails (now records)) (recordHeads (now records)) (recordWeights (now records)) (now mate) (now pi) t e u ⌝ }
-    ensures { λ _. ⌜ now (mate .exit) ≡ assignedMates (recordHeads (now (records .entry))) (now (mate .entry)) (entry (recordTails (now (records .entry))) e) t e ⌝ }
-    ensures { λ _. ⌜ now (pi .exit) ≡ assignedPotentials (now (pi .entry)) (entry (recordTails (now (records .entry))) e) t u (entry (recordWeights (now (records .entry))) e) ⌝ }
-{
-    let a = tail_at(e, records);
-    note(a, t, e, records, mate);
-    price(a, t, u, weight_at(e, records), pi);
-}
 
 // The bid of the right vertex t, where it is exposed: it takes its cheapest arc for what the cheapest from another vertex costs.
 fn bid(h: usize, t: usize, records: &[u32], links: &[u16], mate: &mut [u16], pi: &mut [u32])

@@ -1,10 +1,12 @@
+-- `match_bids::bid` meets its contract.
+-- Assumes nothing.
 use mathlib.Core.Path.{_≡_, subst}
 use Prim.Native.Nat.{ℕ}
 use native.Mathlib.Omega.{arith}
 use borrow.Author.Needs.{needs}
 use Rattle.packed_arcs.specs.Entries.{entry}
 use Rattle.arc_index.specs.ArcIndex.{noArc}
-use Rattle.match_bids.specs.Bidding.{Cheapest, Offer}
+use Rattle.match_offers.specs.Offers.{Cheapest, Offer}
 use Rattle.arc_index.specs.Columns.{recordTails, recordHeads, recordWeights}
 use Rattle.match_bids.proofs.Bidding.{affordable, offer, room, taken-offer, bare-of}
 use Rattle.arc_index.proofs.Columns.{tails-len}

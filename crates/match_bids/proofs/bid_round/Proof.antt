@@ -1,4 +1,5 @@
--- The loop's invariant: the state.
+-- `match_bids::bid_round` meets its contract. The loop's invariant: the state.
+-- Assumes nothing.
 use mathlib.Core.Path.{sym, _∙_}
 use Prim.Native.Nat.{_-_, _≤_}
 use native.Mathlib.Omega.{arith}

@@ -1,3 +1,5 @@
+-- `match_offers::free` meets its contract.
+-- Assumes nothing.
 use mathlib.Core.Path.{refl, sym, ap, subst, _∙_}
 use Prim.Native.Nat.{ℕ, _<_, _≤_}
 use mathlib.Core.List.{List}
@@ -7,8 +9,8 @@ use Rattle.prelude.proofs.Choice.{leb-on, leb-off}
 use Rattle.packed_arcs.specs.Entries.{entry}
 use Rattle.arc_index.specs.ArcIndex.{noArc}
 use Rattle.arc_index.specs.Columns.{recordHeads}
-use Rattle.match_bids.proofs.free.Statement.{statement}
-use Rattle.match_bids.proofs.free.Tie as tie
+use Rattle.match_offers.proofs.free.Statement.{statement}
+use Rattle.match_offers.proofs.free.Tie as tie
 
 returns : tie.Need-returns
 returns c = leb-on (List ℕ) _ _ _ _ _ (subst (λ (k : ℕ). noArc ≤ k) (c .before .place .ensures) (c .if1 .taken)) refl

@@ -1,9 +1,11 @@
+-- `match_offers::cost_unless` meets its contract.
+-- Assumes nothing.
 use mathlib.Core.Path.{refl}
 use borrow.Author.Needs.{needs}
 use Prim.Native.Nat.{ℕ}
 use Rattle.prelude.proofs.Choice.{via-eqb-on, via-eqb-off}
-use Rattle.match_bids.proofs.cost_unless.Statement.{statement}
-use Rattle.match_bids.proofs.cost_unless.Tie as tie
+use Rattle.match_offers.proofs.cost_unless.Statement.{statement}
+use Rattle.match_offers.proofs.cost_unless.Tie as tie
 
 pub cost-unless-spec : {M : Type 1} → statement M
 cost-unless-spec =

@@ -1,3 +1,5 @@
+-- `match_offers::cost_of` meets its contract.
+-- Assumes nothing.
 use mathlib.Core.Path.{ap}
 use Prim.Native.Nat.{_+_, _<_, _≤_}
 use native.Mathlib.Omega.{arith}
@@ -6,8 +8,8 @@ use lib.ListN.{length}
 use Rattle.packed_arcs.specs.Entries.{entry}
 use Rattle.arc_index.specs.Columns.{recordWeights}
 use Rattle.arc_index.proofs.Columns.{tails-len}
-use Rattle.match_bids.proofs.cost_of.Statement.{statement}
-use Rattle.match_bids.proofs.cost_of.Tie as tie
+use Rattle.match_offers.proofs.cost_of.Statement.{statement}
+use Rattle.match_offers.proofs.cost_of.Tie as tie
 
 -- the tail has a potential, and the cost is small
 here : (c : tie.After-tail-at) → let a = c .before .before .before .args in (c .tail-at .result < length (a .pi .now)) × (entry (recordWeights (a .records .now)) (a .e) + entry (a .pi .now) (c .tail-at .result) ≤ 8355585)

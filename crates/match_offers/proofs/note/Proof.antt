@@ -1,10 +1,12 @@
+-- `match_offers::note` meets its contract.
+-- Assumes nothing.
 use mathlib.Core.Path.{ap}
 use mathlib.Core.List.{List}
 use Prim.Native.Nat.{ℕ}
 use lib.ListN.{set}
 use borrow.Author.Needs.{needs}
-use Rattle.match_bids.proofs.note.Statement.{statement}
-use Rattle.match_bids.proofs.note.Tie as tie
+use Rattle.match_offers.proofs.note.Statement.{statement}
+use Rattle.match_offers.proofs.note.Tie as tie
 
 pub note-spec : {M : Type 1} → statement M
 note-spec =

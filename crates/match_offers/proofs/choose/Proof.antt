@@ -1,3 +1,5 @@
+-- `match_offers::choose` meets its contract.
+-- Assumes nothing.
 use mathlib.Core.Path.{refl}
 use mathlib.Core.Logic.{inl, inr}
 use Prim.Native.Nat.{_<_}
@@ -5,8 +7,8 @@ use native.Mathlib.Omega.{arith}
 use borrow.Author.Needs.{needs}
 use lib.ListN.{length}
 use Rattle.arc_index.proofs.Columns.{tails-len}
-use Rattle.match_bids.proofs.choose.Statement.{statement}
-use Rattle.match_bids.proofs.choose.Tie as tie
+use Rattle.match_offers.proofs.choose.Statement.{statement}
+use Rattle.match_offers.proofs.choose.Tie as tie
 
 -- the tail is a vertex
 here : (c : tie.After-tail-at) → c .tail-at .result < length (c .before .before .before .before .args .mate .now)

@@ -1,3 +1,5 @@
+-- `match_offers::assign` meets its contract.
+-- Assumes nothing.
 use mathlib.Core.Path.{sym, ap, ap₂, subst, _∙_}
 use Prim.Native.Nat.{ℕ, _<_}
 use native.Mathlib.Omega.{arith}
@@ -5,11 +7,11 @@ use borrow.Author.Needs.{needs}
 use lib.ListN.{length}
 use Rattle.packed_arcs.specs.Entries.{entry}
 use Rattle.arc_index.specs.ArcIndex.{noArc}
-use Rattle.match_bids.specs.Bidding.{assignedMates, assignedPotentials}
+use Rattle.match_offers.specs.Offers.{assignedMates, assignedPotentials}
 use Rattle.arc_index.specs.Columns.{recordHeads}
 use Rattle.arc_index.proofs.Columns.{tails-len}
-use Rattle.match_bids.proofs.assign.Statement.{statement}
-use Rattle.match_bids.proofs.assign.Tie as tie
+use Rattle.match_offers.proofs.assign.Statement.{statement}
+use Rattle.match_offers.proofs.assign.Tie as tie
 
 note-requires : tie.Need-note-requires
 note-requires c κs =

@@ -1,14 +1,15 @@
--- The loop's invariant: the cheapest arc of the chain before e.
+-- `match_offers::cheapest` meets its contract. The loop's invariant: the cheapest arc of the chain before e.
+-- Assumes nothing.
 use mathlib.Core.Path.{sym, subst, _∙_}
 use mathlib.Core.Logic.{⊎-elim}
 use Prim.Native.Nat.{ℕ, _-_}
 use native.Mathlib.Omega.{arith}
 use borrow.Author.Needs.{needs}
 use Rattle.arc_index.specs.Columns.{recordTails, recordHeads, recordWeights}
-use Rattle.match_bids.proofs.Bidding.{Best, best-start, best-take, best-skip, best-end, at-arc, next-later}
+use Rattle.match_offers.proofs.Costs.{Best, best-start, best-take, best-skip, best-end, at-arc, next-later}
 use Rattle.arc_index.proofs.Columns.{tails-len, heads-len}
-use Rattle.match_bids.proofs.cheapest.Statement.{statement}
-use Rattle.match_bids.proofs.cheapest.Tie as tie
+use Rattle.match_offers.proofs.cheapest.Statement.{statement}
+use Rattle.match_offers.proofs.cheapest.Tie as tie
 
 abbrev Inv-loop : tie.InvT-loop
 Inv-loop t except records links pi best₀ least₀ e₀ best least e =
