@@ -1,5 +1,4 @@
 -- Certificates by marks speak only of the marks of vertices: marks that agree there do as well.
--- Assumes nothing.
 use mathlib.Core.Path.{_≡_, sym, _∙_, ap, ap₂, subst}
 use mathlib.Core.Bool.{Bool, not, _&&_}
 use mathlib.Core.List.{List, [], _∷_}
@@ -9,12 +8,11 @@ use lib.IntN.{ℤ, pos}
 use Rattle.prelude.specs.Choice.{indicator}
 use Rattle.prelude.specs.Integers.{eqZ}
 use Rattle.prelude.specs.Lists.{Every}
-use Rattle.prelude.proofs.Sums.{sumTo-ext}
 use Rattle.arc_records.specs.Arcs.{Arc}
 use Rattle.network.specs.Network.{Load, arcs, crosses, cut, sumAcross}
-use Rattle.network.specs.Question.{Setting, pumps, sites}
+use Rattle.network.specs.Question.{Setting}
 use Rattle.network.specs.Certificate.{marked}
-use Rattle.network.proofs.Rules.{InRange, Marks, Closed, FlowCertificate, NoPathCertificate, NoAssignmentCertificate}
+use Rattle.network.proofs.Rules.{InRange, Marks, Closed, FlowCertificate, NoPathCertificate}
 use Rattle.network.proofs.Sums.{Inside}
 
 module _ (st : Setting) (y y' : ℕ → ℤ) (same : (v : ℕ) → v < st .n → y v ≡ y' v) where

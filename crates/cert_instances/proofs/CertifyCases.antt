@@ -1,5 +1,4 @@
 -- The cases of a call of `certify`: arrays lent in part, and the outcome from the test's result.
--- Assumes nothing.
 use mathlib.Core.Path.{_≡_, refl, sym, subst, _∙_}
 use mathlib.Core.Bool.{Bool, true, false, not}
 use mathlib.Core.List.{List}

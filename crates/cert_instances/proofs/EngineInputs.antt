@@ -1,5 +1,4 @@
 -- What the engine is handed: packed arcs within its limits; and what it hands back for a flow.
--- Assumes nothing.
 use mathlib.Core.Path.{_≡_, refl, sym, _∙_, ap, subst}
 use mathlib.Core.Bool.{Bool, true, false, _&&_, false≢true}
 use mathlib.Core.List.{List, [], _∷_, map}

@@ -1,5 +1,4 @@
 -- Shortest path: what a search from the source found, and what a push to the sink moved, are certificates, and the keys hold the least length to every vertex.
--- Assumes nothing.
 use mathlib.Core.Path.{_≡_, refl, sym, _∙_, ap, subst}
 use mathlib.Core.Bool.{false}
 use mathlib.Core.Logic.{_≢_, _⊎_, inl, inr, ⊎-elim}

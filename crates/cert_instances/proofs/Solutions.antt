@@ -1,10 +1,9 @@
 -- From what the engine gave back and what was written to a solution.
--- Assumes nothing.
 use mathlib.Core.Path.{_≡_, refl, sym, _∙_, ap, ap₂, subst, fun-ext}
 use mathlib.Core.Bool.{Bool, true, false, _&&_}
 use mathlib.Core.Logic.{_⊎_, inl, inr}
 use mathlib.Core.List.{List, [], _∷_, map}
-use Prim.Native.Nat.{ℕ, _-_, _/_, _%_, _<_, _≤_}
+use Prim.Native.Nat.{ℕ, _-_, _/_, _<_, _≤_}
 use native.Mathlib.Omega.{arith}
 use native.Mathlib.Decide.{decLt}
 use lib.Dec.{T, eqb, leb, eqb→eq, leb→le}
@@ -16,8 +15,8 @@ use Rattle.prelude.proofs.Booleans.{true→T}
 use Rattle.prelude.proofs.Settle.{none-broken}
 use Rattle.prelude.proofs.Lists.{all→every, every-map, image-every}
 use Rattle.arc_records.specs.Arcs.{Arc, wordArc, wordArcs}
-use Rattle.network.specs.Network.{arcs, cost, loadsOf}
-use Rattle.network.specs.Question.{Question, shortestPath, maximumFlow, assignment, acyclicity, Setting, Allowed, TwoVertices, EndsFor, EvenFor, SidesFor, PumpToSite, TrueFor, Answer, value, none, unasked, asks, unitCost, Admissible}
+use Rattle.network.specs.Network.{arcs, loadsOf}
+use Rattle.network.specs.Question.{Question, shortestPath, maximumFlow, assignment, acyclicity, Setting, Allowed, TwoVertices, EndsFor, TrueFor, Answer, value, none, unasked, asks, unitCost, Admissible}
 use Rattle.arc_records.specs.Limits.{mostArcs}
 use Rattle.network.specs.Certificate.{Claim, ofValue, ofNone, claimFor}
 use Rattle.network.specs.Tests.{openingChecks, arcChecks, claimNumber}
@@ -32,7 +31,7 @@ use Rattle.flow_residual.specs.Phase.{SearchResult, PhaseState, Solved}
 use Rattle.cert_instances.specs.Instance.{Fits, tails, heads, weights, constant, VertexList, single, plenty, markOf, toward, numberOf}
 use Rattle.cert_instances.specs.Certify.{recordOk, admissible, capacityFor, packedFor, costs, capacities, NodeNumbers, toldBy, Told, LengthsFor, Solution}
 use Rattle.cert_instances.specs.declared.vertices.NumberKind.{NumberKind}
-use Rattle.cert_instances.specs.declared.vertices.NumberKind.the-variants.{Mark, Distance, Potential}
+use Rattle.cert_instances.specs.declared.vertices.NumberKind.the-variants.{Mark, Distance}
 use Rattle.cert_instances.proofs.ColumnsAndLoads.{loads-arcs, is-reached, not-reached, Seen, Unseen, sight}
 use Rattle.cert_instances.proofs.PathInstance.{path-certificate, no-path-certificate, least-lengths, no-walks, moved-one}
 use Rattle.cert_instances.proofs.FlowInstance.{flow-certificate, total-most}

@@ -1,18 +1,17 @@
 -- What the solver is handed and what it hands back: records of arcs, node numbers, amounts, and a claim.
--- Assumes nothing.
 use mathlib.Core.Path.{_≡_}
 use mathlib.Core.Bool.{Bool, true, false, _&&_}
 use mathlib.Core.List.{List, map}
-use Prim.Native.Nat.{ℕ, _<_, _≤_}
+use Prim.Native.Nat.{ℕ, _<_}
 use lib.Dec.{eqb, leb}
 use lib.IntN.{ℤ, pos}
 use lib.ListN.{length}
 use Rattle.prelude.specs.Checks.{firstBroken}
-use Rattle.prelude.specs.Lists.{Every, all, at}
+use Rattle.prelude.specs.Lists.{all, at}
 use Rattle.arc_records.specs.Limits.{mostArcs, mostPotential}
 use Rattle.arc_records.specs.Arcs.{Arc, wordArc, wordArcs}
 use Rattle.network.specs.Network.{loadsOf}
-use Rattle.network.specs.Question.{Question, shortestPath, maximumFlow, assignment, acyclicity, unasked, Setting, asks, unitCost, Opened, Allowed, Answer, value, none, TrueAnswer}
+use Rattle.network.specs.Question.{Question, shortestPath, maximumFlow, assignment, acyclicity, unasked, Setting, asks, unitCost, Answer, value, none, TrueAnswer}
 use Rattle.network.specs.Certificate.{Claim, ofValue, ofNone, claimFor, Certified}
 use Rattle.network.specs.Tests.{claimNumber, openingChecks, arcChecks}
 use Rattle.packed_arcs.specs.Entries.{entry}

@@ -1,7 +1,6 @@
 -- Two of the questions as the engine is asked them: the columns of a network, lists by vertex, and node numbers read from keys.
--- Assumes nothing.
 use mathlib.Core.Path.{_≡_}
-use mathlib.Core.Bool.{Bool, not}
+use mathlib.Core.Bool.{Bool}
 use mathlib.Core.List.{List, map}
 use Prim.Native.Nat.{ℕ, _+_, _*_, _/_, _<_, _≤_}
 use lib.Dec.{ltb}
@@ -11,7 +10,7 @@ use Rattle.prelude.specs.Choice.{pick, indicator}
 use Rattle.prelude.specs.Lists.{Every}
 use Rattle.arc_records.specs.Limits.{mostVertices, mostArcs, mostWeight, mostPotential}
 use Rattle.arc_records.specs.Arcs.{Arc, delta}
-use Rattle.network.specs.Question.{Setting, pumps, WeightWithin}
+use Rattle.network.specs.Question.{Setting, WeightWithin}
 use Rattle.packed_arcs.specs.Entries.{entry}
 use Rattle.flow_residual.specs.Residual.{unreached}
 use Rattle.cert_instances.specs.declared.vertices.NumberKind.{NumberKind}

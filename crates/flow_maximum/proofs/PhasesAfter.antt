@@ -1,5 +1,4 @@
 -- Phases after a preflow: the state that they start from, and what they come to since the beginning.
--- Assumes nothing.
 use mathlib.Core.Path.{_≡_, sym, ap, subst, _∙_}
 use mathlib.Core.List.{List}
 use Prim.Native.Nat.{ℕ}

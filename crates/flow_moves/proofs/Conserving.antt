@@ -1,5 +1,4 @@
 -- What moves over residual arcs is conserved: one step, and steps in a row.
--- Assumes nothing.
 use mathlib.Core.Path.{_≡_, refl, sym, ap, _∙_}
 use mathlib.Core.Bool.{Bool, true, false}
 use mathlib.Core.List.{List}
@@ -12,14 +11,14 @@ use lib.ListN.{length, set, length-set, length-map}
 use mir.Syntax.{w32}
 use mir.Val.{Fits}
 use Rattle.prelude.specs.Choice.{pick, indicator}
-use Rattle.packed_arcs.specs.Entries.{entry, sum, flowAt}
-use Rattle.packed_arcs.specs.PackedArcs.{tailOf, headOf, capacityOf, tailsOf, headsOf, capacitiesOf}
+use Rattle.packed_arcs.specs.Entries.{entry, sum}
+use Rattle.packed_arcs.specs.PackedArcs.{tailOf, headOf, capacityOf, tailsOf, headsOf}
 use Rattle.packed_arcs.proofs.ArcColumns.{columns, listed, tail-at, head-at, capacity-at}
 use Rattle.packed_arcs.proofs.ColumnSums.{flow-add, flow-sub}
 use Rattle.packed_arcs.proofs.ListLoops.{set-cases}
 use Rattle.packed_arcs.proofs.Sums.{sum-at, entry-sum}
 use Rattle.arc_index.specs.Chains.{Chains, First}
-use Rattle.flow_moves.specs.Preflow.{Conserved, PackedConserved, Ready, Moves, Links, transferred}
+use Rattle.flow_moves.specs.Preflow.{Conserved, Ready, Moves, Links, transferred}
 
 -- ---- what stands at the vertices
 

@@ -1,5 +1,4 @@
 -- What moves over residual arcs is conserved: amounts within capacity, and balances by what stood at the vertices and what stands there.
--- Assumes nothing.
 use mathlib.Core.Path.{_≡_}
 use mathlib.Core.List.{List}
 use Prim.Native.Nat.{ℕ, _+_, _-_, _<_, _≤_}

@@ -1,5 +1,4 @@
 -- What comes of a call: refused, with nothing changed; or moved, with what moved conserved.
--- Assumes nothing.
 use mathlib.Core.Path.{_≡_}
 use mathlib.Core.Bool.{Bool, true, false, _&&_}
 use mathlib.Core.List.{List}

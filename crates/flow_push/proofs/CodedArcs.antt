@@ -1,5 +1,4 @@
 -- The arc of a code, as a push reads it: by its number, its word and its amount.
--- Assumes nothing.
 use mathlib.Core.Path.{_≡_, sym, ap, subst, _∙_}
 use mathlib.Core.Bool.{Bool, true, false}
 use mathlib.Core.List.{List}
@@ -11,7 +10,7 @@ use borrow.Author.Tests.{lt-ltb, le-ltb}
 use Rattle.prelude.specs.Choice.{pick}
 use Rattle.packed_arcs.specs.Entries.{entry}
 use Rattle.packed_arcs.specs.PackedArcs.{tailOf, headOf, capacityOf, tailsOf, headsOf, capacitiesOf}
-use Rattle.packed_arcs.proofs.ArcColumns.{columns, listed, tail-at, head-at, capacity-at}
+use Rattle.packed_arcs.proofs.ArcColumns.{columns, tail-at, head-at, capacity-at}
 use Rattle.flow_residual.specs.PackedNetwork.{PackedPushReady}
 use Rattle.flow_residual.specs.Push.{codeArc, residualCapacity}
 use Rattle.flow_relaxing.proofs.ArcReads.{ArcPlaces}

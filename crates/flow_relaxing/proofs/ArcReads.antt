@@ -1,7 +1,6 @@
 -- What looking at one packed arc reads.
--- Assumes nothing.
 use mathlib.Core.Path.{_≡_, sym, _∙_}
-use mathlib.Core.Bool.{Bool, true, false}
+use mathlib.Core.Bool.{true, false}
 use mathlib.Core.List.{List}
 use Prim.Native.Nat.{ℕ, _+_, _*_, _-_, _<_, _≤_}
 use native.Mathlib.Omega.{arith}
@@ -12,7 +11,7 @@ use Rattle.packed_arcs.specs.Entries.{entry}
 use Rattle.packed_arcs.specs.PackedArcs.{tailOf, headOf, costOf, capacityOf}
 use Rattle.packed_arcs.proofs.ArcColumns.{columns, listed, tail-at, head-at, cost-at, capacity-at}
 use Rattle.flow_residual.specs.PackedNetwork.{residualOf}
-use Rattle.flow_residual.specs.Residual.{ResidualNetwork, tail, head, keyBeyond}
+use Rattle.flow_residual.specs.Residual.{ResidualNetwork, tail, head}
 use Rattle.flow_relaxing.specs.Relaxing.{LowerOutcome, RelaxOutcome, SearchReady}
 
 -- what the code asks before it reads an arc: where the arc and its amount stand, and that they are there

@@ -1,5 +1,4 @@
 -- What looking at one residual arc does in a search.
--- Assumes nothing.
 use mathlib.Core.Path.{_≡_}
 use mathlib.Core.Bool.{Bool, true, false}
 use mathlib.Core.List.{List}

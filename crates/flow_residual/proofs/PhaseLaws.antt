@@ -1,5 +1,4 @@
 -- The parts of a phase: first keys and what a search from them found, the nearest vertex with need, the state after a delivery, and what holds between phases.
--- Assumes nothing.
 use mathlib.Core.Path.{_≡_, refl, sym, ap, subst, _∙_}
 use mathlib.Core.List.{List}
 use mathlib.Core.Logic.{_⊎_, inl, inr, ⊎-elim}

@@ -1,5 +1,4 @@
 -- Once every arc is relaxed: keys count the arcs of their paths, potentials stay in range, and raised potentials leave no reduced cost negative.
--- Assumes nothing.
 use mathlib.Core.Path.{_≡_, ap, subst}
 use mathlib.Core.Bool.{Bool, true, false}
 use mathlib.Core.List.{List}

@@ -1,5 +1,4 @@
 -- An amount that moves along parent arcs: balances, room and supply after each arc.
--- Assumes nothing.
 use mathlib.Core.Path.{_≡_, refl, sym, ap, subst, _∙_}
 use mathlib.Core.List.{List}
 use mathlib.Core.Logic.{_⊎_, inl, inr, ⊎-elim}

@@ -1,5 +1,4 @@
 -- The state from which phases start: no potentials, and no amounts but on arcs that cost nothing.
--- Assumes nothing.
 use mathlib.Core.Path.{_≡_, sym, _∙_}
 use mathlib.Core.List.{List}
 use Prim.Native.Nat.{ℕ, _<_, _≤_}

@@ -1,5 +1,4 @@
 -- The residual network of packed arcs, and the facts of a push and of phases over it.
--- Assumes nothing.
 use mathlib.Core.List.{List}
 use Prim.Native.Nat.{ℕ}
 use Rattle.packed_arcs.specs.PackedArcs.{tailsOf, headsOf, costsOf, capacitiesOf}

@@ -1,5 +1,4 @@
 -- What one phase keeps: the state between phases, what a search found, and the vertex with need that is nearest.
--- Assumes nothing.
 use mathlib.Core.Path.{_≡_}
 use mathlib.Core.List.{List}
 use mathlib.Core.Logic.{_⊎_}

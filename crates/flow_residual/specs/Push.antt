@@ -1,11 +1,10 @@
 -- What pushing an amount along parent arcs keeps.
--- Assumes nothing.
 use mathlib.Core.Path.{_≡_}
 use mathlib.Core.List.{List}
 use mathlib.Core.Logic.{_⊎_}
 use Prim.Native.Nat.{ℕ, _+_, _*_, _-_, _<_, _≤_}
 use lib.Dec.{eqb, ltb}
-use lib.ListN.{length, set}
+use lib.ListN.{length}
 use Rattle.prelude.specs.Choice.{pick, indicator}
 use Rattle.packed_arcs.specs.Entries.{entry, flowAt}
 use Rattle.flow_residual.specs.Residual.{unreached}

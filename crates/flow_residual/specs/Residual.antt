@@ -1,5 +1,4 @@
 -- The residual network of a list of arcs, and keys and parents of its vertices.
--- Assumes nothing.
 use mathlib.Core.Path.{_≡_}
 use mathlib.Core.List.{List}
 use Prim.Native.Nat.{ℕ, _+_, _*_, _-_, _/_, _<_, _≤_, min}

@@ -1,26 +1,25 @@
 -- A search: residual arcs looked at one after the other along a chain, vertices taken one after the other, and what holds when nobody waits.
--- Assumes nothing.
 use mathlib.Core.Path.{_≡_, refl, sym, ap, subst, _∙_}
 use mathlib.Core.Bool.{Bool, true, false}
 use mathlib.Core.List.{List, [], _∷_}
 use mathlib.Core.Logic.{_⊎_, inl, inr, _≢_, ⊎-elim}
-use Prim.Native.Nat.{ℕ, zero, suc, _+_, _*_, _-_, _/_, _<_, _≤_, min}
+use Prim.Native.Nat.{ℕ, zero, suc, _+_, _/_, _<_, _≤_, min}
 use native.Mathlib.Omega.{arith}
 use native.Mathlib.Decide.{ℕ-discrete, decLt}
 use lib.Dec.{ltb}
 use lib.ListN.{length, set, length-set, getD-replicate}
 use borrow.Author.Tests.{lt-ltb, le-ltb}
 use Rattle.prelude.specs.Choice.{indicator}
-use Rattle.packed_arcs.specs.Entries.{entry, sum}
+use Rattle.packed_arcs.specs.Entries.{entry}
 use Rattle.packed_arcs.proofs.ListLoops.{set-cases}
 use Rattle.packed_arcs.proofs.Sums.{sum-set}
-use Rattle.arc_index.specs.ArcIndex.{noArc, firstArc, nextArc}
+use Rattle.arc_index.specs.ArcIndex.{firstArc, nextArc}
 use Rattle.arc_index.specs.Chains.{First, Chains}
 use Rattle.arc_index.proofs.ChainSteps.{is-arc, none-between, none-left}
 use Rattle.arc_index.proofs.ChainSteps as steps
 use Rattle.vertex_queue.specs.VertexQueue.{waitsNot, Kept, Holds, nobody, putIn, takenOut, leastVertex, leastEntry}
 use Rattle.vertex_queue.proofs.Laws.{begin-kept, put-kept, take-kept, taken-key, none-waits, vertex-below}
-use Rattle.flow_residual.specs.Residual.{unreached, ResidualNetwork, keyBeyond, WithinLimits, ParentArc, LoweredKeys, RelaxedArc, AllRelaxed}
+use Rattle.flow_residual.specs.Residual.{unreached, ResidualNetwork, keyBeyond, WithinLimits, ParentArc, LoweredKeys, AllRelaxed}
 use Rattle.flow_relaxing.specs.Relaxing.{startOf, finishOf, IsResidual, lengthOf, codeOf, LowerOutcome, RelaxOutcome, SearchReady}
 use Rattle.flow_search.specs.Search.{starts, Relaxed, waiting, work, SearchState, Looking, firstCode, endCode, ScannedFrom, BackwardIndex}
 use Rattle.flow_residual.specs.Phase.{FirstKeys, firstKey, StartOutcome}

@@ -1,5 +1,4 @@
 -- A search over the residual network: what holds between two residual arcs that are looked at.
--- Assumes nothing.
 use mathlib.Core.Path.{_≡_}
 use mathlib.Core.Bool.{Bool, true, false}
 use mathlib.Core.List.{List, [], _∷_}

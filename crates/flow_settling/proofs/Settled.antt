@@ -1,9 +1,8 @@
 -- What phases start from, by what a preflow left.
--- Assumes nothing.
-use mathlib.Core.Path.{_≡_, refl, sym, ap, subst, _∙_}
+use mathlib.Core.Path.{_≡_, sym, ap, _∙_}
 use mathlib.Core.Bool.{Bool, true, false, not, _&&_, false≢true}
 use mathlib.Core.List.{List}
-use mathlib.Core.Logic.{_⊎_, inl, inr, _≢_, ⊎-elim}
+use mathlib.Core.Logic.{_≢_, ⊎-elim}
 use Prim.Native.Nat.{ℕ, _+_, _-_, _<_, _≤_}
 use native.Mathlib.Omega.{arith}
 use native.Mathlib.Decide.{ℕ-discrete}
@@ -13,7 +12,7 @@ use borrow.Author.Tests.{eq-eqb, ne-eqb}
 use Rattle.prelude.specs.Lists.{all}
 use Rattle.prelude.proofs.Booleans.{and-left, and-right, true→T, T→true, not→false}
 use Rattle.packed_arcs.specs.Entries.{entry, zeroList, sum, flowAt}
-use Rattle.packed_arcs.specs.PackedArcs.{tailsOf, headsOf, costsOf, capacitiesOf}
+use Rattle.packed_arcs.specs.PackedArcs.{tailsOf, headsOf, costsOf}
 use Rattle.packed_arcs.specs.Limits.{isFree}
 use Rattle.packed_arcs.proofs.ArcColumns.{columns}
 use Rattle.packed_arcs.proofs.ColumnSums.{flow-none}

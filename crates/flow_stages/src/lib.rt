@@ -1,5 +1,5 @@
 // The two stages: from the source towards the sink, and what is left over back to the source. Where a stage takes long, labels are made exact again in between.
-ghost use Prim.Native.Nat.{_<_, _≤_};
+ghost use Prim.Native.Nat.{_<_};
 ghost use lib.ListN.{length};
 ghost use Rattle.flow_moves.specs.Preflow.{Links, Ready, Moves};
 use flow_arcs::first_arc;

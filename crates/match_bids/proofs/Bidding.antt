@@ -1,5 +1,4 @@
 -- Laws of bids: an offer from the two cheapest arcs, and the state after one is taken.
--- Assumes nothing.
 use mathlib.Core.Path.{_≡_, refl, sym, ap, subst, _∙_}
 use mathlib.Core.List.{List}
 use mathlib.Core.Logic.{_⊎_, inl, inr, _≢_}

@@ -1,9 +1,6 @@
--- `cert_flow::answer_flow` meets its contract.
--- Assumes nothing.
 use borrow.Author.Needs.{needs}
-use mathlib.Core.Path.{_≡_}
 use Rattle.checks.specs.Held.{asked}
-use Rattle.cert_instances.proofs.Solutions.{FlowRun, flow-solution}
+use Rattle.cert_instances.proofs.Solutions.{flow-solution}
 use Rattle.cert_instances.proofs.EngineInputs.{flow-run, marks-writable}
 use Rattle.cert_flow.proofs.answer_flow.Statement.{statement}
 use Rattle.cert_flow.proofs.answer_flow.Tie as tie

@@ -1,5 +1,3 @@
--- `cert_flow::certify_flow` meets its contract.
--- Assumes nothing.
 use borrow.Author.Needs.{needs}
 use mathlib.Core.Path.{sym}
 use lib.ListN.{length}

@@ -1,5 +1,4 @@
--- `cert_path::answer_path` meets its contract: the part of the array that is lent is as long as the records, what is sent is what the question asks, and what comes of it is a solution.
--- Assumes nothing.
+-- The part of the array that is lent is as long as the records, what is sent is what the question asks, and what comes of it is a solution.
 use mathlib.Core.Path.{_≡_, sym, _∙_, subst}
 use mathlib.Core.List.{List, _++_}
 use Prim.Native.Nat.{ℕ, _≤_}

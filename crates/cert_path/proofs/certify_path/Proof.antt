@@ -1,5 +1,3 @@
--- `cert_path::certify_path` meets its contract.
--- Assumes nothing.
 use borrow.Author.Needs.{needs}
 use Rattle.cert_instances.proofs.CertifyCases.{one-each, lent}
 use Rattle.cert_path.proofs.certify_path.Statement.{statement}

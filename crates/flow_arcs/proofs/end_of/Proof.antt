@@ -1,5 +1,3 @@
--- `flow_arcs::end_of` meets its contract.
--- Assumes nothing.
 use native.Mathlib.Omega.{arith}
 use Rattle.flow_arcs.proofs.end_of.Statement.{statement}
 use Rattle.flow_arcs.proofs.end_of.Tie as tie

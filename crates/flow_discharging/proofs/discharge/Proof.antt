@@ -1,5 +1,3 @@
--- `flow_discharging::discharge` meets its contract.
--- Assumes nothing.
 use native.Mathlib.Omega.{arith}
 use Rattle.flow_moves.proofs.Conserving.{sizes, ready-then}
 use borrow.Author.Needs.{needs}

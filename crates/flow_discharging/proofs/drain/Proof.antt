@@ -1,5 +1,3 @@
--- `flow_discharging::drain` meets its contract.
--- Assumes nothing.
 use Rattle.flow_moves.specs.Preflow.{Moves}
 use Rattle.flow_moves.proofs.Conserving.{moves-none, moves-then, ready-then}
 use borrow.Author.Needs.{needs}

@@ -1,5 +1,3 @@
--- `flow_discharging::first_arcs` meets its contract.
--- Assumes nothing.
 use Prim.Native.Nat.{_-_}
 use borrow.Author.Needs.{needs}
 use Rattle.flow_discharging.proofs.first_arcs.Statement.{statement}

@@ -1,5 +1,3 @@
--- `flow_discharging::highest` meets its contract.
--- Assumes nothing.
 use borrow.Author.Needs.{needs}
 use Rattle.flow_discharging.proofs.highest.Statement.{statement}
 use Rattle.flow_discharging.proofs.highest.Tie as tie

@@ -1,5 +1,3 @@
--- `flow_labels::clear_labels` meets its contract.
--- Assumes nothing.
 use Prim.Native.Nat.{_-_}
 use borrow.Author.Needs.{needs}
 use Rattle.flow_labels.proofs.clear_labels.Statement.{statement}

@@ -1,7 +1,4 @@
--- `flow_labels::label_from` meets its contract.
--- Assumes nothing.
 use Prim.Native.Nat.{_-_, _≤_}
-use native.Mathlib.Omega.{arith}
 use borrow.Author.Needs.{needs}
 use Rattle.flow_labels.proofs.label_from.Statement.{statement}
 use Rattle.flow_labels.proofs.label_from.Tie as tie

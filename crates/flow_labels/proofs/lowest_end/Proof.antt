@@ -1,5 +1,3 @@
--- `flow_labels::lowest_end` meets its contract.
--- Assumes nothing.
 use Prim.Native.Nat.{_-_}
 use native.Mathlib.Omega.{arith}
 use borrow.Author.Needs.{needs}

@@ -1,5 +1,3 @@
--- `flow_maximum::move_on` meets its contract.
--- Assumes nothing.
 use borrow.Author.Needs.{needs}
 use mathlib.Core.Path.{_∙_, sym}
 use Rattle.flow_maximum.proofs.PhasesAfter.{prepared-state, finished}

@@ -1,5 +1,3 @@
--- `flow_maximum::solve` meets its contract.
--- Assumes nothing.
 use borrow.Author.Needs.{needs}
 use mathlib.Core.Path.{sym}
 use mathlib.Core.Logic.{inl, inr}

@@ -1,5 +1,3 @@
--- `flow_maximum::solve_by` meets its contract.
--- Assumes nothing.
 use borrow.Author.Needs.{needs}
 use mathlib.Core.Path.{sym}
 use Rattle.flow_maximum.proofs.CallOutcomes.{solve-refused, solve-ready, left-size, by-tail, by-head, solve-ends}

@@ -1,5 +1,3 @@
--- `flow_moves::shift_backward` meets its contract.
--- Assumes nothing.
 use native.Mathlib.Omega.{arith}
 use Rattle.flow_moves.proofs.Conserving.{ArcFacts, arc-facts, backward-moves}
 use borrow.Author.Needs.{needs}

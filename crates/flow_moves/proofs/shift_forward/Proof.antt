@@ -1,5 +1,3 @@
--- `flow_moves::shift_forward` meets its contract.
--- Assumes nothing.
 use native.Mathlib.Omega.{arith}
 use Rattle.flow_moves.proofs.Conserving.{ArcFacts, arc-facts, forward-moves}
 use borrow.Author.Needs.{needs}

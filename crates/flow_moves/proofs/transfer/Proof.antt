@@ -1,5 +1,3 @@
--- `flow_moves::transfer` meets its contract.
--- Assumes nothing.
 use Rattle.flow_moves.proofs.Conserving.{transfer-fits}
 use borrow.Author.Needs.{needs}
 use Rattle.flow_moves.proofs.transfer.Statement.{statement}

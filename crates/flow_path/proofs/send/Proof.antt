@@ -1,12 +1,9 @@
--- `flow_path::send` meets its contract.
--- Assumes nothing.
 use borrow.Author.Needs.{needs}
-use mathlib.Core.Path.{sym, _∙_, ap}
+use mathlib.Core.Path.{sym}
 use denote.Ref.{now}
-use Prim.Native.Nat.{ℕ, _+_}
+use Prim.Native.Nat.{_+_}
 use native.Mathlib.Omega.{arith}
 use lib.ListN.{length}
-use Rattle.packed_arcs.specs.Entries.{entry}
 use Rattle.packed_arcs.proofs.LentParts.{zero-at, zero-list-length}
 use Rattle.packed_arcs.proofs.LimitTests.{Sendable}
 use Rattle.flow_path.proofs.Outcomes.{send-refused, send-facts, send-starts, send-ends}

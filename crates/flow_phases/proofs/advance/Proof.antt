@@ -1,5 +1,3 @@
--- `flow_phases::advance` meets its contract.
--- Assumes nothing.
 use borrow.Author.Needs.{needs}
 use mathlib.Core.Path.{sym, _∙_}
 use Rattle.flow_residual.proofs.PhaseLaws.{linked, need-inside, offset, phase, target-ok}

@@ -1,5 +1,3 @@
--- `flow_phases::better` meets its contract.
--- Assumes nothing.
 use mathlib.Core.Path.{sym}
 use mathlib.Core.Bool.{false≢true}
 use native.Mathlib.Omega.{arith}

@@ -1,5 +1,4 @@
--- `flow_phases::nearest` meets its contract. The loop's invariant: the best of the vertices below v.
--- Assumes nothing.
+-- The loop's invariant: the best of the vertices below v.
 use Prim.Native.Nat.{ℕ, _-_, _≤_}
 use mathlib.Core.List.{List}
 use mathlib.Core.Logic.{⊎-elim}

@@ -1,5 +1,4 @@
--- `flow_phases::raise` meets its contract. The loop's invariant: the potentials below v are raised, the others are as they were.
--- Assumes nothing.
+-- The loop's invariant: the potentials below v are raised, the others are as they were.
 use Prim.Native.Nat.{_-_}
 use native.Mathlib.Omega.{arith}
 use lib.ListN.{length}

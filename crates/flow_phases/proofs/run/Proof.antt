@@ -1,5 +1,3 @@
--- `flow_phases::run` meets its contract.
--- Assumes nothing.
 use mathlib.Core.Path.{sym, _∙_}
 use Rattle.packed_arcs.specs.PackedArcs.{tailsOf, headsOf, costsOf, capacitiesOf}
 use Rattle.packed_arcs.specs.Entries.{sum}

@@ -1,9 +1,6 @@
--- `flow_preflow::preflow` meets its contract.
--- Assumes nothing.
 use mathlib.Core.Path.{_∙_}
 use native.Mathlib.Omega.{arith}
 use denote.Ref.{now}
-use lib.ListN.{length}
 use Rattle.flow_preflow.proofs.Outcomes.{Passed, preflow-refused, preflow-passed, preflow-facts, by-tail, by-head, supplied-len, supplied, preflow-moved}
 use Rattle.flow_preflow.proofs.preflow.Statement.{statement}
 use Rattle.flow_preflow.proofs.preflow.Tie as tie

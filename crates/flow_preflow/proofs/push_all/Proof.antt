@@ -1,5 +1,3 @@
--- `flow_preflow::push_all` meets its contract.
--- Assumes nothing.
 use borrow.Author.Needs.{needs}
 use native.Mathlib.Omega.{arith}
 use Rattle.flow_moves.specs.Preflow.{Links}

@@ -1,5 +1,4 @@
--- `flow_push::push` meets its contract. The measure is the vertex's key, which is lower at the other end of its parent arc.
--- Assumes nothing.
+-- The measure is the vertex's key, which is lower at the other end of its parent arc.
 use mathlib.Core.Path.{ap, _∙_}
 use Prim.Native.Nat.{ℕ, _<_}
 use native.Mathlib.Omega.{arith}

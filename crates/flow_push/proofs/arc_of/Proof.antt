@@ -1,5 +1,3 @@
--- `flow_push::arc_of` meets its contract.
--- Assumes nothing.
 use borrow.Author.Tests.{lt-ltb, le-ltb}
 use Rattle.flow_push.proofs.arc_of.Statement.{statement}
 use Rattle.flow_push.proofs.arc_of.Tie as tie

@@ -1,5 +1,3 @@
--- `flow_pushing::give_all` meets its contract.
--- Assumes nothing.
 use Prim.Native.Nat.{_-_}
 use native.Mathlib.Omega.{arith}
 use Rattle.flow_moves.specs.Preflow.{Moves}

@@ -1,5 +1,3 @@
--- `flow_pushing::push_from` meets its contract.
--- Assumes nothing.
 use borrow.Author.Needs.{needs}
 use Rattle.flow_moves.proofs.Conserving.{moves-then, ready-then}
 use Rattle.flow_pushing.proofs.push_from.Statement.{statement}

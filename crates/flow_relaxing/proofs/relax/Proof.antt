@@ -1,5 +1,3 @@
--- `flow_relaxing::relax` meets its contract.
--- Assumes nothing.
 use borrow.Author.Needs.{needs}
 use Rattle.flow_relaxing.proofs.relax.Statement.{statement}
 use Rattle.flow_relaxing.proofs.relax.Tie as tie

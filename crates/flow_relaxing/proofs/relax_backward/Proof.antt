@@ -1,5 +1,3 @@
--- `flow_relaxing::relax_backward` meets its contract.
--- Assumes nothing.
 use borrow.Author.Needs.{needs}
 use mathlib.Core.Path.{refl}
 use native.Mathlib.Omega.{arith}

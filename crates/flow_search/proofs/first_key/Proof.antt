@@ -1,5 +1,3 @@
--- `flow_search::first_key` meets its contract.
--- Assumes nothing.
 use Rattle.prelude.proofs.Choice.{tests}
 use Rattle.flow_search.proofs.first_key.Statement.{statement}
 use Rattle.flow_search.proofs.first_key.Tie as tie

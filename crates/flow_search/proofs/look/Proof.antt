@@ -1,5 +1,3 @@
--- `flow_search::look` meets its contract.
--- Assumes nothing.
 use borrow.Author.Needs.{needs}
 use mathlib.Core.Path.{_∙_, sym}
 use Rattle.flow_search.proofs.SearchLaws.{both-scans, forward-only, backward-index, still-ready}

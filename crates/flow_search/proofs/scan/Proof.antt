@@ -1,9 +1,6 @@
--- `flow_search::scan` meets its contract.
--- Assumes nothing.
 use mathlib.Core.Path.{_∙_, sym}
-use Prim.Native.Nat.{ℕ, _-_}
+use Prim.Native.Nat.{_-_}
 use native.Mathlib.Omega.{arith}
-use lib.ListN.{length}
 use borrow.Author.Needs.{needs}
 use Rattle.packed_arcs.proofs.ArcColumns.{columns}
 use Rattle.arc_index.proofs.ChainSteps.{in-links, shrinks}

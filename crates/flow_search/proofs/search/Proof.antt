@@ -1,5 +1,3 @@
--- `flow_search::search` meets its contract.
--- Assumes nothing.
 use mathlib.Core.Path.{_∙_, sym}
 use native.Mathlib.Omega.{arith}
 use borrow.Author.Needs.{needs}

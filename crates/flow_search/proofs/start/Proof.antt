@@ -1,6 +1,4 @@
--- `flow_search::start` meets its contract.
--- Assumes nothing.
-use mathlib.Core.Path.{refl, _∙_, sym}
+use mathlib.Core.Path.{refl, _∙_}
 use Prim.Native.Nat.{_-_}
 use native.Mathlib.Omega.{arith}
 use lib.ListN.{length}

@@ -1,7 +1,4 @@
--- `flow_settling::is_settled` meets its contract.
--- Assumes nothing.
 use borrow.Author.Needs.{needs}
-use mathlib.Core.Path.{_∙_, sym, ap}
 use Rattle.flow_settling.proofs.Settled.{same-vertex, left-over, costs-decide}
 use Rattle.flow_settling.proofs.is_settled.Statement.{statement}
 use Rattle.flow_settling.proofs.is_settled.Tie as tie

@@ -1,14 +1,8 @@
--- `flow_settling::prepare` meets its contract.
--- Assumes nothing.
 use borrow.Author.Needs.{needs}
-use mathlib.Core.Path.{_∙_, sym, ap, subst}
-use mathlib.Core.List.{List}
+use mathlib.Core.Path.{_∙_, sym, ap}
 use Prim.Native.Nat.{ℕ}
 use native.Mathlib.Omega.{arith}
-use lib.ListN.{length, set, length-replicate}
-use Rattle.packed_arcs.specs.Entries.{entry, zeroList}
-use Rattle.flow_moves.specs.Preflow.{standingAt}
-use Rattle.flow_settling.specs.Settling.{Prepared}
+use lib.ListN.{length, length-replicate}
 use Rattle.flow_settling.proofs.Settled.{at-most, prepared-on, prepared-anew, amounts-len}
 use Rattle.flow_settling.proofs.prepare.Statement.{statement}
 use Rattle.flow_settling.proofs.prepare.Tie as tie

@@ -1,5 +1,3 @@
--- `flow_stages::push_toward` meets its contract.
--- Assumes nothing.
 use native.Mathlib.Omega.{arith}
 use Rattle.flow_moves.specs.Preflow.{Moves}
 use Rattle.flow_moves.proofs.Conserving.{moves-none, moves-then, ready-then}

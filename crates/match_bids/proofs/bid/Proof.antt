@@ -1,5 +1,3 @@
--- `match_bids::bid` meets its contract.
--- Assumes nothing.
 use mathlib.Core.Path.{_≡_, subst}
 use Prim.Native.Nat.{ℕ}
 use native.Mathlib.Omega.{arith}

@@ -1,5 +1,3 @@
--- `match_bids::bid_all` meets its contract.
--- Assumes nothing.
 use borrow.Author.Needs.{needs}
 use Rattle.match_bids.proofs.Bidding.{sized, resized}
 use Rattle.match_bids.proofs.bid_all.Statement.{statement}

@@ -1,5 +1,4 @@
--- `match_bids::bid_round` meets its contract. The loop's invariant: the state.
--- Assumes nothing.
+-- The loop's invariant: the state.
 use mathlib.Core.Path.{sym, _∙_}
 use Prim.Native.Nat.{_-_, _≤_}
 use native.Mathlib.Omega.{arith}

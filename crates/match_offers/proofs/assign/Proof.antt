@@ -1,5 +1,3 @@
--- `match_offers::assign` meets its contract.
--- Assumes nothing.
 use mathlib.Core.Path.{sym, ap, ap₂, subst, _∙_}
 use Prim.Native.Nat.{ℕ, _<_}
 use native.Mathlib.Omega.{arith}

@@ -1,5 +1,4 @@
--- `match_offers::cheapest` meets its contract. The loop's invariant: the cheapest arc of the chain before e.
--- Assumes nothing.
+-- The loop's invariant: the cheapest arc of the chain before e.
 use mathlib.Core.Path.{sym, subst, _∙_}
 use mathlib.Core.Logic.{⊎-elim}
 use Prim.Native.Nat.{ℕ, _-_}

@@ -1,5 +1,3 @@
--- `match_offers::choose` meets its contract.
--- Assumes nothing.
 use mathlib.Core.Path.{refl}
 use mathlib.Core.Logic.{inl, inr}
 use Prim.Native.Nat.{_<_}

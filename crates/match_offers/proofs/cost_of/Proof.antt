@@ -1,5 +1,3 @@
--- `match_offers::cost_of` meets its contract.
--- Assumes nothing.
 use mathlib.Core.Path.{ap}
 use Prim.Native.Nat.{_+_, _<_, _≤_}
 use native.Mathlib.Omega.{arith}

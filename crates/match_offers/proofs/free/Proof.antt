@@ -1,5 +1,3 @@
--- `match_offers::free` meets its contract.
--- Assumes nothing.
 use mathlib.Core.Path.{refl, sym, ap, subst, _∙_}
 use Prim.Native.Nat.{ℕ, _<_, _≤_}
 use mathlib.Core.List.{List}

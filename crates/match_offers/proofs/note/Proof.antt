@@ -1,5 +1,3 @@
--- `match_offers::note` meets its contract.
--- Assumes nothing.
 use mathlib.Core.Path.{ap}
 use mathlib.Core.List.{List}
 use Prim.Native.Nat.{ℕ}

@@ -1,5 +1,4 @@
--- `solver::records::pack` meets its contract. The loop's invariant: the arcs below e are those of the records, packed.
--- Assumes nothing.
+-- The loop's invariant: the arcs below e are those of the records, packed.
 use mathlib.Core.Path.{_≡_, sym, ap, _∙_}
 use mathlib.Core.List.{map}
 use Prim.Native.Nat.{_-_}

@@ -1,5 +1,4 @@
--- `solver::records::packed_arc` meets its contract: the parts are those of the word, and below what they are packed in.
--- Assumes nothing.
+-- The parts are those of the word, and below what they are packed in.
 use mathlib.Core.Path.{_≡_, ap, _∙_}
 use Prim.Native.Nat.{_<_}
 use native.Mathlib.Omega.{arith}

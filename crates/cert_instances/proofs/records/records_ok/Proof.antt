@@ -1,5 +1,4 @@
--- `solver::records::records_ok` meets its contract. The loop's invariant: the records from e on decide.
--- Assumes nothing.
+-- The loop's invariant: the records from e on decide.
 use mathlib.Core.Path.{refl, sym, _∙_}
 use Prim.Native.Nat.{_-_}
 use lib.ListN.{length}

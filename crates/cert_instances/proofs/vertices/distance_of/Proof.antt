@@ -1,5 +1,3 @@
--- `solver::vertices::distance_of` meets its contract.
--- Assumes nothing.
 use borrow.Author.Needs.{needs}
 use Rattle.cert_instances.proofs.vertices.distance_of.Statement.{statement}
 use Rattle.cert_instances.proofs.vertices.distance_of.Tie as tie

@@ -1,5 +1,3 @@
--- `solver::vertices::number_of` meets its contract.
--- Assumes nothing.
 use mathlib.Core.Path.{sym, ap, _∙_}
 use borrow.Author.Needs.{needs}
 use Rattle.cert_instances.specs.declared.vertices.NumberKind.{NumberKind}

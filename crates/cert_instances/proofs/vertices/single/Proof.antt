@@ -1,5 +1,3 @@
--- `solver::vertices::single` meets its contract.
--- Assumes nothing.
 use native.Mathlib.Omega.{arith}
 use Rattle.network.proofs.Sums.{delta-same, delta-other}
 use Rattle.cert_instances.proofs.vertices.single.Statement.{statement}

@@ -1,5 +1,4 @@
--- `solver::vertices::write` meets its contract. The loop's invariant: the numbers below v are written.
--- Assumes nothing.
+-- The loop's invariant: the numbers below v are written.
 use mathlib.Core.Path.{_≡_, ap, _∙_}
 use Prim.Native.Nat.{ℕ, _-_, _^_, _<_, _≤_}
 use native.Mathlib.Omega.{arith}

@@ -1,7 +1,4 @@
--- `flow_path::sending::index_and_send` meets its contract.
--- Assumes nothing.
 use borrow.Author.Needs.{needs}
-use mathlib.Core.Path.{_∙_, sym}
 use native.Mathlib.Omega.{arith}
 use Rattle.packed_arcs.proofs.ArcColumns.{columns}
 use Rattle.flow_path.proofs.Outcomes.{indexed-tails}

@@ -1,8 +1,5 @@
--- `flow_path::sending::search_and_push` meets its contract.
--- Assumes nothing.
 use borrow.Author.Needs.{needs}
 use mathlib.Core.Path.{refl}
-use native.Mathlib.Omega.{arith}
 use Rattle.flow_path.specs.Sending.SearchAndPush.{away, reached}
 use Rattle.flow_search.specs.Search.BackwardIndex.{idle}
 use Rattle.flow_residual.proofs.PhaseLaws.{linked, sent-inside}

@@ -1,5 +1,3 @@
--- `flow_preflow::limits::is_preflowable` meets its contract.
--- Assumes nothing.
 use borrow.Author.Needs.{needs}
 use Rattle.prelude.proofs.Tested.{tested}
 use Rattle.flow_preflow.proofs.limits.is_preflowable.Statement.{statement}
