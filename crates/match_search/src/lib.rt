@@ -44,7 +44,9 @@ pub fn search(
 ) -> usize
     requires { ⌜ State (length (now dist)) (length (now pi)) (recordTails (now records)) (recordHeads (now records)) (recordWeights (now records)) (now links) (now mate) (now pi) ⌝ }
     requires { ⌜ (length (now dist) ≤ t) × (t < length (now pi)) × (entry (now mate) t ≡ noArc) × (length (now par) ≡ length (now dist)) × (length (now order) ≡ length (now dist)) ⌝ }
-    ensures { λ r. ⌜ SearchedBack (length (now (dist .entry))) (length (now (pi .entry))) (recordTails (now (records .entry))) (recordHeads (now (records .entry))) (recordWeights (now (records .entry))) (now (mate .entry)) (now (pi .entry)) t (now (dist .exit)) (now (par .exit)) (now (order .exit)) r ⌝ }
+    ensures { λ r. ⌜ SearchedBack (length (now (dist .entry))) (length (now (pi .entry))) (recordTails (now (records .entry)))
+        (recordHeads (now (records .entry))) (recordWeights (now (records .entry))) (now (mate .entry)) (now (pi .entry)) t (now (dist .exit))
+        (now (par .exit)) (now (order .exit)) r ⌝ }
 {
     let h = dist.len();
     let mut keys = [0u32; 256];

@@ -57,7 +57,10 @@ fn relax(
 ) -> bool
     requires { ⌜ Relaxable e k price (recordTails (now records)) (recordWeights (now records)) (now mate) (now pi) (now dist) (now par) ⌝ }
     requires { ⌜ e < length (now records) ⌝ }
-    ensures { λ r. ⌜ Lowered (entry (recordTails (now (records .entry))) e) e (k + (entry (recordWeights (now (records .entry))) e + entry (now (pi .entry)) (entry (recordTails (now (records .entry))) e) - price)) k (now (mate .entry)) (now (dist .entry)) (now (par .entry)) (now (keys .entry)) (now (low .entry)) (now (dist .exit)) (now (par .exit)) (now (keys .exit)) (now (low .exit)) r ⌝ }
+    ensures { λ r. ⌜ Lowered (entry (recordTails (now (records .entry))) e) e
+        (k + (entry (recordWeights (now (records .entry))) e + entry (now (pi .entry)) (entry (recordTails (now (records .entry))) e) - price)) k
+        (now (mate .entry)) (now (dist .entry)) (now (par .entry)) (now (keys .entry)) (now (low .entry)) (now (dist .exit)) (now (par .exit))
+        (now (keys .exit)) (now (low .exit)) r ⌝ }
 {
     let a = tail_at(e, records);
     let up = weight_at(e, records) + pi[a];
@@ -80,7 +83,9 @@ pub fn scan(
 ) -> usize
     requires { ⌜ State (length (now dist)) (length (now pi)) (recordTails (now records)) (recordHeads (now records)) (recordWeights (now records)) (now links) (now mate) (now pi) ⌝ }
     requires { ⌜ (b < length (now pi)) × (k ≤ 2000000000) × (length (now par) ≡ length (now dist)) ⌝ }
-    ensures { λ r. ⌜ Scanned (length (now (dist .entry))) (length (now (pi .entry))) (recordTails (now (records .entry))) (recordHeads (now (records .entry))) (recordWeights (now (records .entry))) (now (mate .entry)) (now (pi .entry)) (now (dist .entry)) (now (par .entry)) (now (keys .entry)) (now (low .entry)) (now (dist .exit)) (now (par .exit)) (now (keys .exit)) (now (low .exit)) b k r ⌝ }
+    ensures { λ r. ⌜ Scanned (length (now (dist .entry))) (length (now (pi .entry))) (recordTails (now (records .entry)))
+        (recordHeads (now (records .entry))) (recordWeights (now (records .entry))) (now (mate .entry)) (now (pi .entry)) (now (dist .entry))
+        (now (par .entry)) (now (keys .entry)) (now (low .entry)) (now (dist .exit)) (now (par .exit)) (now (keys .exit)) (now (low .exit)) b k r ⌝ }
 {
     let price = pi[b];
     let mut e = place(links[b]);
