@@ -4,6 +4,7 @@ so after a change of the cases its lines belong there."""
 import pathlib
 import sys
 
+sys.dont_write_bytecode = True  # the folder stays as it is
 from solver_networkx import build, shown, solve
 
 CASES = pathlib.Path(__file__).resolve().parent.parent / "crates" / "file_cases"

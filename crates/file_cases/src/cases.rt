@@ -4,8 +4,11 @@ use super::files::size;
 use super::files::sized;
 use super::outcomes::helped;
 use super::outcomes::judged_at;
+use super::schedules::schedule;
 use super::sweeps::sweep;
+use super::windows::add;
 use file_fields::bytes::byte;
+use test_calls::scheduled_files::Windows;
 use testing::answers::NONE;
 use testing::changes::change;
 use testing::files::Files;
@@ -55,8 +58,8 @@ fn vary(script: &[u8], at: usize, how: u8, f: &mut Files, s: Sizes) {
     sweep(how, kind, end, f, s);
 }
 
-// Shows the result that the word before a place asks for; the length of the annotation then.
-fn result(script: &[u8], at: usize, c: u8, f: &mut Files, s: Sizes) -> usize {
+// Shows the result that the word before a place asks for; the length of the annotation then, 0 where the calendar wrote over it.
+fn result(script: &[u8], at: usize, c: u8, f: &mut Files, windows: &Windows, s: Sizes) -> usize {
     print::before(s.shown);
     if c == b'@' {
         print::answer(judged_at(f, s, decimal(script, at)));
@@ -65,40 +68,47 @@ fn result(script: &[u8], at: usize, c: u8, f: &mut Files, s: Sizes) -> usize {
     if c == b'h' {
         return help(decimal(script, at), f, s.net);
     }
+    if c == b't' {
+        schedule(script, at, f, windows, s);
+        return 0;
+    }
     vary(script, at, c, f, s);
     s.ann
 }
 
 // Does what the word at a place says.
-fn word(script: &[u8], at: usize, f: &mut Files, s: Sizes) -> Sizes {
+fn word(script: &[u8], at: usize, f: &mut Files, windows: &mut Windows, s: Sizes) -> Sizes {
+    let mut then = s;
     let next = plus(at, 1);
     let c = byte(script, at);
     if c == b'n' || c == b'a' {
         return sized(c, s, change(script, next, c, f, size(c, s)));
     }
-    let ann = result(script, next, c, f, s);
-    Sizes {
-        net: s.net,
-        ann: ann,
-        shown: plus(s.shown, 1),
+    if c == b'w' {
+        then.windows = add(script, next, windows, s.windows);
+        return then;
     }
+    then.ann = result(script, next, c, f, windows, s);
+    then.shown = plus(s.shown, 1);
+    then
 }
 
 // The word after a space.
-fn word_at(script: &[u8], at: usize, f: &mut Files, s: Sizes) -> Sizes {
+fn word_at(script: &[u8], at: usize, f: &mut Files, windows: &mut Windows, s: Sizes) -> Sizes {
     if byte(script, at) == b' ' {
-        return word(script, plus(at, 1), f, s);
+        return word(script, plus(at, 1), f, windows, s);
     }
     s
 }
 
 // All words of a line, from its colon on.
 fn words(script: &[u8], from: usize, f: &mut Files, at_first: Sizes) {
+    let mut windows = [[0u32; 3]; 128];
     let end = find(script, from, b'\n');
     let mut s = at_first;
     let mut i = from;
     while i < end {
-        s = word_at(script, i, f, s);
+        s = word_at(script, i, f, &mut windows, s);
         i += 1;
     }
 }
@@ -110,6 +120,7 @@ fn start(script: &[u8], from: Sources, f: &mut Files) -> Sizes {
     Sizes {
         net: net,
         ann: minus(end, START),
+        windows: 0,
         shown: 0,
     }
 }

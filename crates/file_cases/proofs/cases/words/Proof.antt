@@ -6,10 +6,10 @@ use Rattle.file_cases.proofs.cases.words.Statement.{statement}
 use Rattle.file_cases.proofs.cases.words.Tie as tie
 
 abbrev Inv-loop : tie.InvT-loop
-Inv-loop script from f₀ end s₀ i₀ f s i = Unit {0}
+Inv-loop script from f₀ windows₀ end s₀ i₀ f windows s i = Unit {0}
 
 abbrev μ-loop : tie.MeasureT-loop
-μ-loop script from f₀ end s₀ i₀ f s i = end - i
+μ-loop script from f₀ windows₀ end s₀ i₀ f windows s i = end - i
 
 pub words-spec : {M : Type 1} → statement M
 words-spec =

@@ -1,9 +1,10 @@
--- `calendar_cases::windows::add` is safe and ends: it counts up to the windows that there are then.
+-- `file_cases::windows::add` is safe and ends: it counts up to the windows that there are then.
+-- Assumes nothing.
 use Prim.Native.Nat.{_-_}
 use native.Mathlib.Omega.{arith}
 use borrow.Author.Needs.{needs}
-use Rattle.calendar_cases.proofs.windows.add.Statement.{statement}
-use Rattle.calendar_cases.proofs.windows.add.Tie as tie
+use Rattle.file_cases.proofs.windows.add.Statement.{statement}
+use Rattle.file_cases.proofs.windows.add.Tie as tie
 
 abbrev Inv-loop : tie.InvT-loop
 Inv-loop script at windows₀ k row end i₀ windows i = Unit {0}

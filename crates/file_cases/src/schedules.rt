@@ -1,4 +1,7 @@
-// What the program prints of a reply: the length and the file, or the refusal.
+// Calls of the calendar, and what the program prints of its reply: the length and the file, or the refusal.
+use super::files::Sizes;
+use test_calls::scheduled_files::Windows;
+use test_calls::scheduled_files::scheduled;
 use testing::answers::NONE;
 use testing::files::Files;
 use testing::files::START;
@@ -8,6 +11,9 @@ use testing::numbers::minus;
 use testing::numbers::smaller;
 use testing::print::coded;
 use testing::print::text;
+use testing::script::decimal;
+use testing::script::item;
+use testing::script::listed;
 
 // How many bytes of a file are shown: its header and ten records.
 const MOST: usize = 51;
@@ -56,7 +62,7 @@ fn file(f: &Files, size: usize) {
 }
 
 // The reply, with what was written, and a mark where a byte was changed that had to stay.
-pub fn reply(f: &Files, code: usize) {
+fn reply(f: &Files, code: usize) {
     coded(b"length ", code);
     if code < NONE {
         file(f, code);
@@ -64,4 +70,12 @@ pub fn reply(f: &Files, code: usize) {
     if !rest_kept(f, code) {
         text(b" TOUCHED");
     }
+}
+
+// Has the calendar write the file of the minute that the word at a place says, into so many bytes as it says.
+pub fn schedule(script: &[u8], at: usize, f: &mut Files, windows: &Windows, s: Sizes) {
+    let minute = listed(script, at, 0);
+    let room = decimal(script, item(script, at, 1));
+    let code = scheduled(f, s.net, windows, s.windows, minute, room);
+    reply(f, code);
 }

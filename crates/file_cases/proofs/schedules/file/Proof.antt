@@ -1,9 +1,10 @@
--- `calendar_cases::print::file` is safe and ends: it goes through the bytes.
+-- `file_cases::schedules::file` is safe and ends: it goes through the bytes.
+-- Assumes nothing.
 use Prim.Native.Nat.{_-_}
 use native.Mathlib.Omega.{arith}
 use borrow.Author.Needs.{needs}
-use Rattle.calendar_cases.proofs.print.file.Statement.{statement}
-use Rattle.calendar_cases.proofs.print.file.Tie as tie
+use Rattle.file_cases.proofs.schedules.file.Statement.{statement}
+use Rattle.file_cases.proofs.schedules.file.Tie as tie
 
 abbrev Inv-loop : tie.InvT-loop
 Inv-loop f size end i₀ t5 i = Unit {0}
