@@ -1,5 +1,7 @@
-use mathlib.Core.Path.{_≡_, refl, subst, _∙_}
-use Prim.Native.Nat.{_-_}
+-- `match_rounds::pass` meets its contract.
+-- Assumes nothing.
+use mathlib.Core.Path.{_≡_, refl, sym, subst, _∙_}
+use Prim.Native.Nat.{ℕ, _-_}
 use native.Mathlib.Omega.{arith}
 use lib.ListN.{length}
 use borrow.Author.Needs.{needs}
@@ -38,6 +40,39 @@ serve-exposed-requires c κs =
         omega (arith, l .inv .4, P .dist-len),
       ),
     )
+
+-- the lengths of mate, pi, dist, par and order stay
+same-length : tie.Need-same-length Inv-loop μ-loop
+same-length c =
+    let after-serve-exposed = c .before .before .before .before .before .before .before .before .before .before .before in
+    let top = after-serve-exposed .before .before .before .before .before .before .before in
+    after-serve-exposed .serve-exposed .kept .1 .1 .1 .0 ∙ top .loop .inv .1
+
+same-length-2 : tie.Need-same-length-2 Inv-loop μ-loop
+same-length-2 c =
+    let after-serve-exposed = c .before .before .before .before .before .before .before .before .before .before .before in
+    let top = after-serve-exposed .before .before .before .before .before .before .before in
+    after-serve-exposed .serve-exposed .kept .1 .1 .1 .1 .0 ∙ top .loop .inv .2
+
+same-length-3 : tie.Need-same-length-3 Inv-loop μ-loop
+same-length-3 c =
+    let after-serve-exposed = c .before .before .before .before .before .before .before .before .before .before .before in
+    let top = after-serve-exposed .before .before .before .before .before .before .before in
+    after-serve-exposed .serve-exposed .kept .1 .1 .1 .1 .1 .0 ∙ top .loop .inv .0 .dist-len
+
+same-length-4 : tie.Need-same-length-4 Inv-loop μ-loop
+same-length-4 c =
+    let after-serve-exposed = c .before .before .before .before .before .before .before .before .before .before .before in
+    let top = after-serve-exposed .before .before .before .before .before .before .before in
+    after-serve-exposed .serve-exposed .kept .1 .1 .1 .1 .1 .1 .0 ∙ top .loop .inv .3 ∙ sym
+    (top .before .before .before .before .before .before .before .before .pre .1 .2)
+
+same-length-5 : tie.Need-same-length-5 Inv-loop μ-loop
+same-length-5 c =
+    let after-serve-exposed = c .before .before .before .before .before .before .before .before .before .before .before in
+    let top = after-serve-exposed .before .before .before .before .before .before .before in
+    after-serve-exposed .serve-exposed .kept .1 .1 .1 .1 .1 .1 .1 .0 ∙ top .loop .inv .4 ∙ sym
+    (top .before .before .before .before .before .before .before .before .pre .1 .3)
 
 returns : tie.Need-returns Inv-loop μ-loop
 returns c =
@@ -92,18 +127,18 @@ pass-spec =
     μ-loop
     loop-holds
     serve-exposed-requires
-    (λ c. search needs)
-    (λ c. search needs)
-    (λ c. search needs)
-    (λ c. search needs)
-    (λ c. search needs)
+    same-length
+    same-length-2
+    same-length-3
+    same-length-4
+    same-length-5
     returns
     (λ c. search needs)
     loop-less
     loop-again
-    (λ c. search needs)
-    (λ c. search needs)
-    (λ c. search needs)
-    (λ c. search needs)
-    (λ c. search needs)
+    (λ c. c .before .loop .inv .1)
+    (λ c. c .before .loop .inv .2)
+    (λ c. c .before .loop .inv .0 .dist-len)
+    (λ c. c .before .loop .inv .3 ∙ sym (c .before .before .before .before .before .before .before .before .before .pre .1 .2))
+    (λ c. c .before .loop .inv .4 ∙ sym (c .before .before .before .before .before .before .before .before .before .pre .1 .3))
     returns-2)

@@ -1,6 +1,7 @@
-use mathlib.Core.Path.{refl}
+-- `match_rounds::serve` meets its contract.
+-- Assumes nothing.
+use mathlib.Core.Path.{refl, _∙_}
 use native.Mathlib.Omega.{arith}
-use borrow.Author.Needs.{needs}
 use Rattle.match_augmenting.proofs.Reached.{search-lengths}
 use Rattle.match_rounds.proofs.Serving.{state-at, searched-at, search-stuck, served}
 use Rattle.match_rounds.proofs.serve.Statement.{statement}
@@ -27,6 +28,14 @@ match-reached-requires c κs =
     let same = search-lengths found .0 in
     ((state-at same refl (start .pre .0), omega (arith, at-if1 .if1 .left)), searched-at same found)
 
+-- the length of order stays
+same-length : tie.Need-same-length-10
+same-length c =
+    let after-match = c .before .before .before .before .before .before in
+    after-match .match-reached .kept .1 .1 .1 .1 .1 .1 .0 ∙
+    after-match .before .before .before .before .before .before .before .before .before .before .before .before .before .search .kept .1 .1 .1 .1 .1
+    .1 .1 .0
+
 returns-2 : tie.Need-returns-2
 returns-2 c =
     let after-match = c .before .before .before .before .before .before in
@@ -40,16 +49,22 @@ serve-spec =
     tie.close
     (tie.spec
     search-requires
-    (λ c. search needs)
-    (λ c. search needs)
-    (λ c. search needs)
-    (λ c. search needs)
-    (λ c. search needs)
+    (λ c. refl)
+    (λ c. refl)
+    (λ c. c .before .before .before .before .before .before .before .search .kept .1 .1 .1 .1 .1 .0)
+    (λ c. c .before .before .before .before .before .before .before .search .kept .1 .1 .1 .1 .1 .1 .0)
+    (λ c. c .before .before .before .before .before .before .before .search .kept .1 .1 .1 .1 .1 .1 .1 .0)
     returns
     match-reached-requires
-    (λ c. search needs)
-    (λ c. search needs)
-    (λ c. search needs)
-    (λ c. search needs)
-    (λ c. search needs)
+    (λ c. c .before .before .before .before .before .before .match-reached .kept .1 .1 .1 .1 .1 .1 .1 .0)
+    (λ c. c .before .before .before .before .before .before .match-reached .kept .1 .1 .1 .1 .1 .1 .1 .1 .0)
+    (λ c.
+    let after-search = c .before .before .before .before .before .before .before .before .before .before .before .before .before .before .before
+    .before .before .before .before in
+    after-search .search .kept .1 .1 .1 .1 .1 .0)
+    (λ c.
+    let after-search = c .before .before .before .before .before .before .before .before .before .before .before .before .before .before .before
+    .before .before .before .before in
+    after-search .search .kept .1 .1 .1 .1 .1 .1 .0)
+    same-length
     returns-2)

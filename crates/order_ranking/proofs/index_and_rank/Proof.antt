@@ -28,8 +28,14 @@ index-and-rank-spec =
     (λ c κs. search needs)
     rank-all-requires
     (λ c. c .before .before .before .before .before .before .before .before .rank-all .kept .1 .1 .0)
-    (λ c. c .before .before .before .before .before .before .before .before .before .before .before .before .before .before .before .before .before .before .before .before .before .index .kept .1 .1 .0)
-    (λ c. c .before .before .before .before .before .before .before .before .rank-all .kept .1 .1 .1 .0 ∙ c .before .before .before .before .before .before .before .before .before .before .before .before .before .before .before .before .first-arcs .kept .1 .0)
+    (λ c.
+    let after-index = c .before .before .before .before .before .before .before .before .before .before .before .before .before .before .before
+    .before .before .before .before .before .before in
+    after-index .index .kept .1 .1 .0)
+    (λ c.
+    let after-rank-all = c .before .before .before .before .before .before .before .before in
+    let after-first-arcs = after-rank-all .before .before .before .before .before .before .before .before in
+    after-rank-all .rank-all .kept .1 .1 .1 .0 ∙ after-first-arcs .first-arcs .kept .1 .0)
     (λ c. c .before .before .before .before .before .before .before .before .rank-all .kept .1 .1 .1 .1 .0)
     (λ c. c .before .before .before .before .before .before .before .before .rank-all .kept .1 .1 .1 .1 .1 .0)
     (λ c. c .before .before .before .before .before .before .before .before .rank-all .ensures))
