@@ -17,7 +17,12 @@ use Rattle.network.specs.Question.{Setting}
 use Rattle.network.specs.Tests.{answerOf}
 use Rattle.points.specs.declared.Point.{Point}
 use Rattle.state.specs.Answers.{answered}
+<<<<<<< HEAD
 use Rattle.state.specs.State.{isClaimed, settingHeld, claimHeld, idle, openChecks, opened, readChecks, withRead, endChecks, withEnd, claimChecks, withClaim, numberChecks, withNumber, repeatChecks, withRepeat, finishChecks}
+=======
+use Rattle.state.specs.State.{isClaimed, settingHeld, claimHeld, idle, openChecks, opened, readChecks, withRead, endChecks, withEnd, claimChecks, withClaim}
+use Rattle.state.specs.State.{numberChecks, withNumber, repeatChecks, withRepeat, finishChecks}
+>>>>>>> 02f0b9c16c7ee867b15979049a3d887589e619ca
 use Rattle.state.specs.Turns.{turned, openTurn, readTurn, endTurn, claimTurn, numberTurn, repeatTurn}
 use Rattle.session.specs.Session.{arraysOf, zeros, potentialsIn, sumsIn, joined, withArrays, withState, fresh, void, hand, accept, refuse}
 use Rattle.session.specs.Steps.{opening, readStep, endStep, claimStep, numberedArrays, numberStep, repeatedArrays, repeatStep, finishStep}
@@ -180,13 +185,16 @@ module _ {x y : Session} {u : Turn} {v : Reply} (g : Replies x y u v) (a : Array
       back false true false e = refl
       back false false d e = refl
 
+      untouched : (u .why ≡ 0 → ⊥) → a ≡ x .arrays
+      untouched n = ea ∙ sym (off Arrays (x .arrays) (y .arrays) (x .arrays) _ (ne-eqb (u .why) 0 n) refl)
+
       go : Dec (u .why ≡ 0) → hand (cleared (overAt (x .state) (u .why)) after) (saidAt (u .why)) ≡ v
       go (yes z) =
           next (eqb (u .why) 0) _ (eq-eqb (u .why) 0 z)
           ∙ ap (λ (c : Arrays). accept (joined c (u .state))) (ea ∙ sym (on Arrays (y .arrays) (y .arrays) (x .arrays) _ (eq-eqb (u .why) 0 z) refl))
           ∙ g .accepted z
       go (no n) =
-          (λ i. hand (cleared (overAt (x .state) (u .why)) (joined ((ea ∙ sym (off Arrays (x .arrays) (y .arrays) (x .arrays) _ (ne-eqb (u .why) 0 n) refl)) i) (g .kept n i))) (saidAt (u .why)))
+          (λ i. hand (cleared (overAt (x .state) (u .why)) (joined (untouched n i) (g .kept n i))) (saidAt (u .why)))
           ∙ back (eqb (u .why) 0) (isClaimed (x .state)) (eqb (u .why) 5) (ne-eqb (u .why) 0 n)
           ∙ g .refused n
 

@@ -1,5 +1,3 @@
--- `match_rounds::serve` meets its contract.
--- Assumes nothing.
 use mathlib.Core.Path.{refl, _∙_}
 use native.Mathlib.Omega.{arith}
 use Rattle.match_augmenting.proofs.Reached.{search-lengths}

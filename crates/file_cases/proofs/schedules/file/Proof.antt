@@ -1,5 +1,4 @@
 -- `file_cases::schedules::file` is safe and ends: it goes through the bytes.
--- Assumes nothing.
 use Prim.Native.Nat.{_-_}
 use native.Mathlib.Omega.{arith}
 use borrow.Author.Needs.{needs}

@@ -1,5 +1,4 @@
 -- `file_cases::windows::add` is safe and ends: it counts up to the windows that there are then.
--- Assumes nothing.
 use Prim.Native.Nat.{_-_}
 use native.Mathlib.Omega.{arith}
 use borrow.Author.Needs.{needs}
