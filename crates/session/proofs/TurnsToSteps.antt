@@ -17,12 +17,8 @@ use Rattle.network.specs.Question.{Setting}
 use Rattle.network.specs.Tests.{answerOf}
 use Rattle.points.specs.declared.Point.{Point}
 use Rattle.state.specs.Answers.{answered}
-<<<<<<< HEAD
-use Rattle.state.specs.State.{isClaimed, settingHeld, claimHeld, idle, openChecks, opened, readChecks, withRead, endChecks, withEnd, claimChecks, withClaim, numberChecks, withNumber, repeatChecks, withRepeat, finishChecks}
-=======
 use Rattle.state.specs.State.{isClaimed, settingHeld, claimHeld, idle, openChecks, opened, readChecks, withRead, endChecks, withEnd, claimChecks, withClaim}
 use Rattle.state.specs.State.{numberChecks, withNumber, repeatChecks, withRepeat, finishChecks}
->>>>>>> 02f0b9c16c7ee867b15979049a3d887589e619ca
 use Rattle.state.specs.Turns.{turned, openTurn, readTurn, endTurn, claimTurn, numberTurn, repeatTurn}
 use Rattle.session.specs.Session.{arraysOf, zeros, potentialsIn, sumsIn, joined, withArrays, withState, fresh, void, hand, accept, refuse}
 use Rattle.session.specs.Steps.{opening, readStep, endStep, claimStep, numberedArrays, numberStep, repeatedArrays, repeatStep, finishStep}
