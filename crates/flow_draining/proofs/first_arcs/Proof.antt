@@ -1,9 +1,9 @@
--- `flow_discharging::first_arcs` meets its contract.
+-- `flow_draining::first_arcs` meets its contract.
 -- Assumes nothing.
 use Prim.Native.Nat.{_-_}
 use borrow.Author.Needs.{needs}
-use Rattle.flow_discharging.proofs.first_arcs.Statement.{statement}
-use Rattle.flow_discharging.proofs.first_arcs.Tie as tie
+use Rattle.flow_draining.proofs.first_arcs.Statement.{statement}
+use Rattle.flow_draining.proofs.first_arcs.Tie as tie
 
 abbrev Inv-loop : tie.InvT-loop
 Inv-loop out current₀ v₀ current v = Unit {0}
