@@ -4,7 +4,7 @@ ghost use lib.ListN.{length};
 ghost use Rattle.flow_moves.specs.Preflow.{Links, Ready, Moves};
 use flow_arcs::first_arc;
 use flow_arcs::next_arc;
-use flow_discharging::drain_all;
+use flow_draining::drain_all;
 use flow_labels::label_from;
 use flow_moves::shift_forward;
 use packed_arcs::arcs::head_of;

@@ -1,8 +1,8 @@
 use Rattle.flow_moves.specs.Preflow.{Moves}
 use Rattle.flow_moves.proofs.Conserving.{moves-none, moves-then, ready-then}
 use borrow.Author.Needs.{needs}
-use Rattle.flow_discharging.proofs.drain.Statement.{statement}
-use Rattle.flow_discharging.proofs.drain.Tie as tie
+use Rattle.flow_draining.proofs.drain.Statement.{statement}
+use Rattle.flow_draining.proofs.drain.Tie as tie
 
 abbrev Inv-loop : tie.InvT-loop
 Inv-loop arcs out into label₀ bucket₀ count₀ current₀ x₀ left₀ top₀ fuel₀ label bucket count current x left top fuel =

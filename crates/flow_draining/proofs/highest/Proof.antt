@@ -1,6 +1,6 @@
 use borrow.Author.Needs.{needs}
-use Rattle.flow_discharging.proofs.highest.Statement.{statement}
-use Rattle.flow_discharging.proofs.highest.Tie as tie
+use Rattle.flow_draining.proofs.highest.Statement.{statement}
+use Rattle.flow_draining.proofs.highest.Tie as tie
 
 abbrev Inv-loop : tie.InvT-loop
 Inv-loop l bucket top₀ top = Unit {0}

@@ -1,7 +1,7 @@
 use Prim.Native.Nat.{_-_}
 use borrow.Author.Needs.{needs}
-use Rattle.flow_discharging.proofs.first_arcs.Statement.{statement}
-use Rattle.flow_discharging.proofs.first_arcs.Tie as tie
+use Rattle.flow_draining.proofs.first_arcs.Statement.{statement}
+use Rattle.flow_draining.proofs.first_arcs.Tie as tie
 
 abbrev Inv-loop : tie.InvT-loop
 Inv-loop out current₀ v₀ current v = Unit {0}

@@ -1,8 +1,8 @@
 use Prim.Native.Nat.{_-_}
 use lib.ListN.{length}
 use borrow.Author.Needs.{needs}
-use Rattle.flow_discharging.proofs.fill_buckets.Statement.{statement}
-use Rattle.flow_discharging.proofs.fill_buckets.Tie as tie
+use Rattle.flow_draining.proofs.fill_buckets.Statement.{statement}
+use Rattle.flow_draining.proofs.fill_buckets.Tie as tie
 
 abbrev Inv-loop : tie.InvT-loop
 Inv-loop label left bucket₀ v₀ bucket v =
