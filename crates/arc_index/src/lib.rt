@@ -7,6 +7,7 @@ ghost use Rattle.prelude.specs.Choice.{pick};
 ghost use Rattle.prelude.specs.Lists.{listTo};
 ghost use Rattle.arc_index.specs.ArcIndex.{noArc, indexOf, addedBelow, indexFrom, linksOf, recordEnd, recordEnds, indexable};
 use arc_records::arc_in;
+use packed_arcs::numbers::place;
 
 pub mod packed;
 
@@ -49,13 +50,6 @@ pub fn begin(links: &mut [u16], last: &mut [u16; 256])
 {
     clear_links(links);
     *last = first_places();
-}
-
-// A place in links, or an arc, as an index of an array.
-pub fn place(k: u16) -> usize
-    ensures { λ r. ⌜ r ≡ k ⌝ }
-{
-    k as usize
 }
 
 // Notes the arc e at a place in links, and nothing past the end.

@@ -8,19 +8,13 @@ ghost use Rattle.packed_arcs.specs.PackedArcs.{tailOf, headOf};
 use packed_arcs::arcs::capacity_of;
 use packed_arcs::arcs::head_of;
 use packed_arcs::arcs::tail_of;
+use packed_arcs::numbers::place;
 
 // A label or a vertex as an index into an array of 256.
 pub fn index_of(l: u8) -> usize
     ensures { λ r. ⌜ r < 256 ⌝ }
 {
     l as usize
-}
-
-// An arc, or none, as an index.
-pub fn place(code: u16) -> usize
-    ensures { λ r. ⌜ r ≡ code ⌝ }
-{
-    code as usize
 }
 
 // The first arc at the vertex v.

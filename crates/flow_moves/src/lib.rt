@@ -1,7 +1,7 @@
 // One step along a residual arc: what stands at the vertex that it comes from moves to its other end, as far as it fits.
 // Both vertices are read from the arc, so that a caller shows only that there is such an arc.
 ghost use mathlib.Core.Path.{_≡_};
-ghost use Prim.Native.Nat.{_<_, _≤_, min};
+ghost use Prim.Native.Nat.{_<_, _≤_};
 ghost use lib.ListN.{length};
 ghost use Rattle.packed_arcs.specs.Entries.{entry, sum, zeroList};
 ghost use Rattle.flow_moves.specs.Preflow.{Ready, Moves, standingAt, transferred};
@@ -10,22 +10,8 @@ use packed_arcs::arcs::head_of;
 use packed_arcs::arcs::tail_of;
 use packed_arcs::clearing::clear_amounts;
 use packed_arcs::clearing::clear_potentials;
-
-// An amount as a supply.
-fn wide(amount: u16) -> u32
-    ensures { λ r. ⌜ r ≡ amount ⌝ }
-{
-    amount as u32
-}
-
-fn lesser(a: u32, b: u32) -> u32
-    ensures { λ r. ⌜ r ≡ min a b ⌝ }
-{
-    if a < b {
-        return a;
-    }
-    b
-}
+use packed_arcs::numbers::lesser;
+use packed_arcs::numbers::wide;
 
 // Moves got from the vertex a to the vertex b. They may be the same, so b's supply is read after a's is written.
 fn transfer(a: usize, b: usize, got: u32, left: &mut [u32])

@@ -10,10 +10,10 @@ ghost use Rattle.flow_residual.specs.PackedNetwork.{residualOf, PackedSolved, P
 ghost use Rattle.flow_residual.specs.Phase.{Nearest, SearchResult};
 ghost use Rattle.flow_residual.specs.Residual.{RaisedPotentials};
 ghost use Rattle.flow_phases.specs.Advancing.{PackedAdvanced};
-use flow_push::least;
 use flow_push::push;
 use flow_search::UNREACHED;
 use flow_search::search;
+use packed_arcs::numbers::lesser;
 
 // The potentials after a phase that stops at the key d.
 fn raise(d: u32, key: &[u32], pi: &mut [u32])
@@ -23,7 +23,7 @@ fn raise(d: u32, key: &[u32], pi: &mut [u32])
     let mut v = 0;
     while v < key.len() {
         let k = key[v];
-        pi[v] = pi[v] + least(k, d) / 256;
+        pi[v] = pi[v] + lesser(k, d) / 256;
         v += 1;
     }
 }

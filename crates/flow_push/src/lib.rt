@@ -12,27 +12,9 @@ ghost use Rattle.flow_residual.specs.Residual.{unreached};
 use packed_arcs::arcs::capacity_of;
 use packed_arcs::arcs::head_of;
 use packed_arcs::arcs::tail_of;
-
-fn place(code: u16) -> usize
-    ensures { λ r. ⌜ r ≡ code ⌝ }
-{
-    code as usize
-}
-
-fn wide(amount: u16) -> u32
-    ensures { λ r. ⌜ r ≡ amount ⌝ }
-{
-    amount as u32
-}
-
-pub fn least(a: u32, b: u32) -> u32
-    ensures { λ r. ⌜ r ≡ min a b ⌝ }
-{
-    if a < b {
-        return a;
-    }
-    b
-}
+use packed_arcs::numbers::lesser;
+use packed_arcs::numbers::place;
+use packed_arcs::numbers::wide;
 
 // The arc of a code.
 fn arc_of(code: u16) -> usize
@@ -60,9 +42,9 @@ fn room_by(code: u16, want: u32, arc: u64, amount: u16) -> u32
     ensures { λ r. ⌜ r ≡ min want (pick (ltb code 4096) (capacityOf arc - amount) amount) ⌝ }
 {
     if code < 4096 {
-        return least(want, wide(capacity_of(arc) - amount));
+        return lesser(want, wide(capacity_of(arc) - amount));
     }
-    least(want, wide(amount))
+    lesser(want, wide(amount))
 }
 
 // The amount of an arc after got went by the residual arc.
@@ -82,7 +64,7 @@ fn take_left(v: usize, want: u32, left: &mut [u32]) -> u32
     ensures { λ r. ⌜ (r ≡ min want (entry (now (left .entry)) v)) × (now (left .exit) ≡ set (now (left .entry)) v (entry (now (left .entry)) v - r)) ⌝ }
 {
     let have = left[v];
-    let got = least(want, have);
+    let got = lesser(want, have);
     left[v] = have - got;
     got
 }

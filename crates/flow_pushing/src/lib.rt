@@ -7,8 +7,8 @@ use flow_arcs::first_arc;
 use flow_arcs::index_of;
 use flow_arcs::is_residual;
 use flow_arcs::next_arc;
-use flow_arcs::place;
 use flow_moves::shift;
+use packed_arcs::numbers::place;
 
 // Puts v first into the bucket of the label l, where nothing stood at v: else it is in one already.
 // A bucket is a list: its first vertex stands at l, the next one after v at 256 + v, and 255 is none.

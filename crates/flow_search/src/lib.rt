@@ -11,6 +11,7 @@ ghost use Rattle.packed_arcs.specs.PackedArcs.{tailsOf};
 ghost use Rattle.vertex_queue.specs.VertexQueue.{Holds, nobody};
 ghost use Rattle.flow_residual.specs.Phase.{firstKey, StartOutcome, SearchResult};
 use flow_relaxing::relax;
+use packed_arcs::numbers::place;
 use vertex_queue::begin;
 use vertex_queue::least;
 use vertex_queue::put;
@@ -18,13 +19,6 @@ use vertex_queue::take;
 
 // The key of a vertex that is not reached.
 pub const UNREACHED: u32 = 2147483648;
-
-// The number of an arc as an index of an array.
-fn place(e: u16) -> usize
-    ensures { λ r. ⌜ r ≡ e ⌝ }
-{
-    e as usize
-}
 
 // Looks at the residual arcs from u, which was taken with the key k: those forward along the index by tail, or those back along the index by head.
 fn scan(

@@ -4,9 +4,9 @@ ghost use lib.ListN.{length};
 ghost use Rattle.arc_index.specs.Columns.{recordTails, recordHeads, recordWeights};
 ghost use Rattle.match_augmenting.specs.Augmenting.{Alternating, Augmented};
 use arc_index::NO_ARC;
-use arc_index::place;
 use match_state::head_at;
 use match_state::tail_at;
+use packed_arcs::numbers::place;
 
 // The exposed left vertex r is matched by its parent arc; who was matched to the head of that arc is exposed, and goes on in the same way, up to the root t.
 pub(crate) fn augment(

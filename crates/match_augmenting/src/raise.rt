@@ -8,8 +8,8 @@ ghost use Rattle.arc_index.specs.Columns.{recordTails, recordHeads, recordWeigh
 ghost use Rattle.match_state.specs.Matching.{State};
 ghost use Rattle.match_augmenting.specs.Augmenting.{riseOf, Raised};
 use arc_index::NO_ARC;
-use arc_index::place;
 use match_state::tail_at;
+use packed_arcs::numbers::place;
 
 // By how much less far than d.
 fn nearer(far: u32, d: u32) -> u32

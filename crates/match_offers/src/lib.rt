@@ -9,10 +9,10 @@ ghost use Rattle.arc_index.specs.Chains.{Chains};
 ghost use Rattle.arc_index.specs.Columns.{recordTails, recordHeads, recordWeights};
 ghost use Rattle.match_offers.specs.Offers.{bidCost, costUnless, Affordable, Cheapest, Room, freed, assignedMates, assignedPotentials};
 use arc_index::NO_ARC;
-use arc_index::place;
 use match_state::head_at;
 use match_state::tail_at;
 use match_state::weight_at;
+use packed_arcs::numbers::place;
 
 // More than any arc costs.
 const TOO_MUCH: u32 = 4294967295;

@@ -7,9 +7,9 @@ ghost use Rattle.arc_index.specs.Columns.{recordTails, recordHeads, recordWeigh
 ghost use Rattle.match_state.specs.Matching.{Bipartite, Matching};
 ghost use Rattle.match_results.specs.Results.{matchedAmount, Amounts, farMark, unreachedMark, Marks};
 use arc_index::NO_ARC;
-use arc_index::place;
 use match_state::head_at;
 use match_state::tail_at;
+use packed_arcs::numbers::place;
 use vertex_queue::WAITS_NOT;
 
 // 1 for an arc that is noted as matched at its head, else 0.

@@ -9,10 +9,10 @@ ghost use Rattle.arc_index.specs.Columns.{recordTails, recordHeads, recordWeigh
 ghost use Rattle.match_state.specs.Matching.{State};
 ghost use Rattle.match_tree.specs.Tree.{SearchedBack};
 use arc_index::NO_ARC;
-use arc_index::place;
 use match_state::head_at;
 use match_tree::NO_VERTEX;
 use match_tree::scan;
+use packed_arcs::numbers::place;
 use vertex_queue::WAITS_NOT;
 use vertex_queue::begin;
 use vertex_queue::least;

@@ -7,9 +7,9 @@ ghost use Rattle.arc_index.specs.Columns.{recordTails, recordHeads, recordWeigh
 ghost use Rattle.match_state.specs.Matching.{State};
 ghost use Rattle.match_tree.specs.Tree.{Lowered, Relaxable, Scanned};
 use arc_index::NO_ARC;
-use arc_index::place;
 use match_state::tail_at;
 use match_state::weight_at;
+use packed_arcs::numbers::place;
 use vertex_queue::put;
 
 // What a search gives where no exposed vertex is found: no vertex.

@@ -5,8 +5,8 @@ ghost use Rattle.packed_arcs.specs.Entries.{zeroList};
 ghost use Rattle.arc_index.specs.Columns.{recordTails, recordHeads};
 ghost use Rattle.order_path.specs.Search.{Circulation};
 ghost use Rattle.order_path.specs.Steps.{Arcs, ClosedPath};
-use arc_index::place;
 use order_path::index::tail_at;
+use packed_arcs::numbers::place;
 
 // Marks the arcs of the cycle that the path closes: the current arcs of its vertices, from that one on from which an arc enters the last.
 pub fn mark(

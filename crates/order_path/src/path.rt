@@ -8,7 +8,7 @@ ghost use Rattle.arc_index.specs.Columns.{recordTails, recordHeads};
 ghost use Rattle.order_path.specs.Steps.{Chained, Watch, Looked, Searching, Pushed, Started, Climbed};
 use super::index::NONE;
 use super::index::tail_at;
-use arc_index::place;
+use packed_arcs::numbers::place;
 
 // An arc into v from a vertex without a rank, or none: the current arc of v moves on to it, past arcs from vertices with a rank.
 fn look(v: usize, records: &[u32], links: &[u16], ranks: &[u32], into: &mut [u16]) -> usize

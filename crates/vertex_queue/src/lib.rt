@@ -1,21 +1,13 @@
 // The vertices that wait in a search, each with a key, in blocks of 16: the vertex with the least key is found by two short scans.
 // `keys` has the key of each vertex, and `low` the least key of each block.
 ghost use mathlib.Core.Path.{_≡_};
-ghost use Prim.Native.Nat.{_+_, _≤_, _<_, min};
+ghost use Prim.Native.Nat.{_+_, _≤_, _<_};
 ghost use lib.ListN.{length};
 ghost use Rattle.vertex_queue.specs.VertexQueue.{Holds, nobody, putIn, takenOut, leastVertex, leastEntry, leastFrom};
+use packed_arcs::numbers::lesser;
 
 // The key of a vertex that does not wait.
 pub const WAITS_NOT: u32 = 2147483648;
-
-fn lesser(a: u32, b: u32) -> u32
-    ensures { λ r. ⌜ r ≡ min a b ⌝ }
-{
-    if a < b {
-        return a;
-    }
-    b
-}
 
 // The index of the first least entry among the 16 from `from` on.
 fn first_least(from: usize, l: &[u32]) -> usize

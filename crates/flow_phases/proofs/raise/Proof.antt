@@ -17,14 +17,14 @@ add-pi : tie.Need-add-pi Inv-loop μ-loop
 add-pi c =
     let s = c .before .before .before .before .before .before .before in
     let l = c .before .before .before .before .loop in
-    omega (arith, l .inv .above (l .v) (omega arith), s .pre .1 (l .v), c .least .ensures, s .fits .d)
+    omega (arith, l .inv .above (l .v) (omega arith), s .pre .1 (l .v), c .lesser .ensures, s .fits .d)
 
 loop-again : tie.Need-loop-again Inv-loop μ-loop
 loop-again c =
     let s = c .before .before .before .before .before .before .before in
     let l = c .before .before .before .before .loop in
-    raise-turn (s .args .d) (s .args .key .now) (s .args .pi .now) (l .pi) (l .v) (c .least .result) (s .pre .0)
-    (c .before .before .before .loop-test .taken) (c .least .ensures) (l .inv)
+    raise-turn (s .args .d) (s .args .key .now) (s .args .pi .now) (l .pi) (l .v) (c .lesser .result) (s .pre .0)
+    (c .before .before .before .loop-test .taken) (c .lesser .ensures) (l .inv)
 
 pub raise-spec : {M : Type 1} → statement M
 raise-spec =

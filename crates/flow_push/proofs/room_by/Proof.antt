@@ -15,8 +15,8 @@ room-by-spec =
     (λ c κs. tt)
     (λ c.
     let a = c .before .before .before .before .args in
-    c .least .ensures
+    c .lesser .ensures
     ∙ ap (min (a .want)) (simp (lt-ltb _ _ (c .before .before .before .if1 .taken)) (c .before .wide .ensures ∙ ap (λ (k : ℕ). k - a .amount) (c .before .before .capacity-of .ensures))))
     (λ c κs. tt)
     (λ c κs. tt)
-    (λ c. c .least2 .ensures ∙ ap (min (c .before .before .before .args .want)) (simp (le-ltb _ _ (c .before .before .if1 .left)) (c .before .wide2 .ensures))))
+    (λ c. c .lesser2 .ensures ∙ ap (min (c .before .before .before .args .want)) (simp (le-ltb _ _ (c .before .before .if1 .left)) (c .before .wide2 .ensures))))
