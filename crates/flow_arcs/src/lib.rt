@@ -43,7 +43,7 @@ pub fn is_residual(back: bool, arc: u64, amount: u16) -> bool {
 }
 
 // The vertex that the residual arc leads to.
-pub fn end_of(back: bool, arc: u64) -> usize
+pub fn far_end(back: bool, arc: u64) -> usize
     ensures { λ r. ⌜ (r ≡ pick back (tailOf arc) (headOf arc)) × (r < 256) ⌝ }
 {
     if back {

@@ -30,7 +30,7 @@ fn take_first(l: u8, bucket: &mut [u8; 512]) -> usize
 }
 
 // Serves the first vertex in the bucket of the label top: a label above which nobody has something to push.
-fn serve(
+fn serve_first(
     top: u8,
     arcs: &[u64],
     out: &[u16],
@@ -76,7 +76,7 @@ fn drain(
         if top == 0 {
             return true;
         }
-        let l = serve(top, arcs, out, into, label, bucket, count, current, x, left);
+        let l = serve_first(top, arcs, out, into, label, bucket, count, current, x, left);
         top = highest(l, bucket);
         fuel -= 1;
     }
@@ -84,7 +84,7 @@ fn drain(
 }
 
 // Every vertex starts at its first arc.
-fn first_arcs(out: &[u16], current: &mut [u16; 256])
+fn start_arcs(out: &[u16], current: &mut [u16; 256])
     requires { ⌜ 256 ≤ length (now out) ⌝ }
 {
     let mut v = 0;
@@ -135,7 +135,7 @@ pub fn drain_all(
     let mut current = [0u16; 256];
     fill_buckets(label, left, &mut bucket);
     count_labels(left.len(), label, &mut count);
-    first_arcs(out, &mut current);
+    start_arcs(out, &mut current);
     drain(
         arcs,
         out,

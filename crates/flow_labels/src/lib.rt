@@ -4,7 +4,7 @@ ghost use mathlib.Core.Path.{_≡_};
 ghost use Prim.Native.Nat.{_<_, _≤_};
 ghost use lib.ListN.{length};
 ghost use Rattle.flow_moves.specs.Preflow.{Links};
-use flow_arcs::end_of;
+use flow_arcs::far_end;
 use flow_arcs::first_arc;
 use flow_arcs::index_of;
 use flow_arcs::is_residual;
@@ -61,7 +61,7 @@ fn reach_start(
 {
     let arc = arcs[e];
     if is_residual(back, arc, x[e]) {
-        return reach(end_of(!back, arc), l, found, label, order);
+        return reach(far_end(!back, arc), l, found, label, order);
     }
     found
 }
@@ -121,7 +121,7 @@ pub fn label_from(
 
 // ---- the lowest label next to a vertex
 
-fn lower(a: u8, b: u8) -> u8 {
+fn lesser_label(a: u8, b: u8) -> u8 {
     if a < b {
         return a;
     }
@@ -134,7 +134,7 @@ fn lower_end(back: bool, e: usize, low: u8, arcs: &[u64], x: &[u16], label: &[u8
 {
     let arc = arcs[e];
     if is_residual(back, arc, x[e]) {
-        return lower(low, label[end_of(back, arc)]);
+        return lesser_label(low, label[far_end(back, arc)]);
     }
     low
 }
@@ -164,7 +164,7 @@ pub fn raised(
 ) -> u8
     requires { ⌜ (v < 256) × (length (now x) ≡ length (now arcs)) × Links (now arcs) (now out) × Links (now arcs) (now into) ⌝ }
 {
-    let low = lower(
+    let low = lesser_label(
         lowest_end(false, v, arcs, out, x, label),
         lowest_end(true, v, arcs, into, x, label),
     );

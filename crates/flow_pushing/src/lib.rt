@@ -2,7 +2,7 @@
 ghost use Prim.Native.Nat.{_<_};
 ghost use lib.ListN.{length};
 ghost use Rattle.flow_moves.specs.Preflow.{Links, Ready, Moves};
-use flow_arcs::end_of;
+use flow_arcs::far_end;
 use flow_arcs::first_arc;
 use flow_arcs::index_of;
 use flow_arcs::is_residual;
@@ -38,7 +38,7 @@ fn give(
     ensures { λ _. ⌜ Moves (now (arcs .entry)) (now (x .entry)) (now (left .entry)) (now (x .exit)) (now (left .exit)) ⌝ }
 {
     let arc = arcs[e];
-    let b = end_of(back, arc);
+    let b = far_end(back, arc);
     if label[b] != l {
         return false;
     }

@@ -116,7 +116,7 @@ pub fn push_to_sink(
 // ---- back to the source
 
 // Does something stand at v, which is neither s nor t?
-fn is_over(v: usize, s: usize, t: usize, stands: u32) -> bool {
+fn is_left_over(v: usize, s: usize, t: usize, stands: u32) -> bool {
     if v == s {
         return false;
     }
@@ -127,10 +127,10 @@ fn is_over(v: usize, s: usize, t: usize, stands: u32) -> bool {
 }
 
 // Is nothing left over at any vertex but s and t?
-fn is_settled(s: usize, t: usize, left: &[u32]) -> bool {
+fn is_drained(s: usize, t: usize, left: &[u32]) -> bool {
     let mut v = 0;
     while v < left.len() {
-        if is_over(v, s, t, left[v]) {
+        if is_left_over(v, s, t, left[v]) {
             return false;
         }
         v += 1;
@@ -154,7 +154,7 @@ pub fn push_to_source(
     requires { ⌜ Links (now arcs) (now out) × Links (now arcs) (now into) × Ready (now arcs) (now x) (now left) ⌝ }
     ensures { λ _. ⌜ Moves (now (arcs .entry)) (now (x .entry)) (now (left .entry)) (now (x .exit)) (now (left .exit)) ⌝ }
 {
-    if is_settled(s, t, left) {
+    if is_drained(s, t, left) {
         return;
     }
     push_toward(s, t, arcs, out, into, label, order, x, left);

@@ -24,8 +24,8 @@ same-length-2 c = c .before .before .loop .inv .left-len
 returns : tie.Need-returns Inv-loop μ-loop
 returns c = c .before .before .loop .inv
 
-serve-requires : tie.Need-serve-requires Inv-loop μ-loop
-serve-requires c κs =
+serve-first-requires : tie.Need-serve-first-requires Inv-loop μ-loop
+serve-first-requires c κs =
     let at-loop = c .before .before .before .before .before .before .before .before in
     let start = at-loop .before .before .before .before .before .before .before .before in
     (start .pre .0, start .pre .1, ready-then (start .pre .2) (at-loop .loop .inv))
@@ -34,7 +34,7 @@ loop-again : tie.Need-loop-again Inv-loop μ-loop
 loop-again c =
     let at-serve = c .before .before .before .before .before .before in
     let at-loop = at-serve .before .before .before .before .before .before .before .before .before in
-    moves-then (at-loop .loop .inv) (at-serve .serve .ensures)
+    moves-then (at-loop .loop .inv) (at-serve .serve-first .ensures)
 
 same-length-3 : tie.Need-same-length-3 Inv-loop μ-loop
 same-length-3 c = c .before .loop .inv .x-len
@@ -56,7 +56,7 @@ drain-spec =
     same-length
     same-length-2
     returns
-    serve-requires
+    serve-first-requires
     (λ c κs. tt)
     (λ c. search needs)
     (λ c. search needs)

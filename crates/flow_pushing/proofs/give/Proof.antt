@@ -22,16 +22,16 @@ returns-2 c =
     moves-none (a .arcs .now) (a .x .now) (a .left .now)
 
 mul-activate : tie.Need-mul-activate
-mul-activate c = omega (arith, c .before .before .before .before .before .end-of .ensures .1)
+mul-activate c = omega (arith, c .before .before .before .before .before .far-end .ensures .1)
 
 slice-read-activate : tie.Need-slice-read-activate
 slice-read-activate c =
     let at-end-of = c .before .before .before .before .before .before in
     let start = at-end-of .before .before .before .before .before in
-    omega (arith, end-inside (facts start) (start .args .back), at-end-of .end-of .ensures .0)
+    omega (arith, end-inside (facts start) (start .args .back), at-end-of .far-end .ensures .0)
 
 activate-requires : tie.Need-activate-requires
-activate-requires c κs = c .before .before .before .before .before .before .before .end-of .ensures .1
+activate-requires c κs = c .before .before .before .before .before .before .before .far-end .ensures .1
 
 returns-3 : tie.Need-returns-3
 returns-3 c = c .before .before .before .before .shift .ensures

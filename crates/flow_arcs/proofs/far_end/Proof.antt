@@ -1,9 +1,9 @@
 use native.Mathlib.Omega.{arith}
-use Rattle.flow_arcs.proofs.end_of.Statement.{statement}
-use Rattle.flow_arcs.proofs.end_of.Tie as tie
+use Rattle.flow_arcs.proofs.far_end.Statement.{statement}
+use Rattle.flow_arcs.proofs.far_end.Tie as tie
 
-pub end-of-spec : {M : Type 1} → statement M
-end-of-spec =
+pub far-end-spec : {M : Type 1} → statement M
+far-end-spec =
     tie.close
     (tie.spec
     (λ c κs. tt)

@@ -1,17 +1,16 @@
 use Prim.Native.Nat.{_-_}
-use lib.ListN.{length}
 use borrow.Author.Needs.{needs}
-use Rattle.flow_stages.proofs.is_settled.Statement.{statement}
-use Rattle.flow_stages.proofs.is_settled.Tie as tie
+use Rattle.flow_draining.proofs.start_arcs.Statement.{statement}
+use Rattle.flow_draining.proofs.start_arcs.Tie as tie
 
 abbrev Inv-loop : tie.InvT-loop
-Inv-loop s t left v₀ v = Unit {0}
+Inv-loop out current₀ v₀ current v = Unit {0}
 
 abbrev μ-loop : tie.MeasureT-loop
-μ-loop s t left v₀ v = length left - v
+μ-loop out current₀ v₀ current v = 256 - v
 
-pub is-settled-spec : {M : Type 1} → statement M
-is-settled-spec =
+pub start-arcs-spec : {M : Type 1} → statement M
+start-arcs-spec =
     tie.close
     (tie.spec
     Inv-loop
@@ -19,7 +18,7 @@ is-settled-spec =
     (λ c. search needs)
     (λ c. search needs)
     (λ c. search needs)
-    (λ c κs. search needs)
+    (λ c. search needs)
     (λ c. search needs)
     (λ c. search needs)
     (λ c. search needs)

@@ -1,16 +1,17 @@
 use Prim.Native.Nat.{_-_}
+use lib.ListN.{length}
 use borrow.Author.Needs.{needs}
-use Rattle.flow_draining.proofs.first_arcs.Statement.{statement}
-use Rattle.flow_draining.proofs.first_arcs.Tie as tie
+use Rattle.flow_stages.proofs.is_drained.Statement.{statement}
+use Rattle.flow_stages.proofs.is_drained.Tie as tie
 
 abbrev Inv-loop : tie.InvT-loop
-Inv-loop out current₀ v₀ current v = Unit {0}
+Inv-loop s t left v₀ v = Unit {0}
 
 abbrev μ-loop : tie.MeasureT-loop
-μ-loop out current₀ v₀ current v = 256 - v
+μ-loop s t left v₀ v = length left - v
 
-pub first-arcs-spec : {M : Type 1} → statement M
-first-arcs-spec =
+pub is-drained-spec : {M : Type 1} → statement M
+is-drained-spec =
     tie.close
     (tie.spec
     Inv-loop
@@ -18,7 +19,7 @@ first-arcs-spec =
     (λ c. search needs)
     (λ c. search needs)
     (λ c. search needs)
-    (λ c. search needs)
+    (λ c κs. search needs)
     (λ c. search needs)
     (λ c. search needs)
     (λ c. search needs)
