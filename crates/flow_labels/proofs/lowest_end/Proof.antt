@@ -15,7 +15,7 @@ abbrev μ-loop : tie.MeasureT-loop
 first-arc-requires : tie.Need-first-arc-requires Inv-loop μ-loop
 first-arc-requires c κs = omega (arith, c .before .before .before .pre .2 .len, c .before .before .before .pre .0)
 
-lower-end-requires : tie.Need-lesser-label-end-requires Inv-loop μ-loop
+lower-end-requires : tie.Need-lower-end-requires Inv-loop μ-loop
 lower-end-requires c κs = (c .loop-test .taken, c .before .before .before .before .before .before .pre .1)
 
 next-arc-requires : tie.Need-next-arc-requires Inv-loop μ-loop
