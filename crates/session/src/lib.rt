@@ -147,7 +147,7 @@ impl Session {
     }
 
     // The reply to a step that changes nothing but the state.
-    fn turned(mut self, turn: Turn) -> Reply
+    fn reply_to(mut self, turn: Turn) -> Reply
         ensures { λ r. ⌜ r ≡ pick (eqb (turn .why) 0) (accept (withState self (turn .state))) (refuse self (turn .why)) ⌝ }
     {
         let why = turn.why;
@@ -192,7 +192,7 @@ impl Session {
             head: b,
             weight: w,
         });
-        self.turned(turn)
+        self.reply_to(turn)
     }
 
     // Ending the reading.
@@ -201,7 +201,7 @@ impl Session {
     {
         let state = self.state;
         let turn = state.end_reading();
-        self.turned(turn)
+        self.reply_to(turn)
     }
 
     // The claim.
@@ -210,7 +210,7 @@ impl Session {
     {
         let state = self.state;
         let turn = state.claim(claim);
-        self.turned(turn)
+        self.reply_to(turn)
     }
 
     // A node number. With one way out, so that the session is copied as seldom as can be.

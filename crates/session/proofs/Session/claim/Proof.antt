@@ -8,7 +8,7 @@ returns : tie.Need-returns
 returns c =
     let u = c .before .claim in
     let s = c .before .before .before .args in
-    c .turned .ensures ∙ by-state (claim-replies (s .self) (s .claim) (u .result) (u .ensures))
+    c .reply-to .ensures ∙ by-state (claim-replies (s .self) (s .claim) (u .result) (u .ensures))
 
 pub claim-spec : {M : Type 1} → statement M
 claim-spec = tie.close (tie.spec (λ c κs. tt) (λ c κs. tt) returns)

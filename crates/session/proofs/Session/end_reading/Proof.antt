@@ -8,7 +8,7 @@ returns : tie.Need-returns
 returns c =
     let u = c .before .end-reading in
     let s = c .before .before .before .args in
-    c .turned .ensures ∙ by-state (end-replies (s .self) (u .result) (u .ensures))
+    c .reply-to .ensures ∙ by-state (end-replies (s .self) (u .result) (u .ensures))
 
 pub end-reading-spec : {M : Type 1} → statement M
 end-reading-spec = tie.close (tie.spec (λ c κs. tt) (λ c κs. tt) returns)

@@ -9,7 +9,7 @@ returns : tie.Need-returns
 returns c =
     let u = c .before .read-channel in
     let s = c .before .before .before .args in
-    c .turned .ensures ∙ by-state (read-replies (s .self) (arcOf (s .a) (s .b) (s .w)) (u .result) (u .ensures))
+    c .reply-to .ensures ∙ by-state (read-replies (s .self) (arcOf (s .a) (s .b) (s .w)) (u .result) (u .ensures))
 
 pub read-channel-spec : {M : Type 1} → statement M
 read-channel-spec = tie.close (tie.spec (λ c κs. tt) (λ c κs. tt) returns)
