@@ -20,7 +20,7 @@ use Rattle.packed_arcs.specs.Limits.{arcFits, arcsFit}
 use Rattle.flow_moves.specs.Preflow.{standingAt}
 use Rattle.flow_residual.specs.Phase.{Solved}
 use Rattle.flow_residual.specs.PackedNetwork.{PackedSolved}
-use Rattle.flow_maximum.specs.Calls.{solvable, Finished, SolveOutcome}
+use Rattle.flow_settling.specs.Calls.{solvable, Finished, SolveOutcome}
 use Rattle.flow_moves.proofs.Standing.{standing-len, standing-here, standing-other}
 use Rattle.prelude.proofs.Tested.{both-on}
 use Rattle.cert_instances.specs.declared.vertices.NumberKind.the-variants.{Mark}

@@ -10,12 +10,12 @@ use lib.ListN.{length}
 use Rattle.packed_arcs.specs.PackedArcs.{tailsOf, headsOf}
 use Rattle.packed_arcs.specs.Limits.{arcsFit}
 use Rattle.arc_index.specs.Chains.{Chains}
-use Rattle.flow_moves.specs.Preflow.{PackedConserved, standingAt}
+use Rattle.flow_moves.specs.Preflow.{PackedConserved, standingAt, preflowable}
 use Rattle.flow_moves.proofs.Standing.{standing-len}
-use Rattle.flow_preflow.specs.Outcome.{preflowable, PreflowOutcome}
+use Rattle.flow_preflow.specs.Outcome.{PreflowOutcome}
 use Rattle.flow_preflow.proofs.Outcomes.{Preflowable, preflowable-facts}
 use Rattle.flow_settling.specs.Settling.{SolveReady}
-use Rattle.flow_maximum.specs.Calls.{solvable, Finished, SolveOutcome}
+use Rattle.flow_settling.specs.Calls.{solvable, Finished, SolveOutcome}
 use Rattle.prelude.proofs.Booleans.{and-right, true→T, T→true, fails}
 use Rattle.packed_arcs.proofs.LimitTests.{Fitting}
 

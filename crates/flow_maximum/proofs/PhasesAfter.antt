@@ -14,7 +14,7 @@ use Rattle.flow_moves.proofs.Standing.{standing-len}
 use Rattle.flow_settling.specs.Settling.{SolveReady, Prepared}
 use Rattle.flow_residual.specs.PackedNetwork.{PackedPhaseState, PackedSolved}
 use Rattle.flow_residual.proofs.StartState.{costless-state}
-use Rattle.flow_maximum.specs.Calls.{Finished}
+use Rattle.flow_settling.specs.Calls.{Finished}
 
 fit : {arcs : List ℕ} {s t n : ℕ} → SolveReady arcs s t n → Fitting arcs (length arcs) n
 fit {arcs} {s} {t} {n} R = fitting arcs (length arcs) n (true→T (arcsFit arcs (length arcs) n) (R .fit))

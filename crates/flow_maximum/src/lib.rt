@@ -8,7 +8,7 @@ ghost use Rattle.packed_arcs.specs.PackedArcs.{tailsOf, headsOf};
 ghost use Rattle.arc_index.specs.Chains.{Chains};
 ghost use Rattle.flow_moves.specs.Preflow.{PackedConserved, standingAt};
 ghost use Rattle.flow_settling.specs.Settling.{SolveReady};
-ghost use Rattle.flow_maximum.specs.Calls.{Finished, SolveOutcome};
+ghost use Rattle.flow_settling.specs.Calls.{Finished, SolveOutcome};
 use flow_phases::run;
 use flow_preflow::preflow;
 use flow_settling::prepare;

@@ -19,9 +19,9 @@ use Rattle.arc_index.specs.Chains.{Chains}
 use Rattle.arc_index.specs.declared.End.the-variants.{Tail, Head}
 use Rattle.arc_index.proofs.Building.{Built, links-built}
 use Rattle.arc_index.proofs.Ends.{packed-chains}
-use Rattle.flow_moves.specs.Preflow.{PackedConserved, standingAt, Ready, Moves}
+use Rattle.flow_moves.specs.Preflow.{PackedConserved, standingAt, preflowable, Ready, Moves}
 use Rattle.flow_moves.proofs.Standing.{standing-len, standing-sum}
-use Rattle.flow_preflow.specs.Outcome.{preflowable, PreflowOutcome}
+use Rattle.flow_preflow.specs.Outcome.{PreflowOutcome}
 
 -- ---- what it is to pass the test
 

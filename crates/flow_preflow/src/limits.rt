@@ -1,6 +1,6 @@
 // What the preflow takes for granted, tested.
 ghost use mathlib.Core.Path.{_≡_};
-ghost use Rattle.flow_preflow.specs.Outcome.{preflowable};
+ghost use Rattle.flow_moves.specs.Preflow.{preflowable};
 use packed_arcs::limits::arcs_fit;
 
 // Is this what `preflow` answers?

@@ -5,8 +5,7 @@ use mathlib.Core.List.{List}
 use Prim.Native.Nat.{ℕ, _+_}
 use lib.ListN.{length}
 use Rattle.packed_arcs.specs.Entries.{zeroList}
-use Rattle.flow_moves.specs.Preflow.{standingAt}
-use Rattle.flow_preflow.specs.Outcome.{preflowable}
+use Rattle.flow_moves.specs.Preflow.{standingAt, preflowable}
 use Rattle.flow_residual.specs.PackedNetwork.{PackedSolved}
 
 -- What `solve` answers: what its preflow does, for one key a vertex.
