@@ -1,13 +1,11 @@
-// Judging, the helper and the solver for callers in C: each slice is a pointer and a count, each reply one number. The pointer of an empty slice is not null either.
+// Judging and the helper for callers in C: each slice is a pointer and a count, each reply one number. The pointer of an empty slice is not null either.
 ghost use mathlib.Core.Path.{_≡_};
 ghost use lib.ListN.{length};
 ghost use Rattle.state.specs.Answers.{said};
 ghost use Rattle.judging.specs.Judging.{judged};
 ghost use Rattle.format.specs.Replies.{writerSaid};
 ghost use Rattle.helper.specs.Helper.{annotated, BufferAfter};
-ghost use Rattle.cert_instances.specs.Certify.{CertifyOutcome};
 ghost use Rattle.panel_export.specs.Codes.{saidCode, replyCode};
-use checks::HeldSetting;
 use format::Written;
 use points::Point;
 use state::Response;
@@ -46,20 +44,4 @@ pub extern "C" fn panel_annotate(net: &[u8], buffer: &mut [u8]) -> u64
     ensures { λ r. ⌜ (r ≡ replyCode (annotated (now (net .entry)) (length (now (buffer .entry))))) × BufferAfter (annotated (now (net .entry)) (length (now (buffer .entry)))) (now (net .entry)) (now (buffer .entry)) (now (buffer .exit)) ⌝ }
 {
     written_code(helper::annotate(net, buffer))
-}
-
-#[no_mangle]
-pub extern "C" fn solver_certify(
-    question: u8,
-    n: u8,
-    s: u8,
-    t: u8,
-    records: &[u32],
-    numbers: &mut [i32],
-    amounts: &mut [u16],
-) -> u8
-    ensures { λ r. ⌜ CertifyOutcome (record { question = question; n = n; s = s; t = t }) (now (records .entry)) (now (numbers .entry)) (now (amounts .entry)) (now (numbers .exit)) (now (amounts .exit)) r ⌝ }
-{
-    let st = HeldSetting { question, n, s, t };
-    solver::claim_number(solver::certify(st, records, numbers, amounts))
 }

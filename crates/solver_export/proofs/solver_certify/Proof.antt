@@ -1,7 +1,7 @@
 use borrow.Author.Needs.{needs}
 use Rattle.cert_instances.proofs.CertifyCases.{by-number}
-use Rattle.panel_export.proofs.solver_certify.Statement.{statement}
-use Rattle.panel_export.proofs.solver_certify.Tie as tie
+use Rattle.solver_export.proofs.solver_certify.Statement.{statement}
+use Rattle.solver_export.proofs.solver_certify.Tie as tie
 
 pub solver-certify-spec : {M : Type 1} → statement M
 solver-certify-spec =
