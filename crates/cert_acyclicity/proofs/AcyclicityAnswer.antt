@@ -26,7 +26,7 @@ use Rattle.cert_instances.specs.Instance.{numberOf}
 use Rattle.cert_instances.specs.Certify.{NodeNumbers, Solution}
 use Rattle.cert_instances.specs.declared.vertices.NumberKind.the-variants.{Potential}
 use Rattle.cert_instances.proofs.ColumnsAndLoads.{flow-sum, every-load, column-len, index}
-use Rattle.cert_instances.proofs.EngineInputs.{few-records}
+use Rattle.cert_instances.proofs.FlowInputs.{few-records}
 use Rattle.cert_instances.proofs.Solutions.{written-at, solution}
 
 -- an amount above 0 is one in the sum of all

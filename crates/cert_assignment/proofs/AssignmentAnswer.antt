@@ -35,7 +35,7 @@ use Rattle.cert_instances.specs.Instance.{numberOf}
 use Rattle.cert_instances.specs.Certify.{NodeNumbers, Solution}
 use Rattle.cert_instances.specs.declared.vertices.NumberKind.the-variants.{Potential}
 use Rattle.cert_instances.proofs.ColumnsAndLoads.{flow-sum, every-load, index, loads-arcs, columnArc, paid-cost}
-use Rattle.cert_instances.proofs.EngineInputs.{few-records}
+use Rattle.cert_instances.proofs.FlowInputs.{few-records}
 use Rattle.cert_instances.proofs.Solutions.{written-at, solution}
 
 -- ---- sums

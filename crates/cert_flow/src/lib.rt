@@ -1,4 +1,4 @@
-// A certificate for a flow: the engine sends as much as goes.
+// A certificate for a flow: as much is sent as goes.
 ghost use mathlib.Core.Path.{_≡_};
 ghost use lib.ListN.{length};
 ghost use Rattle.arc_records.specs.Arcs.{wordArcs};

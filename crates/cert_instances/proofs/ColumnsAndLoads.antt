@@ -1,4 +1,4 @@
--- The engine's columns and the network's loads: the same sums, facts carried over, sums over loads, and marks.
+-- A flow search's columns and the network's loads: the same sums, facts carried over, sums over loads, and marks.
 use mathlib.Core.Path.{_≡_, refl, sym, _∙_, ap, ap₂}
 use mathlib.Core.Bool.{Bool, true, false, not, _&&_}
 use mathlib.Core.Logic.{_≢_, _⊎_, inl, inr}

@@ -1,4 +1,4 @@
--- Maximum flow: what the engine gives back, asked with a supply at the source and a demand at the sink above all capacities, is a certificate.
+-- Maximum flow: what a flow search gives back, asked with a supply at the source and a demand at the sink above all capacities, is a certificate.
 use mathlib.Core.Path.{_≡_, refl, ap}
 use mathlib.Core.Bool.{Bool, not, _&&_}
 use mathlib.Core.Logic.{_⊎_, inl, inr}

@@ -3,5 +3,5 @@ pub mod ColumnsAndLoads
 pub mod FlowInstance
 pub mod PathInstance
 pub mod Solutions
-pub mod EngineInputs
+pub mod FlowInputs
 pub mod CertifyCases

@@ -1,4 +1,4 @@
--- From what the engine gave back and what was written to a solution.
+-- From what a flow search gave back and what was written to a solution.
 use mathlib.Core.Path.{_≡_, refl, sym, _∙_, ap, ap₂, subst, fun-ext}
 use mathlib.Core.Bool.{Bool, true, false, _&&_}
 use mathlib.Core.Logic.{_⊎_, inl, inr}
@@ -146,7 +146,7 @@ module _ (st : Setting) (es : List Arc) where
     reply-is = refl;
   }
 
--- What the engine gave back for a flow, from amounts of 0: plenty stood at the source and was wanted at the sink.
+-- What a flow search gave back for a flow, from amounts of 0: plenty stood at the source and was wanted at the sink.
 pub record FlowRun (st : Setting) (net : List Arc) (x' key' : List ℕ) : Type 0 where
   pub pi : List ℕ
   pub left : List ℕ

@@ -32,9 +32,9 @@ abbrev pub admissible : Setting → List ℕ → ℕ → ℕ → Bool
 admissible st rs numbers amounts =
     eqb (firstBroken (openingChecks st)) 0 && leb (length rs) mostArcs && eqb numbers (st .n) && eqb amounts (length rs) && all (recordOk st) rs
 
--- ---- how the engine is asked
+-- ---- how a flow search is asked
 
--- The capacity of an arc: 1 for a path, for one unit is sent; its own for a flow. For an assignment and for acyclicity the engine is not asked.
+-- The capacity of an arc: 1 for a path, for one unit is sent; its own for a flow. For an assignment and for acyclicity a flow search is not asked.
 abbrev pub capacityFor : Question → Arc → ℕ
 capacityFor shortestPath e = 1
 capacityFor maximumFlow e = e .weight
@@ -42,7 +42,7 @@ capacityFor assignment e = 0
 capacityFor acyclicity e = 0
 capacityFor unasked e = 0
 
--- The arc of a record, packed for the engine: a unit costs there what the question says.
+-- The arc of a record, packed for a flow search: a unit costs there what the question says.
 abbrev pub packedFor : Question → ℕ → ℕ
 packedFor q r = packedArc (wordArc r .tail) (wordArc r .head) (unitCost q (wordArc r)) (capacityFor q (wordArc r))
 

@@ -1,4 +1,4 @@
--- Two of the questions as the engine is asked them: the columns of a network, lists by vertex, and node numbers read from keys.
+-- Two of the questions as a flow search is asked them: the columns of a network, lists by vertex, and node numbers read from keys.
 use mathlib.Core.Path.{_≡_}
 use mathlib.Core.Bool.{Bool}
 use mathlib.Core.List.{List, map}

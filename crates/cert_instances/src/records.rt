@@ -1,4 +1,4 @@
-// Records of arcs: whether the solver answers them, and how they are packed for the engine.
+// Records of arcs: whether the solver answers them, and how they are packed for a flow search.
 ghost use mathlib.Core.Path.{_≡_};
 ghost use mathlib.Core.List.{map};
 ghost use lib.ListN.{length};
@@ -18,7 +18,7 @@ use checks::rows::question_of;
 use checks::rows::unit_cost;
 use reading::arc_check;
 
-// The capacity of an arc as the engine is told it.
+// The capacity of an arc as a flow search is told it.
 fn capacity_of(question: Question, arc: Record) -> u32
     ensures { λ r. ⌜ r ≡ capacityFor (questionHeld question) (arcHeld arc) ⌝ }
 {

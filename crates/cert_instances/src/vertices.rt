@@ -1,4 +1,4 @@
-// Lists by vertex: what stands at each when the engine is asked, and the numbers written from what it found.
+// Lists by vertex: what stands at each when a flow search is asked, and the numbers written from what it found.
 ghost use mathlib.Core.Path.{_≡_};
 ghost use Prim.Native.Nat.{ℕ, _<_, _≤_};
 ghost use lib.ListN.{length};

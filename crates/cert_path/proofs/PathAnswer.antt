@@ -1,4 +1,4 @@
--- The answer for a path: what is known when the engine is asked to send, and what it then gives.
+-- The answer for a path: what is known when a flow search is asked to send, and what it then gives.
 use mathlib.Core.Path.{_≡_, sym, _∙_, ap, subst}
 use mathlib.Core.Bool.{true, _&&_, false≢true}
 use mathlib.Core.List.{List, map}
@@ -29,10 +29,10 @@ use Rattle.cert_instances.specs.declared.vertices.NumberKind.the-variants.{Mark
 use Rattle.cert_instances.specs.Instance.{tails, heads, constant, VertexList, single, numberOf}
 use Rattle.cert_instances.specs.Certify.{packedFor, costs, capacities, NodeNumbers, Solution}
 use Rattle.cert_instances.proofs.ColumnsAndLoads.{sight}
-use Rattle.cert_instances.proofs.EngineInputs.{packed-length, packed-fit}
+use Rattle.cert_instances.proofs.FlowInputs.{packed-length, packed-fit}
 use Rattle.cert_instances.proofs.Solutions.{fits, same-tails, same-heads, same-costs, same-capacities, path-solution, no-path-solution}
 
--- ---- what is known when the engine is asked
+-- ---- what is known when a flow search is asked
 
 pub record PathInputs (st : Setting) (rs arcs x left key : List ℕ) : Type 0 where
   pub accepted : Admissible st (wordArcs rs)
@@ -46,7 +46,7 @@ module _ {st : Setting} {rs arcs x left key : List ℕ} (g : PathInputs st rs ar
   abbrev es : List Arc
   es = wordArcs rs
 
-  -- the amounts and the potentials that the engine starts with
+  -- the amounts and the potentials that a flow search starts with
   abbrev X : List ℕ
   X = zeroList (length arcs)
 

@@ -1,4 +1,4 @@
-// A certificate for a path: the engine sends one unit along it.
+// A certificate for a path: one unit is sent along it.
 ghost use mathlib.Core.Path.{_≡_};
 ghost use lib.ListN.{length};
 ghost use Rattle.arc_records.specs.Arcs.{wordArcs};

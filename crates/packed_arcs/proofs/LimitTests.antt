@@ -1,4 +1,4 @@
--- The tests of what the engine is handed, and what it is to pass them.
+-- The tests of what a flow search is handed, and what it is to pass them.
 use mathlib.Core.Path.{_≡_, ap, _∙_}
 use mathlib.Core.Bool.{true, false, _&&_}
 use mathlib.Core.List.{List}

@@ -1,4 +1,4 @@
--- The limits of what the engine takes, as tests.
+-- The limits of what a flow search takes, as tests.
 use mathlib.Core.Bool.{Bool, _&&_}
 use mathlib.Core.List.{List}
 use Prim.Native.Nat.{ℕ}

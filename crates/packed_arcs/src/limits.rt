@@ -1,4 +1,4 @@
-// What the engine takes for granted, tested: at most 255 vertices and 4096 arcs, lists of the right lengths, and arcs that join vertices at a cost of at most 32767.
+// What a flow search takes for granted, tested: at most 255 vertices and 4096 arcs, lists of the right lengths, and arcs that join vertices at a cost of at most 32767.
 ghost use mathlib.Core.Path.{_≡_};
 ghost use Rattle.prelude.specs.Lists.{all};
 ghost use Rattle.packed_arcs.specs.Limits.{arcFits, arcsFit, isFree, sendable};

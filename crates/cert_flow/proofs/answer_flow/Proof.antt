@@ -1,7 +1,7 @@
 use borrow.Author.Needs.{needs}
 use Rattle.checks.specs.Held.{asked}
 use Rattle.cert_instances.proofs.Solutions.{flow-solution}
-use Rattle.cert_instances.proofs.EngineInputs.{flow-run, marks-writable}
+use Rattle.cert_instances.proofs.FlowInputs.{flow-run, marks-writable}
 use Rattle.cert_flow.proofs.answer_flow.Statement.{statement}
 use Rattle.cert_flow.proofs.answer_flow.Tie as tie
 

@@ -4,7 +4,7 @@ use lib.ListN.{length}
 use Rattle.arc_records.specs.Limits.{mostArcs}
 use Rattle.packed_arcs.proofs.LentParts.{zero-list-length}
 use Rattle.cert_instances.proofs.CertifyCases.{one-each, lent}
-use Rattle.cert_instances.proofs.EngineInputs.{few-records}
+use Rattle.cert_instances.proofs.FlowInputs.{few-records}
 use Rattle.cert_flow.proofs.certify_flow.Statement.{statement}
 use Rattle.cert_flow.proofs.certify_flow.Tie as tie
 

@@ -12,7 +12,7 @@ use Rattle.packed_arcs.specs.Entries.{entry, zeroList}
 use Rattle.flow_path.specs.declared.Sent.{Sent}
 use Rattle.packed_arcs.proofs.LentParts.{zero-list-length, lent-again, back-within, back-length}
 use Rattle.cert_instances.specs.Instance.{VertexList, single}
-use Rattle.cert_instances.proofs.EngineInputs.{few-records, packed-length, mark-low}
+use Rattle.cert_instances.proofs.FlowInputs.{few-records, packed-length, mark-low}
 use Rattle.cert_path.proofs.PathAnswer.{PathInputs, SentCase, sent-case, keys-length, distances-low, path-answer, no-path-answer}
 use Rattle.cert_path.proofs.answer_path.Statement.{statement}
 use Rattle.cert_path.proofs.answer_path.Tie as tie
