@@ -1,4 +1,4 @@
--- What the engine is handed: packed arcs within its limits; and what it hands back for a flow.
+-- What a flow search is handed: packed arcs within its limits; and what it hands back for a flow.
 use mathlib.Core.Path.{_≡_, refl, sym, _∙_, ap, subst}
 use mathlib.Core.Bool.{Bool, true, false, _&&_, false≢true}
 use mathlib.Core.List.{List, [], _∷_, map}
@@ -28,7 +28,7 @@ use Rattle.cert_instances.specs.Instance.{Fits, tails, heads, constant, 
 use Rattle.cert_instances.specs.Certify.{packedFor, costs, capacities}
 use Rattle.cert_instances.proofs.Solutions.{fits, cost-low, same-tails, same-heads, same-costs, same-capacities, FlowRun, keys}
 
--- ---- packed arcs are within the engine's limits
+-- ---- packed arcs are within the limits of a flow search
 
 pub few-records : {st : Setting} (rs : List ℕ) → Admissible st (wordArcs rs) → length rs ≤ mostArcs
 few-records rs a = omega (arith, a .few, length-map rs wordArc)
