@@ -23,7 +23,7 @@ def expected(label, file):
     """The line of a case: how long the helper's annotation is, and the true answer."""
     question, n, s, t = file[5:9]
     arcs = [(file[i], file[i + 1], 256 * file[i + 2] + file[i + 3]) for i in range(11, len(file), 4)]
-    answer = shown(solve(question, s, t, build(question, n, arcs)))
+    answer = shown(solve(question, s, t, build(question, n, s, arcs)))
     word = "" if answer == "none" else "value "
     return f"{label}: length {8 + 4 * n + 6 * len(arcs)} (rest kept), {word}{answer}"
 

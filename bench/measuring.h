@@ -1,5 +1,6 @@
 /* LEMON's answer for a network, and median processor times of calls that take turns. */
 #pragma once
+#include <lemon/adaptors.h>
 #include <lemon/capacity_scaling.h>
 #include <lemon/connectivity.h>
 #include <lemon/cost_scaling.h>
@@ -7,6 +8,7 @@
 #include <lemon/network_simplex.h>
 #include <lemon/preflow.h>
 #include <lemon/smart_graph.h>
+#include <malloc.h>
 
 #include <algorithm>
 #include <ctime>
@@ -31,15 +33,33 @@ struct Graph {
     explicit Graph(const Instance &x) : net(x), weight(net), supply(net) {
         for (size_t i = 0; i < x.arcs.size(); i++) weight[net.arcFromId((int)i)] = x.arcs[i].w;
         if (x.question == PAIRING)
-            for (int v = 0; v < x.n; v++) supply[net.nodeFromId(v)] = v < x.n / 2 ? 1 : -1;
+            for (int v = 0; v < x.n; v++) supply[net.nodeFromId(v)] = v < x.s ? 1 : -1;
     }
 };
 
-/* The least cost of a pairing by one of LEMON's algorithms for flows of least cost. */
-template <class Algorithm> static long long least_cost(const Graph &g) {
-    Algorithm flow(g.net);
-    flow.costMap(g.weight).supplyMap(g.supply);
+/* The least cost of a pairing by one of LEMON's algorithms for flows of least cost, with its network and supplies in place. */
+template <class Algorithm> static long long least_cost(Algorithm &flow) {
     return flow.run() == Algorithm::OPTIMAL ? flow.template totalCost<long long>() : NONE;
+}
+
+/* Network simplex takes supplies that may stay where they are. */
+static long long by_simplex(const Graph &g) {
+    typedef lemon::NetworkSimplex<lemon::SmartDigraph> Simplex;
+    Simplex flow(g.net);
+    return least_cost(flow.costMap(g.weight).supplyMap(g.supply).supplyType(Simplex::LEQ));
+}
+
+/* Cost scaling and capacity scaling take demands that may stay unmet: where pumps are to spare the sites supply, and arcs lead to the pumps. */
+template <template <class...> class Scaling> static long long by_scaling(const Instance &x, const Graph &g) {
+    typedef lemon::SmartDigraph D;
+    typedef lemon::ReverseDigraph<const D> Turned;
+    if (2 * x.s == x.n) {
+        Scaling<D> flow(g.net);
+        return least_cost(flow.costMap(g.weight).supplyMap(g.supply));
+    }
+    Turned turned(g.net);
+    Scaling<Turned> flow(turned);
+    return least_cost(flow.costMap(g.weight).supplyMap(lemon::negMap(g.supply)));
 }
 
 /* How many of LEMON's algorithms can be asked a question: which is fastest for a pairing depends on the network. */
@@ -58,8 +78,14 @@ static long long lemon_answer(const Instance &x, const Graph &g, int algorithm =
         return flow.flowValue();
     }
     if (x.question == LOOPS) return lemon::dag(g.net) ? 0 : NONE;
-    return algorithm == 0 ? least_cost<lemon::NetworkSimplex<D>>(g)
-         : algorithm == 1 ? least_cost<lemon::CostScaling<D>>(g) : least_cost<lemon::CapacityScaling<D>>(g);
+    return algorithm == 0 ? by_simplex(g) : algorithm == 1 ? by_scaling<lemon::CostScaling>(x, g)
+         : by_scaling<lemon::CapacityScaling>(x, g);
+}
+
+/* What was freed is kept for later calls: giving it back to the system and taking it again would be most of LEMON's time for some networks. */
+static void keep_memory() {
+    mallopt(M_TRIM_THRESHOLD, 1 << 30);
+    mallopt(M_MMAP_THRESHOLD, 1 << 30);
 }
 
 /* Processor time in milliseconds: waiting for others on the machine does not count. */

@@ -40,9 +40,9 @@ static Record anywhere(int low, int high) {
     return {a, b + (b >= a), below(HEAVIEST + 1)};
 }
 
-static Instance start(const char *name, int question, int n) {
+static Instance start(const std::string &name, int question, int n) {
     state = 20260501;
-    for (const char *c = name; *c; c++) state = state * 31 + (unsigned char)*c;
+    for (char c : name) state = state * 31 + (unsigned char)c;
     return {name, question, n, 0, question == ROUTE || question == DISCHARGE ? n - 1 : 0, {}};
 }
 
@@ -276,37 +276,51 @@ static Instance discharge_rlg(const char *name, int rows, int columns, int d) {
     return x;
 }
 
-/* Random arcs over a hidden pairing, so that there is one. */
-static Instance pairing_random(const char *name, int heaviest) {
-    Instance x = start(name, PAIRING, NODES - 1);
-    int h = x.n / 2;
+/* How many pumps and sites a pairing has. */
+struct Sides { int pumps, sites; };
+const Sides EVEN = {127, 127}, DENSE = {64, 64}, TWICE = {170, 85}, TENFOLD = {232, 23};
+
+static Instance start_pairing(const std::string &name, Sides z) {
+    Instance x = start(name, PAIRING, z.pumps + z.sites);
+    x.s = z.pumps;
+    return x;
+}
+
+/* The sites in a random order. Where pump i leads to the site i of it, counted round, there is a pairing unless sites are more than pumps. */
+static std::vector<int> mixed_sites(Sides z) {
     std::vector<int> sites;
-    for (int i = 0; i < h; i++) sites.push_back(h + i);
+    for (int j = 0; j < z.sites; j++) sites.push_back(z.pumps + j);
     mix(sites);
-    for (int i = 0; i < h; i++) x.arcs.push_back({i, sites[i], below(heaviest + 1)});
+    return sites;
+}
+
+/* Random arcs over a hidden pairing. */
+static Instance pairing_random(const std::string &name, Sides z, int heaviest) {
+    Instance x = start_pairing(name, z);
+    std::vector<int> sites = mixed_sites(z);
+    for (int i = 0; i < z.pumps; i++) x.arcs.push_back({i, sites[i % z.sites], below(heaviest + 1)});
     while ((int)x.arcs.size() < ARCS) {
-        int a = below(h), b = below(h);
-        x.arcs.push_back({a, h + b, below(heaviest + 1)});
+        int a = below(z.pumps), b = below(z.sites);
+        x.arcs.push_back({a, z.pumps + b, below(heaviest + 1)});
     }
     mix(x.arcs);
     return x;
 }
 
-/* Pump i to the sites at most 16 away from site i. */
-static Instance pairing_band() {
-    Instance x = start("pairing band", PAIRING, NODES - 1);
-    int h = x.n / 2;
-    for (int i = 0; i < h; i++)
-        for (int j = std::max(0, i - 16); j <= std::min(h - 1, i + 16); j++) x.arcs.push_back({i, h + j, below(HEAVIEST + 1)});
-    mix(x.arcs);
+/* The same, where each pump has a price of its own besides: all sites want the same pumps. */
+static Instance pairing_priced(const std::string &name, Sides z, int heaviest) {
+    Instance x = pairing_random(name, z, heaviest);
+    std::vector<int> prices;
+    for (int i = 0; i < z.pumps; i++) prices.push_back(below(30000));
+    for (Record &e : x.arcs) e.w += prices[e.a];
     return x;
 }
 
 /* Pump i to site i at a high cost and to later sites at low ones: the only pairing takes every dear arc, and one
    mistake moves all pumps after it. */
 static Instance pairing_chain() {
-    Instance x = start("pairing chain", PAIRING, NODES - 1);
-    int h = x.n / 2;
+    Instance x = start_pairing("pairing chain", EVEN);
+    int h = x.s;
     for (int i = 0; i < h; i++) {
         x.arcs.push_back({i, h + i, between(30000, HEAVIEST)});
         if (i + 1 < h) x.arcs.push_back({i, h + i + 1, below(10)});
@@ -319,21 +333,20 @@ static Instance pairing_chain() {
     return x;
 }
 
-/* The first 64 pumps lead to the first 63 sites only. */
-static Instance pairing_none() {
-    Instance x = start("pairing none", PAIRING, NODES - 1);
-    int h = x.n / 2;
+/* To the last k + 1 sites only the last k pumps lead. */
+static Instance pairing_none(const std::string &name, Sides z, int k) {
+    Instance x = start_pairing(name, z);
     while ((int)x.arcs.size() < ARCS) {
-        int i = below(h), j = below(i < 64 ? 63 : h);
-        x.arcs.push_back({i, h + j, below(HEAVIEST + 1)});
+        int i = below(z.pumps), j = below(i < z.pumps - k ? z.sites - k - 1 : z.sites);
+        x.arcs.push_back({i, z.pumps + j, below(HEAVIEST + 1)});
     }
     return x;
 }
 
 /* The last two pumps lead to the last site only. */
 static Instance pairing_none_late() {
-    Instance x = start("pairing none late", PAIRING, NODES - 1);
-    int h = x.n / 2;
+    Instance x = start_pairing("pairing none late", EVEN);
+    int h = x.s;
     while ((int)x.arcs.size() < ARCS) {
         int i = below(h), j = i < h - 2 ? below(h) : h - 1;
         x.arcs.push_back({i, h + j, below(HEAVIEST + 1)});
@@ -341,33 +354,50 @@ static Instance pairing_none_late() {
     return x;
 }
 
-/* Pump i of h to each site at most `reach` away from site i, at a cost by their numbers. */
-template <class Cost> static Instance pairing_by(const char *name, int h, int reach, Cost cost) {
-    Instance x = start(name, PAIRING, 2 * h);
-    for (int i = 0; i < h; i++)
-        for (int j = std::max(0, i - reach); j <= std::min(h - 1, i + reach); j++) x.arcs.push_back({i, h + j, cost(i, j)});
+/* The spare pumps lead to the first eighth of the sites only, and cheaply: few of them can be of use. The others lead anywhere, at any cost. */
+static Instance pairing_tempting(const std::string &name, Sides z) {
+    Instance x = start_pairing(name, z);
+    while ((int)x.arcs.size() < ARCS) {
+        int i = below(z.pumps);
+        bool spare = i >= z.sites;
+        int j = below(spare ? z.sites / 8 : z.sites);
+        x.arcs.push_back({i, z.pumps + j, below(spare ? 100 : HEAVIEST + 1)});
+    }
     mix(x.arcs);
     return x;
 }
 
+/* Each pump to the sites at most `reach` away from its own, at a cost by their numbers. Each site is the own one of as many pumps, or nearly. */
+template <class Cost> static Instance pairing_by(const std::string &name, Sides z, int reach, Cost cost) {
+    Instance x = start_pairing(name, z);
+    for (int i = 0; i < z.pumps; i++) {
+        int own = i * z.sites / z.pumps;
+        for (int j = std::max(0, own - reach); j <= std::min(z.sites - 1, own + reach); j++) x.arcs.push_back({i, z.pumps + j, cost(i, j)});
+    }
+    mix(x.arcs);
+    return x;
+}
+
+/* Such costs. */
+static int any_cost(int, int) { return below(HEAVIEST + 1); }
+static int product(int i, int j) { return i * j; }
+static int sum(int i, int j) { return i + j; }
+
 /* The same, where every pump and every site has a random factor, and a cost is the product of two. */
-static Instance pairing_products(const char *name, int h, int reach) {
+static Instance pairing_products(const std::string &name, Sides z, int reach) {
     std::vector<int> factors;
     state = 5;
-    for (int i = 0; i < 2 * h; i++) factors.push_back(below(181));
-    return pairing_by(name, h, reach, [&](int i, int j) { return factors[i] * factors[h + j]; });
+    for (int i = 0; i < z.pumps + z.sites; i++) factors.push_back(below(181));
+    return pairing_by(name, z, reach, [&](int i, int j) { return factors[i] * factors[z.pumps + j]; });
 }
 
 /* d arcs from each pump, one of them of a hidden pairing. */
-static Instance pairing_sparse(const char *name, int d) {
-    Instance x = start(name, PAIRING, NODES - 1);
-    int h = x.n / 2;
-    std::vector<int> sites;
-    for (int i = 0; i < h; i++) sites.push_back(h + i);
-    mix(sites);
-    for (int i = 0; i < h; i++)
+static Instance pairing_sparse(const std::string &name, Sides z, int d) {
+    Instance x = start_pairing(name, z);
+    std::vector<int> sites = mixed_sites(z);
+    for (int i = 0; i < z.pumps; i++)
         for (int k = 0; k < d; k++) {
-            int site = k == 0 ? sites[i] : h + below(h);
+            int site = k == 0 ? sites[i % z.sites] : z.pumps + below(z.sites);
             x.arcs.push_back({i, site, below(HEAVIEST + 1)});
         }
     mix(x.arcs);
@@ -435,8 +465,9 @@ static std::vector<Instance> instances() {
         discharge_layered("discharge layered 84x3 mixed", 84, 3, false),
         discharge_layered("discharge layered 84x3 reversed", 84, 3, true),
         discharge_grid("discharge grid 15x16", 15, 16),
-        pairing_random("pairing random, costs to 32767", HEAVIEST), pairing_random("pairing random, costs to 100", 100),
-        pairing_random("pairing random, costs to 1", 1), pairing_band(), pairing_chain(), pairing_none(),
+        pairing_random("pairing random, costs to 32767", EVEN, HEAVIEST), pairing_random("pairing random, costs to 100", EVEN, 100),
+        pairing_random("pairing random, costs to 1", EVEN, 1), pairing_by("pairing band", EVEN, 16, any_cost), pairing_chain(),
+        pairing_none("pairing none", EVEN, 63),
         loops_chain("loops reversed chain", false, false), loops_chain("loops mixed chain", true, false), loops_chain("loops closed chain", true, true),
         loops_random("loops random", false), loops_random("loops random and a basin", true), loops_dense(), loops_anywhere(),
     };
@@ -445,10 +476,7 @@ static std::vector<Instance> instances() {
 /* Further families: what is hard for one method or another. */
 static std::vector<Instance> further_instances() {
     const int all = NODES;
-    auto random = [](int, int) { return below(HEAVIEST + 1); };
-    auto product = [](int i, int j) { return i * j; };
     auto distance = [](int i, int j) { return (i - j) * (i - j); };
-    auto sum = [](int i, int j) { return i + j; };
     return {
         route_chain_mixed(), route_exponential(), route_parallel(),
         discharge_layered("discharge layered 10x25 mixed", 10, 25, false),
@@ -457,11 +485,53 @@ static std::vector<Instance> further_instances() {
         discharge_rmf("discharge RMF 6x7", 6, 7), discharge_rmf("discharge RMF 4x15", 4, 15), discharge_rmf("discharge RMF 11x2", 11, 2),
         discharge_rlg("discharge RLG 15x16, 3", 15, 16, 3), discharge_rlg("discharge RLG 4x63, 3", 4, 63, 3),
         discharge_rlg("discharge RLG 50x5, 16", 50, 5, 16), discharge_rlg("discharge RLG 2x126, 2", 2, 126, 2),
-        pairing_by("pairing 64 random", 64, all, random), pairing_by("pairing 64 i*j", 64, all, product),
-        pairing_by("pairing 64 (i-j)^2", 64, all, distance), pairing_by("pairing 64 -i*j", 64, all, [](int i, int j) { return 63 * 63 - i * j; }),
-        pairing_products("pairing band products", 127, 16), pairing_by("pairing band i*j", 127, 16, product),
-        pairing_by("pairing band -i*j", 127, 16, [](int i, int j) { return 126 * 126 - i * j; }),
-        pairing_by("pairing band (i-j)^2", 127, 16, distance), pairing_by("pairing band i+j", 127, 16, sum),
-        pairing_sparse("pairing sparse 4", 4), pairing_sparse("pairing sparse 2", 2), pairing_none_late(),
+        pairing_by("pairing 64 random", DENSE, all, any_cost), pairing_by("pairing 64 i*j", DENSE, all, product),
+        pairing_by("pairing 64 (i-j)^2", DENSE, all, distance), pairing_by("pairing 64 -i*j", DENSE, all, [](int i, int j) { return 63 * 63 - i * j; }),
+        pairing_products("pairing band products", EVEN, 16), pairing_by("pairing band i*j", EVEN, 16, product),
+        pairing_by("pairing band -i*j", EVEN, 16, [](int i, int j) { return 126 * 126 - i * j; }),
+        pairing_by("pairing band (i-j)^2", EVEN, 16, distance), pairing_by("pairing band i+j", EVEN, 16, sum),
+        pairing_sparse("pairing sparse 4", EVEN, 4), pairing_sparse("pairing sparse 2", EVEN, 2), pairing_none_late(),
     };
+}
+
+static std::string pairing_name(Sides z, const std::string &kind) {
+    return "pairing " + std::to_string(z.pumps) + "+" + std::to_string(z.sites) + " " + kind;
+}
+
+static void append(std::vector<Instance> &list, const std::vector<Instance> &more) { list.insert(list.end(), more.begin(), more.end()); }
+
+/* Families with spare pumps; and one with the sides exchanged, which has no pairing. */
+static std::vector<Instance> spare_of(Sides z, int reach) {
+    Sides few = {z.sites, z.pumps};
+    auto name = [&](const char *kind) { return pairing_name(z, kind); };
+    return {
+        pairing_random(name("random, costs to 32767"), z, HEAVIEST), pairing_random(name("random, costs to 100"), z, 100),
+        pairing_random(name("random, costs to 1"), z, 1), pairing_by(name("band"), z, reach, any_cost), pairing_tempting(name("tempting"), z),
+        pairing_none(name("none"), z, z.sites / 2), pairing_random(pairing_name(few, "none"), few, HEAVIEST),
+    };
+}
+
+/* Further families with spare pumps. `dense` has few enough pumps and sites for every arc between them. */
+static std::vector<Instance> further_spare_of(Sides z, int reach, Sides dense) {
+    auto name = [&](const char *kind) { return pairing_name(z, kind); };
+    auto falling = [](int i, int j) { return 16000 - i * j; };
+    return {
+        pairing_priced(name("priced"), z, 1000), pairing_priced(name("prices alone"), z, 0), pairing_none(name("none late"), z, 1),
+        pairing_products(name("band products"), z, reach), pairing_by(name("band i*j"), z, reach, product),
+        pairing_by(name("band -i*j"), z, reach, falling), pairing_by(name("band i+j"), z, reach, sum),
+        pairing_sparse(name("sparse 4"), z, 4), pairing_sparse(name("sparse 2"), z, 2),
+        pairing_by(pairing_name(dense, "i*j"), dense, NODES, product), pairing_by(pairing_name(dense, "-i*j"), dense, NODES, falling),
+    };
+}
+
+static std::vector<Instance> spare_instances() {
+    std::vector<Instance> list = spare_of(TWICE, 11);
+    append(list, spare_of(TENFOLD, 8));
+    return list;
+}
+
+static std::vector<Instance> further_spare_instances() {
+    std::vector<Instance> list = further_spare_of(TWICE, 11, {90, 45});
+    append(list, further_spare_of(TENFOLD, 8, {204, 20}));
+    return list;
 }

@@ -137,6 +137,23 @@ static void change_fields(const Instance &x, const Plan &p) {
             }
 }
 
+/* All node numbers moved by as much. Where pumps are to spare that changes the sum of check 16, and else it does not. */
+static void move_numbers(const Instance &x, const Plan &p) {
+    for (int by : {-8322818, -1, 1, 2, 8322818}) {
+        Plan q = p;
+        for (size_t i = 8; i < in_annotation(x, 0); i += 4) put(q.ann, i, 4, (int64_t)number32(&p.ann[i]) + by);
+        attempt(q);
+    }
+}
+
+/* Each choice of arcs, with an amount of 1 on those chosen and 0 on the others. */
+static void choose_arcs(const Instance &x, Plan p) {
+    for (int choice = 0; choice < 1 << x.arcs.size(); choice++) {
+        for (size_t i = 0; i < x.arcs.size(); i++) put(p.ann, in_annotation(x, i) + 4, 2, choice >> i & 1);
+        attempt(p);
+    }
+}
+
 /* Each file cut off after each byte, and with one byte more. */
 static void change_length(const Plan &p) {
     for (File Plan::*file : {&Plan::net, &Plan::ann})
@@ -184,19 +201,26 @@ static void change_randomly(const Plan &p, int count, int times) {
     }
 }
 
-/* Pairing without arcs, of each size, with a mark at each place, alone and beside that of pump 0: each mark counts, on its side. */
-static void mark_each() {
-    for (int n = 2; n < NODES; n += 2) {
-        Plan p = planned({"marks", PAIRING, n, 0, 0, {}});
+/* Pairing without arcs. All marks are alike but one at each place, alone and beside that of pump 0 or of the last site: each mark counts, on its side. */
+static void mark_each(int n, int pumps) {
+    Plan p = planned({"marks", PAIRING, n, pumps, 0, {}});
+    for (bool rest : {false, true})
         for (int v = 0; v < n; v++)
-            for (bool beside : {false, true}) {
-                for (int u = 0; u < n; u++) put(p.ann, 8 + 4 * (size_t)u, 4, u == v || (beside && u == 0));
+            for (int beside : {v, 0, n - 1}) {
+                for (int u = 0; u < n; u++) put(p.ann, 8 + 4 * (size_t)u, 4, (u == v || u == beside) != rest);
                 attempt(p);
             }
-    }
 }
 
-/* A small plan of each of the seven certificates; of routes and discharges also with basins, at the source, at the sink and between. */
+/* Of each size, half of the junctions being pumps, or nearly; and of the greatest with each number of pumps. */
+static void mark_all() {
+    for (int n = 2; n < NODES; n++)
+        for (int pumps = n / 2; pumps <= (n + 1) / 2; pumps++) mark_each(n, pumps);
+    for (int pumps = 1; pumps < NODES; pumps++) mark_each(NODES, pumps);
+}
+
+/* A small plan of each of the seven certificates; of routes and discharges also with basins, at the source, at the sink and between,
+   of pairings also with pumps to spare and with too few. */
 static std::vector<Instance> small_instances() {
     std::vector<Record> arcs = {{0, 1, 2}, {1, 3, 5}, {0, 2, 4}, {2, 3, 2}, {1, 2, 1}};
     std::vector<Record> basins = {{0, 0, 3}, {0, 1, 2}, {1, 1, 0}, {1, 3, 5}, {0, 2, 4}, {2, 3, 2}, {1, 2, 1}, {3, 3, 1}, {1, 1, 0}};
@@ -207,9 +231,16 @@ static std::vector<Instance> small_instances() {
         {"discharge with basins", DISCHARGE, 4, 0, 3, basins},
         {"route none with basins", ROUTE, 4, 0, 3, {{0, 0, 2}, {1, 0, 4}, {3, 3, 5}, {2, 2, 0}}},
         {"basins alone", DISCHARGE, 2, 0, 1, {{0, 0, 3}, {1, 1, 2}}},
-        {"pairing", PAIRING, 4, 0, 0, {{0, 2, 3}, {0, 3, 1}, {1, 2, 4}, {1, 3, 5}}},
+        {"pairing", PAIRING, 4, 2, 0, {{0, 2, 3}, {0, 3, 1}, {1, 2, 4}, {1, 3, 5}}},
+        {"pairing with a spare pump", PAIRING, 3, 2, 0, {{0, 2, 5}, {1, 2, 3}}},
+        {"pairing with spare pumps", PAIRING, 6, 4, 0, {{0, 4, 3}, {0, 5, 1}, {1, 4, 9}, {2, 5, 7}, {3, 5, 2}, {2, 4, 8}}},
+        {"pairing with pumps of no cost", PAIRING, 5, 3, 0, {{0, 3, 0}, {1, 3, 0}, {1, 4, 0}, {2, 4, 0}, {0, 4, 0}}},
+        {"pairing of one pump", PAIRING, 2, 1, 0, {{0, 1, 6}}},
         {"route none", ROUTE, 4, 0, 3, {{0, 1, 2}, {1, 0, 4}, {3, 2, 5}, {3, 1, 1}}},
-        {"pairing none", PAIRING, 4, 0, 0, {{0, 2, 3}, {1, 2, 4}}},
+        {"pairing none", PAIRING, 4, 2, 0, {{0, 2, 3}, {1, 2, 4}}},
+        {"pairing none with spare pumps", PAIRING, 6, 4, 0, {{0, 4, 3}, {0, 5, 1}}},
+        {"pairing none, and a site that is served", PAIRING, 7, 4, 0, {{0, 4, 3}, {0, 5, 1}, {1, 6, 2}, {2, 6, 2}, {1, 6, 7}}},
+        {"pairing none by too few pumps", PAIRING, 3, 1, 0, {{0, 1, 1}, {0, 2, 1}}},
         {"loops", LOOPS, 4, 0, 0, arcs},
         {"loops none", LOOPS, 4, 0, 0, {{0, 1, 2}, {1, 3, 0}, {2, 1, 4}, {3, 2, 0}, {1, 3, 0}}},
         {"loops none by a basin", LOOPS, 3, 0, 0, {{0, 1, 2}, {2, 2, 0}}},
@@ -223,6 +254,8 @@ static void damage_small() {
         change_bytes(p, key(x.arcs.back())); /* where both fingerprints are 0 while that arc stands in both files */
         change_arcs(x, p);
         change_fields(x, p);
+        move_numbers(x, p);
+        choose_arcs(x, p);
         change_length(p);
         change_count(x, p);
         change_point(p);
@@ -251,7 +284,9 @@ static void print_seen() {
 }
 
 int main() {
+    keep_memory();
     std::vector<Instance> list = instances();
+    append(list, spare_instances());
     bool same = true;
     std::printf("| family | judge ms | C ms | ratio | judge µs a record | helper ms | helper and judge ms | LEMON ms | ratio | LEMON with building ms | ratio |\n");
     std::printf("|---|---|---|---|---|---|---|---|---|---|---|\n");
@@ -261,7 +296,7 @@ int main() {
         damage_large(x, p);
     }
     damage_small();
-    mark_each();
+    mark_all();
     print_seen();
     if (!all_seen()) std::printf("!!! Some outcome never came.\n");
     if (differing > 0) std::printf("!!! MISMATCH !!! %d of them come out differently.\n", differing);

@@ -40,10 +40,12 @@ static FILE *create(const std::string &path) {
     return file;
 }
 
-/* Both lists; the program ends if an instance is larger than any network may be. */
+/* All lists; the program ends if an instance is larger than any network may be. */
 static std::vector<Instance> all_instances() {
     std::vector<Instance> list = instances();
-    for (const Instance &x : further_instances()) list.push_back(x);
+    append(list, further_instances());
+    append(list, spare_instances());
+    append(list, further_spare_instances());
     for (const Instance &x : list)
         if ((int)x.arcs.size() > ARCS) std::fprintf(stderr, "%s: %zu arcs\n", x.name.c_str(), x.arcs.size()), std::exit(2);
     return list;
@@ -80,6 +82,7 @@ static bool measure(FILE *times, const Instance &x) {
 
 int main(int count, char **words) {
     if (count != 2) return std::fprintf(stderr, "usage: solver FOLDER\n"), 2;
+    keep_memory();
     FILE *list = create(std::string(words[1]) + "/instances"), *times = create(std::string(words[1]) + "/times");
     if (!list || !times) return 2;
     for (const Instance &x : all_instances()) {

@@ -14,10 +14,19 @@ QUESTIONS = {ROUTE: "routes", DISCHARGE: "discharges", PAIRING: "pairings", LOOP
 NONE = -1
 
 
-def build(question, n, arcs):
+def take_up_spare(graph, n, spare):
+    """A vertex that the spare pumps lead to, at no cost. With fewer pumps than sites nothing is added, and there is no flow."""
+    if spare > 0:
+        graph.add_node(n, demand=spare)
+        graph.add_edges_from(((v, n) for v in range(n) if graph.nodes[v]["demand"] < 0), weight=0)
+
+
+def build(question, n, s, arcs):
     graph = networkx.DiGraph()
     for v in range(n):
-        graph.add_node(v, demand=(-1 if v < n // 2 else 1) if question == PAIRING else 0)
+        graph.add_node(v, demand=(-1 if v < s else 1) if question == PAIRING else 0)
+    if question == PAIRING:
+        take_up_spare(graph, n, 2 * s - n)
     for a, b, w in arcs:
         if graph.has_edge(a, b):
             old = graph[a][b]["weight"]
@@ -61,11 +70,17 @@ def read_times(folder):
     return rows
 
 
+def kind(question, n, s):
+    """What the families are summed up by."""
+    return "pairings with spare pumps or too few" if question == PAIRING and 2 * s != n else QUESTIONS[question]
+
+
 def sum_up(measured):
-    """Prints what the table comes to; `measured` has question, name, our time and LEMON's with building for each family."""
-    for question, word in QUESTIONS.items():
-        ratios = [ours / built for asked, _, ours, built in measured if asked == question]
-        print(f"{word}: {sum(ratio <= 1 for ratio in ratios)} of {len(ratios)} families at most 1 x LEMON with building")
+    """Prints what the table comes to; `measured` has kind, name, our time and LEMON's with building for each family."""
+    for word in dict.fromkeys(row[0] for row in measured):
+        ratios = [ours / built for asked, _, ours, built in measured if asked == word]
+        print(f"{word}: {sum(ratio <= 1 for ratio in ratios)} of {len(ratios)} families at most 1 x LEMON with building, "
+              f"{sum(ratio <= 1.5 for ratio in ratios)} at most 1.5 x")
     _, name, ours, built = max(measured, key=lambda row: row[2] / row[3])
     print(f"greatest ratio: {ours / built:.2f} x LEMON with building, {name}")
     _, name, ours, _ = max(measured, key=lambda row: row[2])
@@ -82,10 +97,10 @@ def main(folder):
         question, n, s, t = map(int, numbers[:4])
         arcs = [tuple(map(int, arc.split())) for arc in numbers[4:]]
         ours, lemon, refusal, (time_ours, time_lemon, time_built) = rows[name]
-        measured.append((question, name, time_ours, time_built))
+        measured.append((kind(question, n, s), name, time_ours, time_built))
         third, time_third = lemon, None
         if networkx:
-            graph = build(question, n, arcs)
+            graph = build(question, n, s, arcs)
             third, time_third = median(lambda: solve(question, s, t, graph))
         last = "-" if time_third is None else f"{time_third:.1f}"
         print(f"| {name} | {len(arcs)} | {time_ours:.3f} | {time_built:.3f} | {time_ours / time_built:.2f} "

@@ -29,17 +29,24 @@ struct session {
     int64_t balances[255], cost, cut;
 };
 
+/* s and t: the number of pumps and 0 for question 3, both 0 for question 4, else two vertices. */
+static inline int ends_ok(uint32_t question, uint32_t n, uint32_t s, uint32_t t) {
+    if (question == 3) return s >= 1 && s < n && t == 0;
+    if (question == 4) return s == 0 && t == 0;
+    return s < n && t < n && s != t;
+}
+
 /* A check or a step gives 0, or the number of the refusal. */
 static inline int opening_check(uint32_t question, uint32_t n, uint32_t s, uint32_t t, uint32_t point) {
     if (question < 1 || question > 4) return 1;
-    if (n < 2 || n > 255 || (question == 3 && n % 2 != 0)) return 2;
-    if (question >= 3 ? s != 0 || t != 0 : s >= n || t >= n || s == t) return 3;
+    if (n < 2 || n > 255) return 2;
+    if (!ends_ok(question, n, s, t)) return 3;
     return point >= PRIME ? 4 : 0;
 }
 
 static inline int arc_check(const struct session *x, uint32_t a, uint32_t b, uint32_t w) {
     if (a >= x->n || b >= x->n) return 7;
-    if (x->question == 3 && (a >= x->n / 2u || b < x->n / 2u)) return 7;
+    if (x->question == 3 && (a >= x->s || b < x->s)) return 7;
     return w > 32767 ? 8 : 0;
 }
 
@@ -58,10 +65,10 @@ static inline uint64_t mask_below(uint32_t v, uint32_t k) {
     return v - 64 * k < 64 ? ((uint64_t)1 << (v - 64 * k)) - 1 : ~(uint64_t)0;
 }
 
-/* How many of the vertices from low to high - 1 are marked. */
-static inline int count_marked(const struct session *x, uint32_t low, uint32_t high) {
+/* How many of the vertices from low to high - 1 are not marked. */
+static inline int count_unmarked(const struct session *x, uint32_t low, uint32_t high) {
     int count = 0;
-    for (uint32_t k = 0; k < 4; k++) count += __builtin_popcountll(x->marks[k] & mask_below(high, k) & ~mask_below(low, k));
+    for (uint32_t k = 0; k < 4; k++) count += __builtin_popcountll(~x->marks[k] & mask_below(high, k) & ~mask_below(low, k));
     return count;
 }
 
@@ -70,7 +77,7 @@ static inline int balance_ok(const struct session *x, uint32_t v) {
     if (x->question == 1) return b == (v == x->s) - (v == x->t);
     if (x->question == 2) return v == x->s || v == x->t || b == 0;
     if (x->question == 4) return b == 0;
-    return b == (v < x->n / 2u ? 1 : -1);
+    return v < x->s ? b == 0 || b == 1 : b == -1;
 }
 
 static inline int balances_ok(const struct session *x) {
@@ -83,7 +90,7 @@ static inline int balances_ok(const struct session *x) {
 /* The sum of the node numbers of sites, less that of pumps. */
 static inline int64_t potential_gap(const struct session *x) {
     int64_t gap = 0;
-    for (uint32_t v = 0; v < x->n; v++) gap += v < x->n / 2u ? -x->potentials[v] : x->potentials[v];
+    for (uint32_t v = 0; v < x->n; v++) gap += v < x->s ? -x->potentials[v] : x->potentials[v];
     return gap;
 }
 
@@ -91,7 +98,7 @@ static inline int sums_ok(const struct session *x) {
     if (x->question == 2) return x->balances[x->s] == x->cut;
     if (x->question == 4) return x->claim == 1 || x->cost > 0;
     if (x->claim == 1) return x->cost == (x->question == 1 ? x->potentials[x->t] : potential_gap(x));
-    return x->question == 1 || count_marked(x, 0, x->n / 2u) > count_marked(x, x->n / 2u, x->n);
+    return x->question == 1 || count_unmarked(x, x->s, x->n) > count_unmarked(x, 0, x->s);
 }
 
 static inline int finishing_check(const struct session *x) {
@@ -154,6 +161,7 @@ STEP int node_number(struct session *x, int32_t y) {
         if (v == x->s && y != cut) return refuse(x, 10);
         if (cut && v == x->t && y != 0) return refuse(x, 10);
     }
+    if (x->question == 3 && v < x->s && y < 0) return refuse(x, 10);
     x->potentials[v] = y;
     if (y == 1) x->marks[v >> 6] |= (uint64_t)1 << (v & 63);
     x->given++;

@@ -1,4 +1,4 @@
-// Certificates for an assignment: a perfect matching of least cost with its potentials, or marks that show that there is none.
+// Certificates for an assignment: a matching of least cost that saturates the sites, with its potentials, or marks that show that there is none.
 ghost use mathlib.Core.Path.{_≡_};
 ghost use lib.ListN.{length};
 ghost use Rattle.arc_records.specs.Arcs.{wordArcs};
@@ -10,6 +10,7 @@ use cert_instances::Finding;
 use cert_instances::vertices::NumberKind;
 use cert_instances::vertices::write;
 use checks::HeldSetting;
+use checks::pumps;
 use match_least_cost::Match;
 
 // What is found, and numbers and amounts that certify it.
@@ -24,10 +25,9 @@ fn answer_assignment(
     requires { ⌜ (length (now amounts) ≡ length (now records)) × (length (now numbers) ≡ st .n) × (length (now pi) ≡ st .n) ⌝ }
     ensures { λ r. ⌜ Solution (asked st) (wordArcs (now (records .entry))) (now (numbers .exit)) (now (amounts .exit)) (findingNumber r) ⌝ }
 {
-    let pumps = (st.n / 2) as usize;
-    let found = match_least_cost::solve(records, pumps, pi, amounts);
+    let found = match_least_cost::solve(records, pumps(st) as usize, pi, amounts);
     match found {
-        Match::Perfect => {
+        Match::Saturating => {
             write(NumberKind::Potential, pi, numbers);
             Finding::Value
         }

@@ -2,7 +2,7 @@
 ghost use mathlib.Core.Path.{_≡_};
 ghost use Rattle.prelude.specs.Checks.{firstBroken};
 ghost use Rattle.network.specs.Question.{pumps};
-ghost use Rattle.network.specs.Tests.{isAsked, evenFor, sizeOk, twoVertices, bothZero, endsFor, openingChecks};
+ghost use Rattle.network.specs.Tests.{isAsked, sizeOk, twoVertices, bothZero, pumpsAndSites, endsFor, openingChecks};
 ghost use Rattle.checks.specs.Held.{handed, asked, questionHeld};
 use arc_records::MOST_VERTICES;
 use rows::Question;
@@ -30,7 +30,7 @@ pub struct HeldSetting {
 pub fn pumps(st: HeldSetting) -> u8
     ensures { λ r. ⌜ r ≡ pumps (asked st) ⌝ }
 {
-    st.n / 2
+    st.s
 }
 
 // 1: is there a question?
@@ -46,20 +46,7 @@ fn is_asked(question: Question) -> bool
     }
 }
 
-// 2: is the number of vertices even for an assignment?
-fn even_for(question: Question, n: u32) -> bool
-    ensures { λ r. ⌜ r ≡ evenFor (questionHeld question) n ⌝ }
-{
-    match question {
-        Question::Path => true,
-        Question::Flow => true,
-        Question::Assignment => n % 2 == 0,
-        Question::Acyclicity => true,
-        Question::Unasked => true,
-    }
-}
-
-// 2: is n from 2 to 255, and even for an assignment?
+// 2: is n from 2 to 255?
 fn size_ok(o: Opening) -> bool
     ensures { λ r. ⌜ r ≡ sizeOk (handed o) ⌝ }
 {
@@ -67,10 +54,7 @@ fn size_ok(o: Opening) -> bool
     if n < 2 {
         return false;
     }
-    if MOST_VERTICES < n {
-        return false;
-    }
-    even_for(question_of(o.question), n)
+    n <= MOST_VERTICES
 }
 
 // 3: are s and t two different vertices?
@@ -99,6 +83,22 @@ fn both_zero(o: Opening) -> bool
     o.t == 0
 }
 
+// 3: is s a number of pumps, one at least, that leaves a site, and t 0?
+fn pumps_and_sites(o: Opening) -> bool
+    ensures { λ r. ⌜ r ≡ pumpsAndSites (handed o) ⌝ }
+{
+    let n = o.n;
+    let pump_count = o.s;
+    if pump_count < 1 {
+        return false;
+    }
+    if n <= pump_count {
+        return false;
+    }
+    let t = o.t;
+    t == 0
+}
+
 // 3: are s and t what the question asks for?
 fn ends_ok(question: Question, o: Opening) -> bool
     ensures { λ r. ⌜ r ≡ endsFor (questionHeld question) (handed o) ⌝ }
@@ -106,7 +106,7 @@ fn ends_ok(question: Question, o: Opening) -> bool
     match question {
         Question::Path => two_vertices(o),
         Question::Flow => two_vertices(o),
-        Question::Assignment => both_zero(o),
+        Question::Assignment => pumps_and_sites(o),
         Question::Acyclicity => both_zero(o),
         Question::Unasked => false,
     }

@@ -20,6 +20,7 @@ use Rattle.match_tree.specs.Tree.{InTree, Parent, Tree}
 use Rattle.match_augmenting.specs.Augmenting.{riseOf, Raised, Onward, Alternating}
 use Rattle.match_tree.proofs.TreeLaws.{right-end, partner, in-tree-near}
 use Rattle.match_state.proofs.Pairs.{noted}
+use Rattle.match_state.proofs.MatchedAmounts.{taken-few}
 
 -- nobody rises by more than the distance
 pub rise-most : (h : ℕ) (T mate dist : List ℕ) (t d v : ℕ) → riseOf h T mate dist t d v ≤ d
@@ -121,7 +122,13 @@ module _ {h n : ℕ} {T H W links mate pi : List ℕ} (S : State h n T H W links
       go (no o) = omega arith
 
   few : nd ≤ 126
-  few = omega (arith, R .count, S .graph .half, zeros-some order r (omega (arith, R .order-len)) fresh)
+  few = omega (
+    arith,
+    R .count,
+    S .graph .small,
+    zeros-some order r (omega (arith, R .order-len)) fresh,
+    taken-few (S .graph) (S .pairs) order (R .order-len) (λ a l o. R .taken a l o .mated) t (R .right) (R .target) (R .bare),
+  )
 
   reach : d + entry pi t ≤ 127 * 32767
   reach = omega (arith, R .near r hr near, S .exposed r hr br, few)

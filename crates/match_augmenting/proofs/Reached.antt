@@ -21,8 +21,8 @@ module _ {h n : ℕ} {T H W links mate pi : List ℕ} (S : State h n T H W links
   small = go X
     where
       go : SearchedBack h n T H W mate pi t dist par order r → entry dist r ≤ 2000000000
-      go (SearchedBack.reached a b c keys nd cur lo R l) = omega (arith, R .near r hr c, S .range r (omega (arith, S .graph .within)), R .count, S .graph .half)
-      go (SearchedBack.stuck a keys k nd R f) = absurd (omega (arith, S .graph .half))
+      go (SearchedBack.reached a b c keys nd cur lo R l) = omega (arith, R .near r hr c, S .range r (omega (arith, S .graph .within)), R .count, S .graph .within, S .graph .small)
+      go (SearchedBack.stuck a keys k nd R f) = absurd (omega (arith, S .graph .within, S .graph .small))
 
   order-long : {h' : ℕ} → h' ≡ length (set order r 255) → h' ≡ h
   order-long e = e ∙ length-set order r 255 ∙ search-lengths X .2
@@ -35,7 +35,7 @@ module _ {h n : ℕ} {T H W links mate pi : List ℕ} (S : State h n T H W links
     where
       go : SearchedBack h n T H W mate pi t dist par order r → Alternating h n T H W links mate pi' par (set order r 255) t r
       go (SearchedBack.reached a b c keys nd cur lo R l) = raising.alternating S r hr b c R l U
-      go (SearchedBack.stuck a keys k nd R f) = absurd (omega (arith, S .graph .half))
+      go (SearchedBack.stuck a keys k nd R f) = absurd (omega (arith, S .graph .within, S .graph .small))
 
   pub augmented : {pi' mate' : List ℕ} {h' n' : ℕ} → h' ≡ length (set order r 255) → n' ≡ n → Augmented h' n' T H W links mate pi' t mate'
       → Augmented h n T H W links mate pi' t mate'

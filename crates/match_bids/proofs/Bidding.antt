@@ -10,7 +10,7 @@ use lib.Seq.{getD-set-same, getD-set-other}
 use Rattle.prelude.proofs.Choice.{leb-on, leb-off}
 use Rattle.packed_arcs.specs.Entries.{entry}
 use Rattle.arc_index.specs.ArcIndex.{noArc}
-use Rattle.match_offers.specs.Offers.{bidCost, Affordable, Cheapest, Offer, Room, freed, assignedMates, assignedPotentials}
+use Rattle.match_offers.specs.Offers.{bidCost, Affordable, Cheapest, TwoCheapest, Offer, Room, freed, assignedMates, assignedPotentials}
 use Rattle.match_state.specs.Matching.{Bipartite, Noted, State}
 use Rattle.match_state.proofs.Pairs.{noted, left-end}
 
@@ -22,13 +22,19 @@ affordable {h} {n} {T} S e l =
     (omega (arith, a, S .graph .within, S .priced .len), omega (arith, S .graph .weights e l, S .range (entry T e) (omega (arith, a, S .graph .within))))
 
 -- the cheapest arc, or the second, where they cost the same, for what the second costs
-pub offer : {h n : ℕ} {T H W links mate pi : List ℕ} (t e1 e2 e u : ℕ) → State h n T H W links mate pi → e1 < noArc → e2 < noArc → Cheapest T H W pi t h e1 → Cheapest T H W pi t (entry T e1) e2
+pub offer : {h n : ℕ} {T H W links mate pi : List ℕ} (t e1 e2 e u : ℕ) → State h n T H W links mate pi → e1 < noArc → e2 < noArc → TwoCheapest T H W pi t e1 e2
     → u ≡ bidCost T W pi e2 → u ≤ 8322818 → (e ≡ e1) ⊎ ((e ≡ e2) × (u ≤ bidCost T W pi e1)) → Offer T H W pi t e u
-offer {h} {n} {T} {H} {W} {links} {mate} {pi} t e1 e2 e u S i j A B q m c = go c
+offer {h} {n} {T} {H} {W} {links} {mate} {pi} t e1 e2 e u S i j two q m c = go c
   where
+    A : Cheapest T H W pi t 256 e1
+    A = two .first
+
+    B : Cheapest T H W pi t (entry T e1) e2
+    B = two .second i
+
     -- nobody is excepted in the first place
     first : (k : ℕ) → k < length T → entry H k ≡ t → bidCost T W pi e1 ≤ bidCost T W pi k
-    first k l r = A .least i k l r (λ z. absurd (omega (arith, S .graph .from-left k l)))
+    first k l r = A .least i k l r (λ z. absurd (omega (arith, S .graph .from-left k l, S .graph .within, S .graph .small)))
 
     go : (e ≡ e1) ⊎ ((e ≡ e2) × (u ≤ bidCost T W pi e1)) → Offer T H W pi t e u
     go (inl z) =

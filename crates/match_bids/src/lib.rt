@@ -6,10 +6,9 @@ ghost use Rattle.arc_index.specs.Columns.{recordTails, recordHeads, recordWeigh
 ghost use Rattle.match_state.specs.Matching.{State};
 use arc_index::NO_ARC;
 use match_offers::assign;
-use match_offers::cheapest;
 use match_offers::choose;
 use match_offers::cost_of;
-use match_state::tail_at;
+use match_offers::two_cheapest;
 
 // No potential is above this.
 const MOST: u32 = 8322818;
@@ -23,11 +22,12 @@ fn bid(h: usize, t: usize, records: &[u32], links: &[u16], mate: &mut [u16], pi:
     if mate[t] < NO_ARC {
         return;
     }
-    let e1 = cheapest(t, h, records, links, pi);
+    let two = two_cheapest(t, records, links, pi);
+    let e1 = two.first;
     if 4096 <= e1 {
         return;
     }
-    let e2 = cheapest(t, tail_at(e1, records), records, links, pi);
+    let e2 = two.second;
     if 4096 <= e2 {
         return;
     }

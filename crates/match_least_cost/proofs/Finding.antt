@@ -3,13 +3,14 @@ use mathlib.Core.Path.{_≡_, refl, sym, _∙_, ap, subst}
 use mathlib.Core.Bool.{Bool, true, _&&_}
 use mathlib.Core.List.{List, _∷_}
 use mathlib.Core.Logic.{inl}
-use Prim.Native.Nat.{ℕ, zero, suc, _+_, _*_, _<_, _≤_}
+use Prim.Native.Nat.{ℕ, zero, suc, _+_, _-_, _<_, _≤_}
 use native.Mathlib.Omega.{arith}
 use lib.Dec.{T, eqb, leb, ltb, eqb→eq, leb→le, ltb→lt}
 use lib.ListN.{length, take, replicate, length-replicate, getD-replicate}
 use Rattle.prelude.specs.Lists.{all}
 use Rattle.prelude.proofs.Booleans.{true→T, and-left, and-right}
-use Rattle.arc_records.specs.Limits.{mostArcs, mostWeight}
+use Rattle.prelude.proofs.Sums.{sumTo-ext, sumTo-same}
+use Rattle.arc_records.specs.Limits.{mostVertices, mostArcs, mostWeight}
 use Rattle.arc_records.specs.Arcs.{wordArc}
 use Rattle.packed_arcs.specs.Entries.{entry, zeroList}
 use Rattle.packed_arcs.proofs.LentParts.{zero-at}
@@ -21,19 +22,21 @@ use Rattle.arc_index.proofs.Building.{Built, links-built}
 use Rattle.arc_index.proofs.Ends.{record-chains}
 use Rattle.arc_index.specs.Columns.{recordTails, recordHeads, recordWeights}
 use Rattle.match_state.specs.Matching.{Bipartite, State}
-use Rattle.match_results.specs.Results.{Amounts, Marks}
+use Rattle.match_state.specs.Amounts.{Amounts}
+use Rattle.match_results.specs.Results.{Marks, Deficient}
 use Rattle.match_least_cost.specs.Outcome.{leadsAcross, matchable, FindOutcome}
 use Rattle.match_rounds.specs.Serving.{PassOutcome}
 use Rattle.match_least_cost.specs.declared.Match.{Match}
-use Rattle.match_least_cost.specs.declared.Match.the-variants.{Perfect as PerfectMatch, Deficient as NoMatch}
+use Rattle.match_least_cost.specs.declared.Match.the-variants.{Saturating as SaturatingMatch, Deficient as NoMatch}
 use Rattle.arc_index.proofs.Columns.{tails-len, heads-len, weights-len, tail-is, head-is, weight-is}
-use Rattle.match_results.proofs.Outcomes.{perfect, deficient}
+use Rattle.match_results.proofs.Outcomes.{saturating, deficient}
 
 -- ---- what is handed over
 
 pub record Matchable (rs : List ℕ) (h n xs : ℕ) : Type 0 where
-  pub half : h ≤ 127
-  pub double : n ≡ h + h
+  pub within : h ≤ n
+  pub small : n ≤ 255
+  pub left-small : h ≤ 255
   pub few : length rs ≤ 4096
   pub one-each : xs ≡ length rs
   pub graph : Bipartite h n (recordTails rs) (recordHeads rs) (recordWeights rs)
@@ -41,14 +44,14 @@ pub record Matchable (rs : List ℕ) (h n xs : ℕ) : Type 0 where
 pub matchable-facts : (rs : List ℕ) (h n xs : ℕ) → matchable rs h n xs ≡ true → Matchable rs h n xs
 matchable-facts rs h n xs ok =
     record {
-      half = leb→le h 127 a;
-      double = omega (arith, eqb→eq n (2 * h) b);
+      within = leb→le h n a;
+      small = leb→le n 255 b;
+      left-small = omega (arith, leb→le h n a, leb→le n 255 b);
       few = leb→le (length rs) mostArcs c;
       one-each = eqb→eq xs (length rs) d;
       graph = record {
-        half = leb→le h 127 a;
-        within = omega (arith, eqb→eq n (2 * h) b);
-        small = omega (arith, eqb→eq n (2 * h) b, leb→le h 127 a);
+        within = leb→le h n a;
+        small = leb→le n 255 b;
         few = omega (arith, leb→le (length rs) mostArcs c, tails-len rs);
         heads-len = heads-len rs ∙ sym (tails-len rs);
         weights-len = weights-len rs ∙ sym (tails-len rs);
@@ -62,29 +65,29 @@ matchable-facts rs h n xs ok =
     t : T (matchable rs h n xs)
     t = true→T (matchable rs h n xs) ok
 
-    t₄ : T (leb h 127 && eqb n (2 * h) && leb (length rs) mostArcs && eqb xs (length rs))
-    t₄ = and-left (leb h 127 && eqb n (2 * h) && leb (length rs) mostArcs && eqb xs (length rs)) (all (leadsAcross h n) rs) t
+    t₄ : T (leb h n && leb n mostVertices && leb (length rs) mostArcs && eqb xs (length rs))
+    t₄ = and-left (leb h n && leb n mostVertices && leb (length rs) mostArcs && eqb xs (length rs)) (all (leadsAcross h n) rs) t
 
-    t₃ : T (leb h 127 && eqb n (2 * h) && leb (length rs) mostArcs)
-    t₃ = and-left (leb h 127 && eqb n (2 * h) && leb (length rs) mostArcs) (eqb xs (length rs)) t₄
+    t₃ : T (leb h n && leb n mostVertices && leb (length rs) mostArcs)
+    t₃ = and-left (leb h n && leb n mostVertices && leb (length rs) mostArcs) (eqb xs (length rs)) t₄
 
-    t₂ : T (leb h 127 && eqb n (2 * h))
-    t₂ = and-left (leb h 127 && eqb n (2 * h)) (leb (length rs) mostArcs) t₃
+    t₂ : T (leb h n && leb n mostVertices)
+    t₂ = and-left (leb h n && leb n mostVertices) (leb (length rs) mostArcs) t₃
 
-    a : T (leb h 127)
-    a = and-left (leb h 127) (eqb n (2 * h)) t₂
+    a : T (leb h n)
+    a = and-left (leb h n) (leb n mostVertices) t₂
 
-    b : T (eqb n (2 * h))
-    b = and-right (leb h 127) (eqb n (2 * h)) t₂
+    b : T (leb n mostVertices)
+    b = and-right (leb h n) (leb n mostVertices) t₂
 
     c : T (leb (length rs) mostArcs)
-    c = and-right (leb h 127 && eqb n (2 * h)) (leb (length rs) mostArcs) t₃
+    c = and-right (leb h n && leb n mostVertices) (leb (length rs) mostArcs) t₃
 
     d : T (eqb xs (length rs))
-    d = and-right (leb h 127 && eqb n (2 * h) && leb (length rs) mostArcs) (eqb xs (length rs)) t₄
+    d = and-right (leb h n && leb n mostVertices && leb (length rs) mostArcs) (eqb xs (length rs)) t₄
 
     each : (e : ℕ) → e < length (recordTails rs) → T (leadsAcross h n (entry rs e))
-    each e l = each-entry (leadsAcross h n) rs (and-right (leb h 127 && eqb n (2 * h) && leb (length rs) mostArcs && eqb xs (length rs)) (all (leadsAcross h n) rs) t) e (omega (arith, tails-len rs))
+    each e l = each-entry (leadsAcross h n) rs (and-right (leb h n && leb n mostVertices && leb (length rs) mostArcs && eqb xs (length rs)) (all (leadsAcross h n) rs) t) e (omega (arith, tails-len rs))
 
     p₁ : ℕ → Bool
     p₁ e = ltb (wordArc (entry rs e) .tail) h
@@ -130,14 +133,35 @@ same-part zero k a h = refl
 same-part (suc n) zero a h = absurd (omega arith)
 same-part (suc n) (suc k) a h = ap (λ (l : List ℕ). a ∷ l) (same-part n k a (omega arith))
 
+-- ---- more right vertices than left ones
+
+-- marks that are all 0 show that they cannot all be matched
+too-few : (h n : ℕ) (T H : List ℕ) → h < n - h → Deficient h n T H (zeroList n)
+too-few h n T H l = record {
+  len = length-replicate n 0;
+  zero-or-one = λ v. omega (arith, zero-at n v);
+  closed = λ e k q. absurd (omega (arith, q, zero-at n (entry T e)));
+  fewer = omega (
+    arith,
+    l,
+    sumTo-ext h (λ a. 1 - entry (zeroList n) a) (λ a. 1) (λ a k. omega (arith, zero-at n a)),
+    sumTo-ext (n - h) (λ i. 1 - entry (zeroList n) (h + i)) (λ i. 1) (λ i k. omega (arith, zero-at n (h + i))),
+    sumTo-same h 1,
+    sumTo-same (n - h) 1,
+  );
+}
+
+pub found-too-few : {h n : ℕ} {T H W pi x : List ℕ} → h < n - h → pi ≡ zeroList n → x ≡ zeroList (length T) → FindOutcome h n T H W pi x NoMatch
+found-too-few {h} {n} {T} {H} {W} {pi} {x} l p q = FindOutcome.deficient (rw p (too-few h n T H l)) q
+
 -- ---- what comes of the search
 
 module _ {h n : ℕ} {T H W links dist mate pi : List ℕ} {t : ℕ} (O : PassOutcome h n T H W links 1 dist mate pi t) where
-  pub found-perfect : n ≤ t → n ≡ h + h → {x : List ℕ} → Amounts H mate x → FindOutcome h n T H W pi x PerfectMatch
-  found-perfect g q {x} A = go O
+  pub found-saturating : n ≤ t → {x : List ℕ} → Amounts H mate x → FindOutcome h n T H W pi x SaturatingMatch
+  found-saturating g {x} A = go O
     where
-      go : PassOutcome h n T H W links 1 dist mate pi t → FindOutcome h n T H W pi x PerfectMatch
-      go (PassOutcome.whole d S e f) = FindOutcome.perfect (perfect S (f refl) q A)
+      go : PassOutcome h n T H W links 1 dist mate pi t → FindOutcome h n T H W pi x SaturatingMatch
+      go (PassOutcome.whole d S e f) = FindOutcome.saturating (saturating S (f refl) A)
       go (PassOutcome.stuck d S l k K) = absurd (omega arith)
 
   pub found-none : t < n → {marks x : List ℕ} → Marks n T mate dist t marks → x ≡ zeroList (length T) → FindOutcome h n T H W marks x NoMatch

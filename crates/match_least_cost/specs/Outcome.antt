@@ -1,18 +1,18 @@
--- What is handed over, and what is handed back: amounts of a perfect matching, or marks that show that there is none.
+-- What is handed over, and what is handed back: amounts of a matching that saturates the right vertices, or marks that show that there is none.
 use mathlib.Core.Path.{_≡_}
 use mathlib.Core.Bool.{Bool, true, false, _&&_}
 use mathlib.Core.List.{List}
-use Prim.Native.Nat.{ℕ, _*_}
+use Prim.Native.Nat.{ℕ}
 use lib.Dec.{eqb, ltb, leb}
 use lib.ListN.{length}
 use Rattle.prelude.specs.Lists.{all}
-use Rattle.arc_records.specs.Limits.{mostArcs, mostWeight}
+use Rattle.arc_records.specs.Limits.{mostVertices, mostArcs, mostWeight}
 use Rattle.arc_records.specs.Arcs.{wordArc}
 use Rattle.packed_arcs.specs.Entries.{zeroList}
 use Rattle.arc_index.specs.Columns.{recordTails, recordHeads, recordWeights}
-use Rattle.match_results.specs.Results.{Perfect, Deficient}
+use Rattle.match_results.specs.Results.{Saturating, Deficient}
 use Rattle.match_least_cost.specs.declared.Match.{Match}
-use Rattle.match_least_cost.specs.declared.Match.the-variants.{Perfect as PerfectMatch, Deficient as NoMatch, Refused}
+use Rattle.match_least_cost.specs.declared.Match.the-variants.{Saturating as SaturatingMatch, Deficient as NoMatch, Refused}
 
 -- ---- what is handed over
 
@@ -20,15 +20,15 @@ use Rattle.match_least_cost.specs.declared.Match.the-variants.{Perfect a
 abbrev pub leadsAcross : ℕ → ℕ → ℕ → Bool
 leadsAcross h n r = ltb (wordArc r .tail) h && leb h (wordArc r .head) && ltb (wordArc r .head) n && leb (wordArc r .weight) mostWeight
 
--- What `solve` answers: h left and h right vertices, few enough of them and of records, an amount for each record, and arcs that lead across.
+-- What `solve` answers: h left vertices of n, not too many vertices and records, an amount for each record, and arcs that lead across.
 abbrev pub matchable : List ℕ → ℕ → ℕ → ℕ → Bool
-matchable rs h n amounts = leb h 127 && eqb n (2 * h) && leb (length rs) mostArcs && eqb amounts (length rs) && all (leadsAcross h n) rs
+matchable rs h n amounts = leb h n && leb n mostVertices && leb (length rs) mostArcs && eqb amounts (length rs) && all (leadsAcross h n) rs
 
 -- ---- what is handed back
 
--- What comes of the search: a perfect matching with its potentials; or marks, and no amounts.
+-- What comes of the search: a saturating matching with its potentials; or marks, and no amounts.
 pub data FindOutcome (h n : ℕ) (T H W pi' x' : List ℕ) : Match → Type 0 where
-  perfect : Perfect h n T H W x' pi' → FindOutcome h n T H W pi' x' PerfectMatch
+  saturating : Saturating h n T H W x' pi' → FindOutcome h n T H W pi' x' SaturatingMatch
   deficient : Deficient h n T H pi' → x' ≡ zeroList (length T) → FindOutcome h n T H W pi' x' NoMatch
 
 -- The outcome: that of the search, or refused, with nothing changed.

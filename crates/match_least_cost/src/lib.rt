@@ -1,4 +1,4 @@
-// A perfect matching of least cost in a bipartite network, by augmenting paths of least reduced cost; or marks that show that there is none.
+// A matching of least cost that saturates the right vertices of a bipartite network, by augmenting paths of least reduced cost; or marks that show that there is none.
 // Left vertices are those below h, and every arc leads from a left vertex to a right one. What is not within the limits is refused, and then nothing is changed.
 ghost use mathlib.Core.Path.{_≡_};
 ghost use Prim.Native.Nat.{_+_};
@@ -22,9 +22,9 @@ use packed_arcs::clearing::clear_potentials;
 
 mod limits;
 
-// What was found: a perfect matching, that there is none, or that the input is not within the limits.
+// What was found: a matching that saturates the right vertices, that there is none, or that the input is not within the limits.
 pub enum Match {
-    Perfect,
+    Saturating,
     Deficient,
     Refused,
 }
@@ -50,7 +50,7 @@ fn write_found(
     x: &mut [u16],
 ) -> Match
     requires { ⌜ PassOutcome (length (now dist)) (length (now pi)) (recordTails (now records)) (recordHeads (now records)) (recordWeights (now records)) (now links) 1 (now dist) (now mate) (now pi) t ⌝ }
-    requires { ⌜ (length (now pi) ≡ length (now dist) + length (now dist)) × (length (now x) ≡ length (now records)) ⌝ }
+    requires { ⌜ length (now x) ≡ length (now records) ⌝ }
     ensures { λ r. ⌜ FindOutcome (length (now (dist .entry))) (length (now (pi .entry))) (recordTails (now (records .entry))) (recordHeads (now (records .entry))) (recordWeights (now (records .entry))) (now (pi .exit)) (now (x .exit)) r ⌝ }
 {
     if t < mate.len() {
@@ -59,7 +59,7 @@ fn write_found(
         return Match::Deficient;
     }
     write_amounts(records, mate, x);
-    Match::Perfect
+    Match::Saturating
 }
 
 // The search on arrays in which nothing is matched.
@@ -73,7 +73,7 @@ fn find(
     order: &mut [u8],
     x: &mut [u16],
 ) -> Match
-    requires { ⌜ Bipartite (length (now dist)) (length (now pi)) (recordTails (now records)) (recordHeads (now records)) (recordWeights (now records)) × (length (now pi) ≡ length (now dist) + length (now dist)) ⌝ }
+    requires { ⌜ Bipartite (length (now dist)) (length (now pi)) (recordTails (now records)) (recordHeads (now records)) (recordWeights (now records)) ⌝ }
     requires { ⌜ (length (now links) ≡ 256 + length (now records)) × (length (now par) ≡ length (now dist)) × (length (now order) ≡ length (now dist)) × (length (now x) ≡ length (now records)) ⌝ }
     requires { ⌜ (now mate ≡ replicate (length (now pi)) noArc) × (now pi ≡ zeroList (length (now pi))) ⌝ }
     ensures { λ r. ⌜ FindOutcome (length (now (dist .entry))) (length (now (pi .entry))) (recordTails (now (records .entry))) (recordHeads (now (records .entry))) (recordWeights (now (records .entry))) (now (pi .exit)) (now (x .exit)) r ⌝ }
@@ -83,21 +83,19 @@ fn find(
     write_found(t, records, links, mate, dist, pi, x)
 }
 
-// For a perfect matching its amounts, and potentials that show that none is cheaper; for none amounts of 0, and in place of potentials marks that show it.
-pub fn solve(records: &[u32], h: usize, pi: &mut [u32], x: &mut [u16]) -> Match
-    ensures { λ r. ⌜ MatchOutcome (now (records .entry)) h (now (pi .entry)) (now (x .entry)) (now (pi .exit)) (now (x .exit)) r ⌝ }
+// The same, in arrays of its own.
+fn find_by_search(records: &[u32], h: usize, pi: &mut [u32], x: &mut [u16]) -> Match
+    requires { ⌜ Bipartite h (length (now pi)) (recordTails (now records)) (recordHeads (now records)) (recordWeights (now records)) ⌝ }
+    requires { ⌜ (length (now x) ≡ length (now records)) × (now pi ≡ zeroList (length (now pi))) ⌝ }
+    ensures { λ r. ⌜ FindOutcome h (length (now (pi .entry))) (recordTails (now (records .entry))) (recordHeads (now (records .entry))) (recordWeights (now (records .entry))) (now (pi .exit)) (now (x .exit)) r ⌝ }
 {
     let n = pi.len();
     let m = records.len();
-    if !is_matchable(records, h, n, x.len()) {
-        return Match::Refused;
-    }
-    clear_potentials(pi);
     let mut links = [0u16; 4352];
-    let mut mate = [NO_ARC; 254];
-    let mut dist = [0u32; 127];
-    let mut par = [0u16; 127];
-    let mut order = [0u8; 127];
+    let mut mate = [NO_ARC; 255];
+    let mut dist = [0u32; 255];
+    let mut par = [0u16; 255];
+    let mut order = [0u8; 255];
     find(
         records,
         &mut links[..256 + m],
@@ -108,4 +106,21 @@ pub fn solve(records: &[u32], h: usize, pi: &mut [u32], x: &mut [u16]) -> Match
         &mut order[..h],
         x,
     )
+}
+
+// For a saturating matching its amounts, and potentials that show that none is cheaper; for none amounts of 0, and in place of potentials marks that show it.
+// Where the right vertices are more than the left ones, marks that are all 0 show it.
+pub fn solve(records: &[u32], h: usize, pi: &mut [u32], x: &mut [u16]) -> Match
+    ensures { λ r. ⌜ MatchOutcome (now (records .entry)) h (now (pi .entry)) (now (x .entry)) (now (pi .exit)) (now (x .exit)) r ⌝ }
+{
+    let n = pi.len();
+    if !is_matchable(records, h, n, x.len()) {
+        return Match::Refused;
+    }
+    clear_potentials(pi);
+    if h < n - h {
+        clear_amounts(x);
+        return Match::Deficient;
+    }
+    find_by_search(records, h, pi, x)
 }

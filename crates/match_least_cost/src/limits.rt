@@ -1,13 +1,11 @@
-// What the search for a matching takes for granted, tested: as many right vertices as left ones, few enough of them and of records, an amount for each record, and arcs from left to right.
+// What the search for a matching takes for granted, tested: left vertices among the vertices, few enough of them and of records, an amount for each record, and arcs from left to right.
 ghost use mathlib.Core.Path.{_≡_};
 ghost use Rattle.prelude.specs.Lists.{all};
 ghost use Rattle.match_least_cost.specs.Outcome.{leadsAcross, matchable};
 use arc_index::NO_ARC;
+use arc_records::MOST_VERTICES;
 use arc_records::MOST_WEIGHT;
 use arc_records::arc_in;
-
-// The most left vertices.
-const MOST_LEFT: usize = 127;
 
 // Does the arc of the record lead from a left vertex, below h, to a right one below n, at a weight within the limit?
 fn leads_across(h: usize, n: usize, word: u32) -> bool
@@ -43,10 +41,10 @@ fn each_leads_across(h: usize, n: usize, records: &[u32]) -> bool
 pub(crate) fn is_matchable(records: &[u32], h: usize, n: usize, amounts: usize) -> bool
     ensures { λ r. ⌜ r ≡ matchable (now (records .entry)) h n amounts ⌝ }
 {
-    if MOST_LEFT < h {
+    if n < h {
         return false;
     }
-    if n != 2 * h {
+    if (MOST_VERTICES as usize) < n {
         return false;
     }
     if (NO_ARC as usize) < records.len() {

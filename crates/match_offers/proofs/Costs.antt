@@ -1,16 +1,18 @@
 -- Laws of costs: the cheapest arc along a chain.
-use mathlib.Core.Path.{_≡_, refl, sym, subst}
+use mathlib.Core.Path.{_≡_, refl, sym, ap, subst, _∙_}
 use mathlib.Core.List.{List}
 use mathlib.Core.Logic.{_⊎_, inl, inr, _≢_}
 use Prim.Native.Nat.{ℕ, _+_, _<_, _≤_}
 use native.Mathlib.Decide.{ℕ-discrete, decLt}
 use native.Mathlib.Omega.{arith}
+use borrow.Author.Tests.{eq-eqb, ne-eqb, lt-ltb, le-ltb, le-leb, lt-leb}
 use lib.ListN.{length}
 use Rattle.prelude.proofs.Choice.{eqb-on, eqb-off}
 use Rattle.packed_arcs.specs.Entries.{entry}
 use Rattle.arc_index.specs.ArcIndex.{noArc, firstArc, nextArc}
 use Rattle.arc_index.specs.Chains.{First, found, none, Chains}
-use Rattle.match_offers.specs.Offers.{tooMuch, bidCost, costUnless, Cheapest}
+use Rattle.match_offers.specs.declared.TwoArcs.{TwoArcs}
+use Rattle.match_offers.specs.Offers.{tooMuch, bidCost, costUnless, Affordable, Cheapest, TwoCheapest, withArc}
 
 -- ---- costs
 
@@ -127,3 +129,113 @@ best-end T H W pi t except e best least n few z B =
 
     allowed : best < noArc → entry T best ≢ except
     allowed s q = omega (arith, cost-except T W pi except best q, chosen s .2, chosen s .3)
+
+-- ---- the two cheapest, from different vertices
+
+-- Of the arcs to t before e the cheapest, and the cheapest from another vertex than that one.
+pub record Both (T H W pi : List ℕ) (t e : ℕ) (two : TwoArcs) : Type 0 where
+  pub cheapest : Best T H W pi t 256 e (two .first) (two .least)
+  pub another : Best T H W pi t (two .tail) e (two .second) (two .next)
+  pub from : (two .first ≡ noArc) ⊎ (entry T (two .first) ≡ two .tail)
+  pub order : two .least ≤ two .next
+
+pub both-start : (T H W pi links : List ℕ) (t : ℕ) → Chains H links → t < 256
+    → Both T H W pi t (firstArc links t) (record { tail = 256; first = 4096; least = 4294967295; second = 4096; next = 4294967295 })
+both-start T H W pi links t C h = record {
+  cheapest = best-start T H W pi links t 256 C h;
+  another = best-start T H W pi links t 256 C h;
+  from = inl refl;
+  order = omega arith;
+}
+
+module _ (T H W pi links : List ℕ) (t e : ℕ) (two : TwoArcs) (A : Affordable T W pi) (small : length pi ≤ 255) (same : length H ≡ length T) (C : Chains H links) (k : e < noArc)
+    (B : Both T H W pi t e two) where
+  -- 256 is no vertex, so it excepts nothing
+  cost-all : (j : ℕ) → j < length T → costUnless T W pi 256 j ≡ bidCost T W pi j
+  cost-all j l = cost-other T W pi 256 j (λ q. omega (arith, q, A j l .0))
+
+  here : e < length T
+  here = omega (arith, at-arc (B .cheapest) k .0)
+
+  -- the cheapest goes on, or stays
+  taken : (cost : ℕ) → cost ≡ bidCost T W pi e → cost < two .least → Best T H W pi t 256 (nextArc links e) e cost
+  taken cost q s = best-take T H W pi links t 256 e (two .first) (two .least) cost e cost C k (B .cheapest) (q ∙ sym (cost-all e here)) s refl refl
+
+  kept : (cost : ℕ) → cost ≡ bidCost T W pi e → two .least ≤ cost → Best T H W pi t 256 (nextArc links e) (two .first) (two .least)
+  kept cost q s = best-skip T H W pi links t 256 e (two .first) (two .least) cost (two .first) (two .least) C k (B .cheapest) (q ∙ sym (cost-all e here)) s refl refl
+
+  -- an arc from the vertex of the cheapest does not count for the other
+  kept-same : entry T e ≡ two .tail → Best T H W pi t (two .tail) (nextArc links e) (two .second) (two .next)
+  kept-same q = best-skip T H W pi links t (two .tail) e (two .second) (two .next) tooMuch (two .second) (two .next) C k (B .another)
+      (sym (cost-except T W pi (two .tail) e q)) (least-most (B .another)) refl refl
+
+  kept-other : (cost : ℕ) → cost ≡ bidCost T W pi e → two .next ≤ cost → Best T H W pi t (two .tail) (nextArc links e) (two .second) (two .next)
+  kept-other cost q s = go (ℕ-discrete (entry T e) (two .tail))
+    where
+      go : Dec (entry T e ≡ two .tail) → Best T H W pi t (two .tail) (nextArc links e) (two .second) (two .next)
+      go (yes z) = kept-same z
+      go (no z) = best-skip T H W pi links t (two .tail) e (two .second) (two .next) cost (two .second) (two .next) C k (B .another)
+          (q ∙ sym (cost-other T W pi (two .tail) e z)) s refl refl
+
+  taken-other : (cost : ℕ) → cost ≡ bidCost T W pi e → entry T e ≢ two .tail → cost < two .next → Best T H W pi t (two .tail) (nextArc links e) e cost
+  taken-other cost q z s = best-take T H W pi links t (two .tail) e (two .second) (two .next) cost e cost C k (B .another)
+      (q ∙ sym (cost-other T W pi (two .tail) e z)) s refl refl
+
+  -- the cheapest becomes the other
+  moved : entry T e ≢ two .tail → Best T H W pi t (entry T e) (nextArc links e) (two .first) (two .least)
+  moved z = record { here = place-of F; which = go (B .cheapest .which) (B .from); low = λ j l i r. low j l r (passes F j l i r) (ℕ-discrete (entry T j) (entry T e)) }
+    where
+      F : First H t (e + 1) (nextArc links e)
+      F = next-first T H W pi links t 256 e (two .first) (two .least) C k (B .cheapest)
+
+      go : ((two .first ≡ noArc) × (two .least ≡ tooMuch))
+          ⊎ ((two .first < length H) × (entry H (two .first) ≡ t) × (costUnless T W pi 256 (two .first) ≡ two .least) × (two .least < tooMuch))
+          → (two .first ≡ noArc) ⊎ (entry T (two .first) ≡ two .tail)
+          → ((two .first ≡ noArc) × (two .least ≡ tooMuch))
+          ⊎ ((two .first < length H) × (entry H (two .first) ≡ t) × (costUnless T W pi (entry T e) (two .first) ≡ two .least) × (two .least < tooMuch))
+      go (inl q) y = inl q
+      go (inr q) (inl y) = absurd (omega (arith, q .0, C .few))
+      go (inr q) (inr y) = inr (q .0, q .1, cost-other T W pi (entry T e) (two .first) (λ x. z (sym x ∙ y)) ∙ sym (cost-all (two .first) (omega (arith, q .0))) ∙ q .2, q .3)
+
+      low : (j : ℕ) → j < length H → entry H j ≡ t → j < e + 1 → Dec (entry T j ≡ entry T e) → two .least ≤ costUnless T W pi (entry T e) j
+      low j l r i (yes x) = omega (arith, cost-except T W pi (entry T e) j x, least-most (B .cheapest))
+      low j l r i (no x) = omega (arith, cost-other T W pi (entry T e) j x, cost-all j (omega arith), B .cheapest .low j l (before j i (λ y. x (ap (entry T) y))) r)
+        where
+          before : (j : ℕ) → j < e + 1 → j ≢ e → j < e
+          before j i y = go (decLt j e)
+            where
+              go : Dec (j < e) → j < e
+              go (yes b) = b
+              go (no b) = absurd (y (omega arith))
+
+  -- with the arc e looked at too
+  pub both-next : (a cost : ℕ) → a ≡ entry T e → cost ≡ bidCost T W pi e → Both T H W pi t (nextArc links e) (withArc two a e cost)
+  both-next a cost p q = go (decLt cost (two .next)) (ℕ-discrete (two .tail) a) (decLt cost (two .least))
+    where
+      go : Dec (cost < two .next) → Dec (two .tail ≡ a) → Dec (cost < two .least) → Both T H W pi t (nextArc links e) (withArc two a e cost)
+      go (no n) s l = rw (le-leb (two .next) cost (omega arith))
+          (record { cheapest = kept cost q (omega (arith, B .order)); another = kept-other cost q (omega arith); from = B .from; order = B .order })
+      go (yes n) (yes s) (yes l) = rw (lt-leb (two .next) cost n, eq-eqb (two .tail) a s, lt-ltb cost (two .least) l)
+          (record { cheapest = taken cost q l; another = kept-same (sym p ∙ sym s); from = inr (sym p ∙ sym s); order = omega (arith, B .order) })
+      go (yes n) (yes s) (no l) = rw (lt-leb (two .next) cost n, eq-eqb (two .tail) a s, le-ltb cost (two .least) (omega arith))
+          (record { cheapest = kept cost q (omega arith); another = kept-same (sym p ∙ sym s); from = B .from; order = B .order })
+      go (yes n) (no s) (yes l) = rw (lt-leb (two .next) cost n, ne-eqb (two .tail) a s, lt-ltb cost (two .least) l)
+          (record {
+            cheapest = taken cost q l;
+            another = subst (λ (v : ℕ). Best T H W pi t v (nextArc links e) (two .first) (two .least)) (sym p) (moved (λ z. s (sym z ∙ sym p)));
+            from = inr (sym p);
+            order = omega arith;
+          })
+      go (yes n) (no s) (no l) = rw (lt-leb (two .next) cost n, ne-eqb (two .tail) a s, le-ltb cost (two .least) (omega arith))
+          (record { cheapest = kept cost q (omega arith); another = taken-other cost q (λ z. s (sym z ∙ sym p)) n; from = B .from; order = omega arith })
+
+-- at the end of the chain
+pub both-end : (T H W pi : List ℕ) (t e : ℕ) (two : TwoArcs) → length H ≡ length T → length H ≤ noArc → noArc ≤ e → Both T H W pi t e two → TwoCheapest T H W pi t (two .first) (two .second)
+both-end T H W pi t e two n few z B = record {
+  first = best-end T H W pi t 256 e (two .first) (two .least) n few z (B .cheapest);
+  second = λ i. go i (B .from);
+}
+  where
+    go : two .first < noArc → (two .first ≡ noArc) ⊎ (entry T (two .first) ≡ two .tail) → Cheapest T H W pi t (entry T (two .first)) (two .second)
+    go i (inl q) = absurd (omega arith)
+    go i (inr q) = subst (λ (v : ℕ). Cheapest T H W pi t v (two .second)) (sym q) (best-end T H W pi t (two .tail) e (two .second) (two .next) n few z (B .another))

@@ -3,11 +3,12 @@ use mathlib.Core.Path.{_≡_}
 use mathlib.Core.List.{List}
 use mathlib.Core.Logic.{_≢_}
 use Prim.Native.Nat.{ℕ, _+_, _-_, _<_, _≤_}
-use lib.Dec.{eqb, leb}
+use lib.Dec.{eqb, leb, ltb}
 use lib.ListN.{length, set}
 use Rattle.prelude.specs.Choice.{pick}
 use Rattle.packed_arcs.specs.Entries.{entry}
 use Rattle.arc_index.specs.ArcIndex.{noArc}
+use Rattle.match_offers.specs.declared.TwoArcs.{TwoArcs}
 
 -- More than any arc costs.
 abbrev pub tooMuch : ℕ
@@ -31,6 +32,24 @@ pub record Cheapest (T H W pi : List ℕ) (t except r : ℕ) : Type 0 where
   pub head : r < noArc → entry H r ≡ t
   pub tail : r < noArc → entry T r ≢ except
   pub least : r < noArc → (e : ℕ) → e < length T → entry H e ≡ t → entry T e ≢ except → bidCost T W pi r ≤ bidCost T W pi e
+
+-- e1 is no arc, or the cheapest to t, and e2 is no arc, or the cheapest from another vertex; 256 is no vertex.
+pub record TwoCheapest (T H W pi : List ℕ) (t e1 e2 : ℕ) : Type 0 where
+  pub first : Cheapest T H W pi t 256 e1
+  pub second : e1 < noArc → Cheapest T H W pi t (entry T e1) e2
+
+-- The arc e at this cost, from the same vertex as the cheapest, is looked at too.
+abbrev pub withSameTail : TwoArcs → ℕ → ℕ → TwoArcs
+withSameTail two e cost =
+    pick (ltb cost (two .least)) (record { tail = two .tail; first = e; least = cost; second = two .second; next = two .next }) two
+
+-- The arc e at this cost, from the vertex a, is looked at too.
+abbrev pub withArc : TwoArcs → ℕ → ℕ → ℕ → TwoArcs
+withArc two a e cost =
+    pick (leb (two .next) cost) two
+    (pick (eqb (two .tail) a) (withSameTail two e cost)
+    (pick (ltb cost (two .least)) (record { tail = a; first = e; least = cost; second = two .first; next = two .least })
+    (record { tail = two .tail; first = two .first; least = two .least; second = e; next = cost })))
 
 -- The arc e to t may be taken for u: u covers its cost, no arc to t from another vertex costs less than u, and none from the same vertex weighs less.
 pub record Offer (T H W pi : List ℕ) (t e u : ℕ) : Type 0 where

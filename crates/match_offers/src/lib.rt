@@ -7,7 +7,7 @@ ghost use Rattle.packed_arcs.specs.Entries.{entry};
 ghost use Rattle.arc_index.specs.ArcIndex.{noArc};
 ghost use Rattle.arc_index.specs.Chains.{Chains};
 ghost use Rattle.arc_index.specs.Columns.{recordTails, recordHeads, recordWeights};
-ghost use Rattle.match_offers.specs.Offers.{bidCost, costUnless, Affordable, Cheapest, Room, freed, assignedMates, assignedPotentials};
+ghost use Rattle.match_offers.specs.Offers.{bidCost, withSameTail, withArc, Affordable, TwoCheapest, Room, freed, assignedMates, assignedPotentials};
 use arc_index::NO_ARC;
 use match_state::head_at;
 use match_state::tail_at;
@@ -26,35 +26,80 @@ pub fn cost_of(e: usize, records: &[u32], pi: &[u32]) -> u32
     weight_at(e, records) + pi[a]
 }
 
-// The same, and too much for an arc from the vertex `except`.
-fn cost_unless(e: usize, except: usize, records: &[u32], pi: &[u32]) -> u32
-    requires { ⌜ Affordable (recordTails (now records)) (recordWeights (now records)) (now pi) × (e < length (now records)) ⌝ }
-    ensures { λ r. ⌜ r ≡ costUnless (recordTails (now (records .entry))) (recordWeights (now (records .entry))) (now (pi .entry)) except e ⌝ }
-{
-    if tail_at(e, records) == except {
-        return TOO_MUCH;
-    }
-    cost_of(e, records, pi)
+// Of the arcs to a vertex that were looked at the cheapest, the vertex that it comes from and what it costs; and the cheapest that comes from another vertex, and what that costs.
+pub struct TwoArcs {
+    pub tail: usize,
+    pub first: usize,
+    pub least: u32,
+    pub second: usize,
+    pub next: u32,
 }
 
-// The first of the cheapest arcs to t that do not come from the vertex `except`, or no arc.
-pub fn cheapest(t: usize, except: usize, records: &[u32], links: &[u16], pi: &[u32]) -> usize
-    requires { ⌜ Chains (recordHeads (now records)) (now links) × (t < 256) ⌝ }
-    requires { ⌜ Affordable (recordTails (now records)) (recordWeights (now records)) (now pi) ⌝ }
-    ensures { λ r. ⌜ Cheapest (recordTails (now (records .entry))) (recordHeads (now (records .entry))) (recordWeights (now (records .entry))) (now (pi .entry)) t except r ⌝ }
+// The arc e, which comes from the same vertex as the cheapest, is looked at too.
+fn with_same_tail(two: TwoArcs, e: usize, cost: u32) -> TwoArcs
+    ensures { λ r. ⌜ r ≡ withSameTail two e cost ⌝ }
 {
-    let mut best = NO_ARC as usize;
-    let mut least = TOO_MUCH;
+    if cost < two.least {
+        return TwoArcs {
+            tail: two.tail,
+            first: e,
+            least: cost,
+            second: two.second,
+            next: two.next,
+        };
+    }
+    two
+}
+
+// The arc e from the vertex a is looked at too.
+fn with_arc(two: TwoArcs, a: usize, e: usize, cost: u32) -> TwoArcs
+    ensures { λ r. ⌜ r ≡ withArc two a e cost ⌝ }
+{
+    if two.next <= cost {
+        return two;
+    }
+    if two.tail == a {
+        return with_same_tail(two, e, cost);
+    }
+    if cost < two.least {
+        return TwoArcs {
+            tail: a,
+            first: e,
+            least: cost,
+            second: two.first,
+            next: two.least,
+        };
+    }
+    TwoArcs {
+        tail: two.tail,
+        first: two.first,
+        least: two.least,
+        second: e,
+        next: cost,
+    }
+}
+
+// The first of the cheapest arcs to t, or no arc; and the first of the cheapest that come from another vertex than that one, or no arc.
+pub fn two_cheapest(t: usize, records: &[u32], links: &[u16], pi: &[u32]) -> TwoArcs
+    requires { ⌜ Chains (recordHeads (now records)) (now links) × (t < 256) ⌝ }
+    requires { ⌜ Affordable (recordTails (now records)) (recordWeights (now records)) (now pi) × (length (now pi) ≤ 255) ⌝ }
+    ensures { λ r. ⌜ TwoCheapest (recordTails (now (records .entry))) (recordHeads (now (records .entry))) (recordWeights (now (records .entry))) (now (pi .entry)) t (r .first) (r .second) ⌝ }
+{
+    let mut two = TwoArcs {
+        tail: 256,
+        first: 4096,
+        least: TOO_MUCH,
+        second: 4096,
+        next: TOO_MUCH,
+    };
     let mut e = place(links[t]);
     while e < 4096 {
-        let cost = cost_unless(e, except, records, pi);
-        if cost < least {
-            best = e;
-            least = cost;
-        }
+        let a = tail_at(e, records);
+        let cost = cost_of(e, records, pi);
+        two = with_arc(two, a, e, cost);
         e = place(links[256 + e]);
     }
-    best
+    two
 }
 
 // Which of two arcs to take, the second at the cost u: the first, unless it costs as much and its tail is matched.

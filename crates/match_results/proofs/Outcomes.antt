@@ -1,165 +1,51 @@
--- What the matching and a search that found nothing say: a perfect matching of least cost, or none.
+-- What the matching and a search that found nothing say: a matching of least cost that saturates the right vertices, or none.
 use mathlib.Core.Path.{_≡_, refl, sym, ap, subst, _∙_}
 use mathlib.Core.List.{List}
 use mathlib.Core.Logic.{_⊎_, inl, inr, _≢_}
 use Prim.Native.Nat.{ℕ, zero, suc, _+_, _*_, _-_, _<_, _≤_}
 use native.Mathlib.Decide.{ℕ-discrete, decLt}
 use native.Mathlib.Omega.{arith}
-use lib.ListN.{length, List·getD-eq-default}
-use borrow.Author.Tests.{eq-eqb, ne-eqb, le-leb, lt-leb}
+use lib.ListN.{length}
+use borrow.Author.Tests.{le-leb, lt-leb}
 use Rattle.prelude.specs.Choice.{indicator}
 use Rattle.prelude.specs.Lists.{listTo}
 use Rattle.prelude.specs.Sums.{sumTo}
 use Rattle.prelude.proofs.Choice.{ltb-on, ltb-off, eqb-on, eqb-off, leb-on, leb-off}
 use Rattle.prelude.proofs.Lists.{listTo-length}
-use Rattle.prelude.proofs.Sums.{sumTo-ext, sumTo-none, sumTo-split, sumTo-le, sumTo-less, sumTo-same, sumTo-full}
+use Rattle.prelude.proofs.Sums.{sumTo-le, sumTo-less}
 use Rattle.packed_arcs.specs.Entries.{entry, flowAt}
 use Rattle.arc_index.specs.ArcIndex.{noArc}
 use Rattle.vertex_queue.specs.VertexQueue.{waitsNot}
-use Rattle.match_state.specs.Matching.{Bipartite, Noted, Matching, State}
+use Rattle.match_state.specs.Matching.{Noted, State}
+use Rattle.match_state.specs.Amounts.{matchedAmount, Amounts}
 use Rattle.match_tree.specs.Tree.{InTree, root, matched, Tree}
-use Rattle.match_results.specs.Results.{matchedAmount, Amounts, Perfect, farMark, Marks, Deficient}
-use Rattle.match_state.proofs.Pairs.{noted, left-end, right-end}
-use Rattle.match_results.proofs.Flows.{flow-none, flow-one, sum-weighted, weighted-same, listed-at}
-
--- ---- amounts of a matching
-
--- past its end a list has 0
-entry-past : (l : List ℕ) (i : ℕ) → length l ≤ i → entry l i ≡ 0
-entry-past l i h = List·getD-eq-default l 0 h
-
--- what an arc carries is 0, or it is matched and carries 1
-amount-cases : (H mate : List ℕ) (e : ℕ) → (matchedAmount H mate e ≡ 0) ⊎ ((matchedAmount H mate e ≡ 1) × (entry mate (entry H e) ≡ e))
-amount-cases H mate e = go (ℕ-discrete (entry mate (entry H e)) e)
-  where
-    go : Dec (entry mate (entry H e) ≡ e) → (matchedAmount H mate e ≡ 0) ⊎ ((matchedAmount H mate e ≡ 1) × (entry mate (entry H e) ≡ e))
-    go (yes q) = inr (ap indicator (eq-eqb (entry mate (entry H e)) e q), q)
-    go (no q) = inl (ap indicator (ne-eqb (entry mate (entry H e)) e q))
-
-module _ {h n : ℕ} {T H W mate x : List ℕ} (G : Bipartite h n T H W) (M : Matching n T H mate) (A : Amounts H mate x) where
-  -- an arc that carries something is noted at both ends
-  carried : (e : ℕ) → e < length T → (entry x e ≡ 0) ⊎ ((entry x e ≡ 1) × Noted T H mate (entry H e) e)
-  carried e l = go (amount-cases H mate e)
-    where
-      here : entry x e ≡ matchedAmount H mate e
-      here = A .by e (omega (arith, G .heads-len))
-
-      go : (matchedAmount H mate e ≡ 0) ⊎ ((matchedAmount H mate e ≡ 1) × (entry mate (entry H e) ≡ e)) → (entry x e ≡ 0) ⊎ ((entry x e ≡ 1) × Noted T H mate (entry H e) e)
-      go (inl z) = inl (here ∙ z)
-      go (inr q) = inr (here ∙ q .0, subst (λ (k : ℕ). Noted T H mate (entry H e) k) (q .1) (noted M (entry H e) (G .below e l) (omega (arith, q .1, G .few))))
-
-  -- an arc that is matched carries 1
-  carries : (v e : ℕ) → Noted T H mate v e → entry x e ≡ 1
-  carries v e N = A .by e (omega (arith, G .heads-len, N .arc)) ∙ ap indicator (eq-eqb (entry mate (entry H e)) e (N .at-head))
-
-  zero-or-one : (e : ℕ) → entry x e ≤ 1
-  zero-or-one e = go (decLt e (length T))
-    where
-      near : (entry x e ≡ 0) ⊎ ((entry x e ≡ 1) × Noted T H mate (entry H e) e) → entry x e ≤ 1
-      near (inl z) = omega arith
-      near (inr N) = omega (arith, N .0)
-
-      go : Dec (e < length T) → entry x e ≤ 1
-      go (yes k) = near (carried e k)
-      go (no k) = omega (arith, entry-past x e (omega (arith, A .len, G .heads-len)))
-
-  -- an arc at a vertex that is not the one noted there carries nothing
-  left-other : (a e : ℕ) → e < length T → entry T e ≡ a → e ≢ entry mate a → entry x e ≡ 0
-  left-other a e l q z = go (carried e l)
-    where
-      go : (entry x e ≡ 0) ⊎ ((entry x e ≡ 1) × Noted T H mate (entry H e) e) → entry x e ≡ 0
-      go (inl r) = r
-      go (inr N) = absurd (z (sym (subst (λ (v : ℕ). entry mate v ≡ e) q (N .1 .at-tail))))
-
-  right-other : (b e : ℕ) → e < length T → entry H e ≡ b → e ≢ entry mate b → entry x e ≡ 0
-  right-other b e l q z = go (carried e l)
-    where
-      go : (entry x e ≡ 0) ⊎ ((entry x e ≡ 1) × Noted T H mate (entry H e) e) → entry x e ≡ 0
-      go (inl r) = r
-      go (inr N) = absurd (z (sym (subst (λ (v : ℕ). entry mate v ≡ e) q (N .1 .at-head))))
-
-  left-matched : (a : ℕ) → a < h → entry mate a < noArc → flowAt T x a ≡ 1
-  left-matched a l k =
-      let N = noted M a (omega (arith, G .within)) k in
-      flow-one T x a (entry mate a) (A .len ∙ G .heads-len) (N .arc) (left-end G a l N) (carries a (entry mate a) N) (λ e b q z. left-other a e b q z)
-
-  left-exposed : (a : ℕ) → entry mate a ≡ noArc → flowAt T x a ≡ 0
-  left-exposed a k = flow-none T x a (λ e b q. left-other a e b q (λ z. absurd (omega (arith, G .few))))
-
-  right-matched : (b : ℕ) → h ≤ b → b < n → entry mate b < noArc → flowAt H x b ≡ 1
-  right-matched b l i k =
-      let N = noted M b i k in
-      flow-one H x b (entry mate b) (A .len) (omega (arith, N .arc, G .heads-len)) (right-end G b l N) (carries b (entry mate b) N) (λ e j q z. right-other b e (omega (arith, G .heads-len)) q z)
-
-  right-exposed : (b : ℕ) → entry mate b ≡ noArc → flowAt H x b ≡ 0
-  right-exposed b k = flow-none H x b (λ e j q. right-other b e (omega (arith, G .heads-len)) q (λ z. absurd (omega (arith, G .few, G .heads-len))))
-
-  -- no arc leads from a right vertex, or to a left one
-  from-right : (b : ℕ) → h ≤ b → flowAt T x b ≡ 0
-  from-right b l = flow-none T x b (λ e j q. absurd (omega (arith, G .from-left e j)))
-
-  to-left : (a : ℕ) → a < h → flowAt H x a ≡ 0
-  to-left a l = flow-none H x a (λ e j q. absurd (omega (arith, G .to-right e (omega (arith, G .heads-len)))))
-
-  left-most : (a : ℕ) → a < h → flowAt T x a ≤ 1
-  left-most a l = go (M .each a (omega (arith, G .within)))
-    where
-      go : (entry mate a ≡ noArc) ⊎ Noted T H mate a (entry mate a) → flowAt T x a ≤ 1
-      go (inl q) = omega (arith, left-exposed a q)
-      go (inr N) = omega (arith, left-matched a l (omega (arith, N .arc, G .few)))
-
-  right-most : (b : ℕ) → h ≤ b → b < n → flowAt H x b ≤ 1
-  right-most b l i = go (M .each b i)
-    where
-      go : (entry mate b ≡ noArc) ⊎ Noted T H mate b (entry mate b) → flowAt H x b ≤ 1
-      go (inl q) = omega (arith, right-exposed b q)
-      go (inr N) = omega (arith, right-matched b l i (omega (arith, N .arc, G .few)))
-
-  -- summed with a value that agrees at both ends of a matched arc: the left vertices as much as the right ones
-  both-sides : (g : ℕ → ℕ) → ((e : ℕ) → e < length T → Noted T H mate (entry H e) e → g (entry T e) ≡ g (entry H e))
-      → sumTo h (λ a. g a * flowAt T x a) ≡ sumTo (n - h) (λ i. g (h + i) * flowAt H x (h + i))
-  both-sides g f =
-      let left : ℕ → ℕ = λ v. g v * flowAt T x v in
-      let right : ℕ → ℕ = λ v. g v * flowAt H x v in
-      let whole : h + (n - h) ≡ n = omega (arith, G .within) in
-      omega (
-        arith,
-        sumTo-split h (n - h) left,
-        sumTo-split h (n - h) right,
-        ap (λ (k : ℕ). sumTo k left) whole,
-        ap (λ (k : ℕ). sumTo k right) whole,
-        sumTo-none (n - h) (λ i. left (h + i)) (λ i l. omega (arith, ap (λ (k : ℕ). g (h + i) * k) (from-right (h + i) (omega arith)))),
-        sumTo-none h right (λ a l. omega (arith, ap (λ (k : ℕ). g a * k) (to-left a l))),
-        sum-weighted n T x g (λ e l. omega (arith, G .from-left e l, G .within)),
-        sum-weighted n H x g (λ e l. G .below e (omega (arith, G .heads-len))),
-        weighted-same T H x g (G .heads-len) (λ e l. agree e l (carried e l)),
-      )
-    where
-      agree : (e : ℕ) → e < length T → (entry x e ≡ 0) ⊎ ((entry x e ≡ 1) × Noted T H mate (entry H e) e) → g (entry T e) * entry x e ≡ g (entry H e) * entry x e
-      agree e l (inl z) = ap (λ (k : ℕ). g (entry T e) * k) z ∙ omega arith ∙ sym (ap (λ (k : ℕ). g (entry H e) * k) z)
-      agree e l (inr N) = ap (λ (k : ℕ). k * entry x e) (f e l (N .1))
+use Rattle.match_results.specs.Results.{Saturating, farMark, Marks, Deficient}
+use Rattle.match_state.proofs.MatchedAmounts.{entry-past, carried, zero-or-one, left-matched, right-matched, right-exposed, left-most, right-most, both-sides}
+use Rattle.match_state.proofs.Flows.{listed-at}
 
 -- ---- every right vertex is matched
 
-pub perfect : {h n : ℕ} {T H W links mate pi x : List ℕ} → State h n T H W links mate pi → ((b : ℕ) → h ≤ b → b < n → entry mate b < noArc) → n ≡ h + h → Amounts H mate x
-    → Perfect h n T H W x pi
-perfect {h} {n} {T} {H} {W} {links} {mate} {pi} {x} S all even A =
+pub saturating : {h n : ℕ} {T H W links mate pi x : List ℕ} → State h n T H W links mate pi → ((b : ℕ) → h ≤ b → b < n → entry mate b < noArc) → Amounts H mate x
+    → Saturating h n T H W x pi
+saturating {h} {n} {T} {H} {W} {links} {mate} {pi} {x} S all A =
     let G = S .graph in
     let M = S .pairs in
-    let right : (b : ℕ) → h ≤ b → b < n → flowAt H x b ≡ 1 = λ b l i. right-matched G M A b l i (all b l i) in
-    let full = both-sides G M A (λ v. 1) (λ e l N. refl) in
-    let ones = sumTo-ext (n - h) (λ i. 1 * flowAt H x (h + i)) (λ i. 1) (λ i l. omega (arith, right (h + i) (omega arith) (omega arith))) ∙ sumTo-same (n - h) 1 in
     record {
       x-len = A .len ∙ G .heads-len;
       zero-or-one = zero-or-one G M A;
-      left-one = λ a l. omega (arith, sumTo-full h (λ v. 1 * flowAt T x v) (λ v k. omega (arith, left-most G M A v k)) (omega (arith, full, ones)) a l);
-      right-one = right;
+      left-most = left-most G M A;
+      left-spare = λ a l q. spare a l q (M .each a (omega (arith, G .within)));
+      right-one = λ b l i. right-matched G M A b l i (all b l i);
       pi-len = S .priced .len;
       feasible = S .priced .feasible;
       tight = λ e l p. go e l p (carried G M A e l);
       range = S .range;
     }
   where
+    spare : (a : ℕ) → a < h → flowAt T x a ≡ 0 → (entry mate a ≡ noArc) ⊎ Noted T H mate a (entry mate a) → entry pi a ≡ 0
+    spare a l q (inl z) = S .exposed a l z
+    spare a l q (inr N) = absurd (omega (arith, left-matched (S .graph) (S .pairs) A a l (omega (arith, N .arc, S .graph .few))))
+
     go : (e : ℕ) → e < length T → 0 < entry x e → (entry x e ≡ 0) ⊎ ((entry x e ≡ 1) × Noted T H mate (entry H e) e) → entry pi (entry H e) ≡ entry pi (entry T e) + entry W e
     go e l p (inl z) = absurd (omega arith)
     go e l p (inr N) =
@@ -185,7 +71,7 @@ module _ {h n : ℕ} {T H W links mate pi : List ℕ} {t : ℕ} {dist par order 
     (F : Tree h n T H W mate pi t dist par order keys k nd n 0) (end : (a : ℕ) → a < h → entry order a ≡ 0 → waitsNot ≤ entry dist a) (K : Marks n T mate dist t marks) where
   -- a vertex that was taken is near
   near : (a : ℕ) → a < h → 0 < entry order a → entry dist a ≤ 20000000
-  near a l o = omega (arith, F .taken a l o .near, F .count, S .graph .half, S .range a (omega (arith, S .graph .within)))
+  near a l o = omega (arith, F .taken a l o .near, F .count, S .graph .within, S .graph .small, S .range a (omega (arith, S .graph .within)))
 
   far-left : (a : ℕ) → a < h → entry order a ≡ 0 → farMark (entry dist a) ≡ 1
   far-left a l o = far-on (entry dist a) (end a l o)

@@ -1,4 +1,4 @@
--- What is written at the end: amounts of a perfect matching, or marks that show that there is none.
+-- What is written at the end: amounts of a matching that saturates the right vertices, or marks that show that there is none.
 use mathlib.Core.Path.{_≡_}
 use mathlib.Core.List.{List}
 use Prim.Native.Nat.{ℕ, _+_, _-_, _<_, _≤_}
@@ -10,29 +10,22 @@ use Rattle.packed_arcs.specs.Entries.{entry, flowAt}
 use Rattle.arc_index.specs.ArcIndex.{noArc}
 use Rattle.vertex_queue.specs.VertexQueue.{waitsNot}
 
--- ---- a perfect matching of least cost
+-- ---- a saturating matching of least cost
 
--- The amount 1 on an arc that is noted as matched at its head, 0 on any other.
-abbrev pub matchedAmount : List ℕ → List ℕ → ℕ → ℕ
-matchedAmount H mate e = indicator (eqb (entry mate (entry H e)) e)
-
--- The amounts x are those of the matched arcs.
-pub record Amounts (H mate x : List ℕ) : Type 0 where
-  pub len : length x ≡ length H
-  pub by : (e : ℕ) → e < length H → entry x e ≡ matchedAmount H mate e
-
--- One arc carries 1 at every vertex, left below h and right from h on; no reduced cost is negative, and an arc that carries something has none.
-pub record Perfect (h n : ℕ) (T H W x pi : List ℕ) : Type 0 where
+-- One arc carries 1 at every right vertex, from h on, and at most one at a left vertex, which has the potential 0 where there is none; no reduced cost is negative,
+-- and an arc that carries something has none.
+pub record Saturating (h n : ℕ) (T H W x pi : List ℕ) : Type 0 where
   pub x-len : length x ≡ length T
   pub zero-or-one : (e : ℕ) → entry x e ≤ 1
-  pub left-one : (a : ℕ) → a < h → flowAt T x a ≡ 1
+  pub left-most : (a : ℕ) → a < h → flowAt T x a ≤ 1
+  pub left-spare : (a : ℕ) → a < h → flowAt T x a ≡ 0 → entry pi a ≡ 0
   pub right-one : (b : ℕ) → h ≤ b → b < n → flowAt H x b ≡ 1
   pub pi-len : length pi ≡ n
   pub feasible : (e : ℕ) → e < length T → entry pi (entry H e) ≤ entry pi (entry T e) + entry W e
   pub tight : (e : ℕ) → e < length T → 0 < entry x e → entry pi (entry H e) ≡ entry pi (entry T e) + entry W e
   pub range : (v : ℕ) → v < n → entry pi v ≤ 8322818
 
--- ---- no perfect matching
+-- ---- no saturating matching
 
 -- 1 for a left vertex whose distance is that of a vertex that was not reached, else 0.
 abbrev pub farMark : ℕ → ℕ

@@ -56,7 +56,7 @@ module _ {h n : ℕ} {T H W links mate pi : List ℕ} (S : State h n T H W links
         right = g;
         bare = m;
         parents = λ a ha x. absurd (omega (arith, far a ha));
-        waits = λ a ha o. key a (omega (arith, S .graph .half)) ∙ sym (far a ha);
+        waits = λ a ha o. key a (omega (arith, S .graph .within, S .graph .small)) ∙ sym (far a ha);
         gone = λ a ha o. absurd (omega (arith, none a));
         nobody = λ v x y. omega (arith, key v y);
         most = λ a ha. omega (arith, far a ha);
@@ -71,10 +71,10 @@ module _ {h n : ℕ} {T H W links mate pi : List ℕ} (S : State h n T H W links
   module _ {t : ℕ} {dist par order keys low : List ℕ} {b k nd : ℕ} (G : Growing h n T H W mate pi t dist par order keys low b k nd) where
     -- no distance is near the greatest number
     pub small : k ≤ 2000000000
-    small = omega (arith, in-tree-near S (G .tree) b k (G .j) (G .right) (G .below) (G .here), S .range b (G .below), G .tree .count, S .graph .half)
+    small = omega (arith, in-tree-near S (G .tree) b k (G .j) (G .right) (G .below) (G .here), S .range b (G .below), G .tree .count, S .graph .within, S .graph .small)
 
-    pub few : nd ≤ 127
-    few = omega (arith, G .tree .count, S .graph .half)
+    pub few : nd ≤ 254
+    few = omega (arith, G .tree .count, G .tree .right, G .tree .target, S .graph .small)
 
     module _ {h' : ℕ} {dist' par' keys' low' : List ℕ} {r : ℕ} (same : h' ≡ h) (C' : Scanned h' n T H W mate pi dist par keys low dist' par' keys' low' b k r) where
       C : Scanned h n T H W mate pi dist par keys low dist' par' keys' low' b k r
@@ -88,7 +88,7 @@ module _ {h n : ℕ} {T H W links mate pi : List ℕ} (S : State h n T H W links
       met l = go (end .1)
         where
           go : ScanEnd h n T H W mate pi t dist' par' order keys' b k nd r → SearchedBack h n T H W mate pi t dist' par' order r
-          go (ScanEnd.all x R) = absurd (omega (arith, S .graph .half))
+          go (ScanEnd.all x R) = absurd (omega (arith, S .graph .within, S .graph .small))
           go (ScanEnd.found hr m d j lo I R) = SearchedBack.reached hr m (omega (arith, small)) keys' nd b lo
               (subst (λ (z : ℕ). Tree h n T H W mate pi t dist' par' order keys' z nd b lo) (sym d) R)
               (λ D i q J. omega (arith, one-distance S R b D k i j J I))
@@ -103,7 +103,7 @@ module _ {h n : ℕ} {T H W links mate pi : List ℕ} (S : State h n T H W links
 
         -- nobody waits
         pub nobody-left : waitsNot ≤ leastEntry low' 0 → SearchedBack h n T H W mate pi t dist' par' order 256
-        nobody-left q = SearchedBack.stuck refl keys' k nd R' (λ a ha o. omega (arith, R' .waits a ha o, none-waits keys' low' (end .0) q a (omega (arith, S .graph .half))))
+        nobody-left q = SearchedBack.stuck refl keys' k nd R' (λ a ha o. omega (arith, R' .waits a ha o, none-waits keys' low' (end .0) q a (omega (arith, S .graph .within, S .graph .small))))
 
         module _ (q : leastEntry low' 0 < waitsNot) where
           abbrev a : ℕ

@@ -32,10 +32,10 @@ module _ {h n : ℕ} {T H W links mate pi : List ℕ} (S : State h n T H W links
 
     -- who was not taken is no nearer
     pub none-nearer : (c : ℕ) → c < h → entry order c ≡ 0 → entry dist a ≤ entry dist c
-    none-nearer c hc o = omega (arith, key-is, R .waits c hc o, least c (omega (arith, S .graph .half)))
+    none-nearer c hc o = omega (arith, key-is, R .waits c hc o, least c (omega (arith, S .graph .within, S .graph .small)))
 
     key-at : (c : ℕ) → ((c ≡ a) × (entry (set keys a waitsNot) c ≡ waitsNot)) ⊎ ((c ≢ a) × (entry (set keys a waitsNot) c ≡ entry keys c))
-    key-at c = set-cases keys a waitsNot c (omega (arith, R .keys-len, ha, S .graph .half))
+    key-at c = set-cases keys a waitsNot c (omega (arith, R .keys-len, ha, S .graph .within, S .graph .small))
 
     -- ---- it is exposed: the search ends
 

@@ -10,9 +10,8 @@ use Rattle.arc_index.specs.Chains.{Chains}
 
 -- Every arc leads from a left vertex, below h, to a right one, from h on and below n; tails, heads and weights by column.
 pub record Bipartite (h n : ℕ) (T H W : List ℕ) : Type 0 where
-  pub half : h ≤ 127
   pub within : h ≤ n
-  pub small : n ≤ 254
+  pub small : n ≤ 255
   pub few : length T ≤ 4096
   pub heads-len : length H ≡ length T
   pub weights-len : length W ≡ length T

@@ -56,7 +56,7 @@ module _ {h n : ℕ} {T H W links mate pi : List ℕ} (S : State h n T H W links
     ready d p q = record {
       number = l;
       tail = omega (arith, ha, G .dist-len);
-      half = omega (arith, S .graph .half, G .dist-len);
+      small = omega (arith, S .graph .within, S .graph .small, G .dist-len);
       mates = omega (arith, S .pairs .len, S .graph .within, G .dist-len);
       potentials = omega (arith, S .priced .len, S .graph .within, G .dist-len);
       par-len = omega (arith, G .par-len, G .dist-len);
@@ -83,7 +83,7 @@ module _ {h n : ℕ} {T H W links mate pi : List ℕ} (S : State h n T H W links
       λ t nd j order I K R.
           let g = G .grows t nd j order I K R in
           rw (ed, ep, ek, el) (
-            put-kept keys low a far (g .0) (omega (arith, ha, S .graph .half)) (lower t nd j order (g .2) (g .1) q),
+            put-kept keys low a far (g .0) (omega (arith, ha, S .graph .within, S .graph .small)) (lower t nd j order (g .2) (g .1) q),
             in-on S (g .2) j (g .1) e here (is-arc (G .next) l .1) (none-between (G .next) l) q b k j (g .1),
             looked-nearer S (g .2) j (g .1) e here (is-arc (G .next) l .1) (none-between (G .next) l) q,
           ),

@@ -201,7 +201,7 @@ module _ {h n : ℕ} {T H W links mate pi : List ℕ} (S : State h n T H W links
           par-other c z = ⊎-elim (λ p. absurd (z (p.0))) (λ p. p.1) (set-cases par a e c (omega (arith, R .par-len, ha)))
 
           keys-long : a < length keys
-          keys-long = omega (arith, R .keys-len, ha, S .graph .half)
+          keys-long = omega (arith, R .keys-len, ha, S .graph .within, S .graph .small)
 
           key-same : (c : ℕ) → c ≡ a → entry (set keys a far) c ≡ far
           key-same c z = ⊎-elim (λ p. p.1) (λ p. absurd (p.0 z)) (set-cases keys a far c keys-long)

@@ -67,7 +67,7 @@ pub data Lowered (a e far k : ℕ) (mate dist par keys low dist' par' keys' low'
 pub record Relaxable (e k price : ℕ) (T W mate pi dist par : List ℕ) : Type 0 where
   pub number : e < 4096
   pub tail : entry T e < length dist
-  pub half : length dist ≤ 127
+  pub small : length dist ≤ 255
   pub mates : length dist ≤ length mate
   pub potentials : length dist ≤ length pi
   pub par-len : length par ≡ length dist

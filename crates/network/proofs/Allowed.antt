@@ -3,7 +3,7 @@ use mathlib.Core.Path.{_≡_, refl, sym, _∙_, ap}
 use mathlib.Core.Logic.{_≢_, _⊎_, inl, inr}
 use mathlib.Core.Bool.{Bool, not, _&&_}
 use mathlib.Core.List.{List, [], _∷_, _++_}
-use Prim.Native.Nat.{ℕ, suc, _+_, _%_, _≤_, _<_}
+use Prim.Native.Nat.{ℕ, suc, _+_, _≤_, _<_}
 use native.Mathlib.Nat.{add-zero}
 use native.Mathlib.Omega.{arith}
 use native.Mathlib.Decide.{ℕ-discrete, decLe}
@@ -16,9 +16,9 @@ use Rattle.prelude.specs.Lists.{Every}
 use Rattle.prelude.proofs.Settle.{hold-append, Numbered, numbered-append}
 use Rattle.arc_records.specs.Limits.{mostVertices, mostArcs, mostWeight}
 use Rattle.arc_records.specs.Arcs.{Arc}
-use Rattle.network.specs.Question.{Question, shortestPath, maximumFlow, assignment, acyclicity, questionOf, unasked, Setting, asks, pumps, Asked, EvenFor, Sized, TwoVertices, BothZero, EndsFor, Opened, SidesFor, Joins, WeightWithin, Allowed}
+use Rattle.network.specs.Question.{Question, shortestPath, maximumFlow, assignment, acyclicity, questionOf, unasked, Setting, asks, pumps, Asked, Sized, TwoVertices, BothZero, PumpsAndSites, EndsFor, Opened, SidesFor, Joins, WeightWithin, Allowed}
 use Rattle.network.specs.Certificate.{rulesFor, MayClaim}
-use Rattle.network.specs.Tests.{isAsked, evenFor, sizeOk, twoVertices, bothZero, endsFor, endsOk, openingChecks, sidesFor, joinsOk, weightOk, arcChecks, readingChecks, readingAll, claimOf, claimOk}
+use Rattle.network.specs.Tests.{isAsked, sizeOk, twoVertices, bothZero, pumpsAndSites, endsFor, endsOk, openingChecks, sidesFor, joinsOk, weightOk, arcChecks, readingChecks, readingAll, claimOf, claimOk}
 
 -- ---- numbers that differ
 
@@ -58,34 +58,11 @@ asked-least k t = go (decLe k 4)
 
 -- ---- 2
 
-even-rule : (q : Question) (n : ℕ) → T (evenFor q n) → EvenFor q n
-even-rule shortestPath n t = tt
-even-rule maximumFlow n t = tt
-even-rule assignment n t = eqb→eq (n % 2) 0 t
-even-rule acyclicity n t = tt
-even-rule unasked n t = tt
-
-even-test : (q : Question) (n : ℕ) → EvenFor q n → T (evenFor q n)
-even-test shortestPath n h = tt
-even-test maximumFlow n h = tt
-even-test assignment n h = eq→T (n % 2) 0 h
-even-test acyclicity n h = tt
-even-test unasked n h = tt
-
 pub size-rule : (st : Setting) → T (sizeOk st) → Sized st
-size-rule st t =
-    let r = and-left (leb 2 (st .n) && leb (st .n) mostVertices) (evenFor (asks st) (st .n)) t in
-    record {
-      at-least = leb→le 2 (st .n) (and-left (leb 2 (st .n)) (leb (st .n) mostVertices) r);
-      at-most = leb→le (st .n) mostVertices (and-right (leb 2 (st .n)) (leb (st .n) mostVertices) r);
-      even = even-rule (asks st) (st .n) (and-right (leb 2 (st .n) && leb (st .n) mostVertices) (evenFor (asks st) (st .n)) t);
-    }
+size-rule st t = record { at-least = leb→le 2 (st .n) (and-left (leb 2 (st .n)) (leb (st .n) mostVertices) t); at-most = leb→le (st .n) mostVertices (and-right (leb 2 (st .n)) (leb (st .n) mostVertices) t) }
 
 pub size-test : (st : Setting) → Sized st → T (sizeOk st)
-size-test st h =
-    both (leb 2 (st .n) && leb (st .n) mostVertices) (evenFor (asks st) (st .n))
-    (both (leb 2 (st .n)) (leb (st .n) mostVertices) (le→leb 2 (st .n) (h .at-least)) (le→leb (st .n) mostVertices (h .at-most)))
-    (even-test (asks st) (st .n) (h .even))
+size-test st h = both (leb 2 (st .n)) (leb (st .n) mostVertices) (le→leb 2 (st .n) (h .at-least)) (le→leb (st .n) mostVertices (h .at-most))
 
 -- ---- 3
 
@@ -111,17 +88,32 @@ zero-rule st t =
 zero-test : (st : Setting) → BothZero st → T (bothZero st)
 zero-test st h = both (eqb (st .s) 0) (eqb (st .t) 0) (eq→T (st .s) 0 (h .source-zero)) (eq→T (st .t) 0 (h .sink-zero))
 
+pumps-rule : (st : Setting) → T (pumpsAndSites st) → PumpsAndSites st
+pumps-rule st t =
+    let r = and-left (leb 1 (st .s) && ltb (st .s) (st .n)) (eqb (st .t) 0) t in
+    record {
+      some-pump = leb→le 1 (st .s) (and-left (leb 1 (st .s)) (ltb (st .s) (st .n)) r);
+      some-site = ltb→lt (st .s) (st .n) (and-right (leb 1 (st .s)) (ltb (st .s) (st .n)) r);
+      sink-zero = eqb→eq (st .t) 0 (and-right (leb 1 (st .s) && ltb (st .s) (st .n)) (eqb (st .t) 0) t);
+    }
+
+pumps-test : (st : Setting) → PumpsAndSites st → T (pumpsAndSites st)
+pumps-test st h =
+    both (leb 1 (st .s) && ltb (st .s) (st .n)) (eqb (st .t) 0)
+    (both (leb 1 (st .s)) (ltb (st .s) (st .n)) (le→leb 1 (st .s) (h .some-pump)) (lt→ltb (st .s) (st .n) (h .some-site)))
+    (eq→T (st .t) 0 (h .sink-zero))
+
 ends-rule-for : (q : Question) (st : Setting) → T (endsFor q st) → EndsFor q st
 ends-rule-for shortestPath st t = two-rule st t
 ends-rule-for maximumFlow st t = two-rule st t
-ends-rule-for assignment st t = zero-rule st t
+ends-rule-for assignment st t = pumps-rule st t
 ends-rule-for acyclicity st t = zero-rule st t
 ends-rule-for unasked st t = absurd t
 
 ends-test-for : (q : Question) (st : Setting) → EndsFor q st → T (endsFor q st)
 ends-test-for shortestPath st h = two-test st h
 ends-test-for maximumFlow st h = two-test st h
-ends-test-for assignment st h = zero-test st h
+ends-test-for assignment st h = pumps-test st h
 ends-test-for acyclicity st h = zero-test st h
 ends-test-for unasked st h = absurd h
 
@@ -225,14 +217,14 @@ opening-rule st h = record { asked = asked-rule (asks st) (h .0); sized = size-r
 pub opening-test : (st : Setting) → Opened st → Hold (openingChecks st)
 opening-test st o = (asked-test (asks st) (o .asked), (size-test st (o .sized), (ends-test st (o .ends), tt)))
 
--- s and t are vertices: two of them, or 0
+-- s and t are below n: two vertices, a number of pumps and 0, or both 0
 pub ends-below : (st : Setting) → Opened st → (st .s < st .n) × (st .t < st .n)
 ends-below st o = go (asks st) (o .ends)
   where
     go : (q : Question) → EndsFor q st → (st .s < st .n) × (st .t < st .n)
     go shortestPath e = (e .source-below, e .sink-below)
     go maximumFlow e = (e .source-below, e .sink-below)
-    go assignment e = (omega (arith, e .source-zero, o .sized .at-least), omega (arith, e .sink-zero, o .sized .at-least))
+    go assignment e = (e .some-site, omega (arith, e .sink-zero, o .sized .at-least))
     go acyclicity e = (omega (arith, e .source-zero, o .sized .at-least), omega (arith, e .sink-zero, o .sized .at-least))
     go unasked e = absurd e
 

@@ -3,6 +3,7 @@ pub mod Paths
 pub mod ClosedWalks
 pub mod Flows
 pub mod Assignments
+pub mod PerfectMatchings
 pub mod Orders
 pub mod Rules
 pub mod Sound

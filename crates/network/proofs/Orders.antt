@@ -76,7 +76,8 @@ assignment-moved : (st : Setting) {net new : List Arc} (f : List Load) → Assig
 assignment-moved st f c r = record {
   each = r .2;
   chosen = perm-every (λ l. l .amount ≤ 1) (r .1) (c .chosen);
-  once = λ v h. omega (arith, sum-perm (λ e. delta (e .tail) v) (r .1), sum-perm (λ e. delta (e .head) v) (r .1), c .once v h);
+  pumps-once = λ v h. omega (arith, sum-perm (λ e. delta (e .tail) v) (r .1), sum-perm (λ e. delta (e .head) v) (r .1), c .pumps-once v h);
+  sites-once = λ v g h. omega (arith, sum-perm (λ e. delta (e .tail) v) (r .1), sum-perm (λ e. delta (e .head) v) (r .1), c .sites-once v g h);
 }
 
 balance-moved : (v : ℕ) {new : List Arc} (f : List Load) (r : Moved f new) → balance v (r .0) ≡ balance v f

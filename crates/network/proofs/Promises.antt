@@ -1,9 +1,10 @@
 -- The promises of specs/Promises.antt, kept.
 use Rattle.network.specs.Question.{asks}
-use Rattle.network.specs.Promises.{OneAnswer, AnyOrder, Sound, SelfLoopsRead, SelfLoopsCancel, SelfLoopsStay, SelfLoopsChangeNothing, SelfLoopsAreLoops, SelfLoopsCertified, TestsMean, TestsSuffice, TestsNeeded, KeysTell, KeysBelow, KeysDiffer}
+use Rattle.network.specs.Promises.{OneAnswer, AnyOrder, Sound, SameWhereHalf, SelfLoopsRead, SelfLoopsCancel, SelfLoopsStay, SelfLoopsChangeNothing, SelfLoopsAreLoops, SelfLoopsCertified, TestsMean, TestsSuffice, TestsNeeded, KeysTell, KeysBelow, KeysDiffer}
 use Rattle.network.proofs.Allowed.{asked-rule, asked-test, size-rule, size-test, ends-rule, ends-test, joins-rule, joins-test, weight-rule, weight-test, claim-rule, claim-test}
 use Rattle.network.proofs.Orders.{unique, any-order}
 use Rattle.network.proofs.Sound.{sound}
+use Rattle.network.proofs.PerfectMatchings as matchings
 use Rattle.network.proofs.SelfLoops.{loop-allowed, loop-refused, loop-cancels, loop-stays, same-without, loop-is-loop, loop-certified}
 use Rattle.network.proofs.Tests.{passed-certified, certified-passed, certified-answer}
 use Rattle.network.proofs.Keys.{keys-tell}
@@ -17,6 +18,9 @@ order-free st net new d a h = any-order st d a h
 
 pub certificates-sound : Sound
 certificates-sound = sound
+
+pub same-where-half : SameWhereHalf
+same-where-half = matchings.same-where-half
 
 pub self-loops-read : SelfLoopsRead
 self-loops-read = record { for-others = loop-allowed; not-for-assignment = loop-refused }

@@ -6,20 +6,20 @@ use mathlib.Core.List.{List, [], _∷_}
 use Prim.Native.Nat.{ℕ, _≤_, _<_}
 use native.Mathlib.Omega.{arith}
 use native.Mathlib.Decide.{ℕ-discrete}
-use borrow.Author.Tests.{eq-eqb, ne-eqb}
-use lib.Dec.{T, eqb, eqb→eq, ltb→lt, lt→ltb}
-use lib.IntN.{ℤ, pos, negℤ, _+ℤ_}
+use borrow.Author.Tests.{eq-eqb, ne-eqb, lt-ltb, le-ltb}
+use lib.Dec.{T, eqb, leb, ltb, eqb→eq, leb→le, ltb→lt, lt→ltb, le→leb}
+use lib.IntN.{ℤ, pos, negsuc, negℤ, _+ℤ_}
 use lib.Signed.{_≤ℤ_, _<ℤ_, leZ, leZ-yes, ltZ-yes}
 use Rattle.prelude.specs.Choice.{pick, implies}
 use Rattle.prelude.specs.Integers.{eqZ, between}
 use Rattle.prelude.specs.Lists.{Every}
 use Rattle.prelude.proofs.Booleans.{and-left, and-right, both, implied, if-so, not→false, false→not}
-use Rattle.prelude.proofs.Integers.{eqZ→eq, eq→eqZ, signed}
+use Rattle.prelude.proofs.Integers.{eqZ→eq, eq→eqZ, negPart, signed}
 use Rattle.prelude.proofs.Lists.{every-map}
 use Rattle.arc_records.specs.Limits.{mostPotential}
 use Rattle.network.specs.Network.{Load, arcs, sumOf, balance, cost, crosses, cut}
-use Rattle.network.specs.Question.{Question, shortestPath, maximumFlow, assignment, acyclicity, unasked, Setting, asks, TwoVertices, EndsFor, Answer, value, none}
-use Rattle.network.specs.Certificate.{Rules, pathRules, flowRules, assignmentRules, noPathRules, noAssignmentRules, acyclicRules, cyclicRules, rulesFor, marked, separates, pathBalance, assignmentBalance, potentialGap, markedPumps, markedSites, nodeMeets, CertifiedBy, claimFor, Certified}
+use Rattle.network.specs.Question.{Question, shortestPath, maximumFlow, assignment, acyclicity, unasked, Setting, asks, pumps, TwoVertices, EndsFor, Answer, value, none}
+use Rattle.network.specs.Certificate.{Rules, pathRules, flowRules, assignmentRules, noPathRules, noAssignmentRules, acyclicRules, cyclicRules, rulesFor, marked, separates, pathBalance, assignmentBalance, pumpNotNegative, potentialGap, moreSitesUnmarked, nodeMeets, CertifiedBy, claimFor, Certified}
 
 -- ---- the rules
 
@@ -67,8 +67,11 @@ PathBalances st f = (v : ℕ) → v < st .n → balance v f ≡ pathBalance st v
 abbrev pub Conserved : Setting → List Load → Type 0
 Conserved st f = (v : ℕ) → v < st .n → v ≢ st .s → v ≢ st .t → balance v f ≡ pos 0
 
+abbrev pub PumpsNotNegative : Setting → (ℕ → ℤ) → Type 0
+PumpsNotNegative st y = (v : ℕ) → v < st .n → T (pumpNotNegative st v (y v))
+
 abbrev pub AssignmentBalances : Setting → List Load → Type 0
-AssignmentBalances st f = (v : ℕ) → v < st .n → balance v f ≡ assignmentBalance st v
+AssignmentBalances st f = (v : ℕ) → v < st .n → T (assignmentBalance st v (balance v f))
 
 abbrev pub Circulates : Setting → List Load → Type 0
 Circulates st f = (v : ℕ) → v < st .n → balance v f ≡ pos 0
@@ -82,8 +85,8 @@ FlowIsCut st y f = balance (st .s) f ≡ pos (cut (marked y) (arcs f))
 abbrev pub CostIsGap : Setting → (ℕ → ℤ) → List Load → Type 0
 CostIsGap st y f = pos (cost f) ≡ potentialGap st y
 
-abbrev pub MorePumps : Setting → (ℕ → ℤ) → Type 0
-MorePumps st y = markedSites st (marked y) < markedPumps st (marked y)
+abbrev pub MoreSitesUnmarked : Setting → (ℕ → ℤ) → Type 0
+MoreSitesUnmarked st y = T (moreSitesUnmarked st (marked y))
 
 abbrev pub SomeAmount : List Load → Type 0
 SomeAmount f = 0 < sumOf (λ e. 1) f
@@ -110,6 +113,7 @@ pub record FlowCertificate (st : Setting) (y : ℕ → ℤ) (f : List Load) (v :
 
 pub record AssignmentCertificate (st : Setting) (y : ℕ → ℤ) (f : List Load) (v : ℕ) : Type 0 where
   pub potentials : Potentials st y
+  pub pumps-rule : PumpsNotNegative st y
   pub amounts : Every ZeroOrOne f
   pub feasible : Every (Feasible y) f
   pub balances : AssignmentBalances st f
@@ -127,7 +131,7 @@ pub record NoAssignmentCertificate (st : Setting) (y : ℕ → ℤ) (f : List Lo
   pub marks : Marks st y
   pub amounts : Every NoAmount f
   pub closed : Every (Closed y) f
-  pub more-pumps : MorePumps st y
+  pub more-sites : MoreSitesUnmarked st y
 
 pub record AcyclicCertificate (st : Setting) (y : ℕ → ℤ) (f : List Load) (v : ℕ) : Type 0 where
   pub potentials : Potentials st y
@@ -176,8 +180,9 @@ module _ (rules : Rules) (st : Setting) (y : ℕ → ℤ) where
     node-rule : (v : ℕ) → v < st .n → T (rules .onNode st v (y v))
     node-rule v h = and-right (between (rules .lowest) (rules .highest) (y v)) (rules .onNode st v (y v)) (t v h)
 
-  node-tests : ((v : ℕ) → v < st .n → InRange (rules .lowest) (rules .highest) (y v)) → ((v : ℕ) → T (rules .onNode st v (y v))) → (v : ℕ) → v < st .n → T (nodeMeets rules st v (y v))
-  node-tests r e v h = both (between (rules .lowest) (rules .highest) (y v)) (rules .onNode st v (y v)) (range-in (rules .lowest) (rules .highest) (y v) (r v h)) (e v)
+  node-tests : ((v : ℕ) → v < st .n → InRange (rules .lowest) (rules .highest) (y v)) → ((v : ℕ) → v < st .n → T (rules .onNode st v (y v)))
+      → (v : ℕ) → v < st .n → T (nodeMeets rules st v (y v))
+  node-tests r e v h = both (between (rules .lowest) (rules .highest) (y v)) (rules .onNode st v (y v)) (range-in (rules .lowest) (rules .highest) (y v) (r v h)) (e v h)
 
 module _ (st : Setting) (y : ℕ → ℤ) where
   cut-source : T (separates st (st .s) (y (st .s))) → SourceMarked st y
@@ -202,6 +207,30 @@ module _ (st : Setting) (f : List Load) where
       go (yes e) d = rw (eq-eqb v (st .s) e) tt
       go (no ns) (yes e) = rw (ne-eqb v (st .s) ns, eq-eqb v (st .t) e) tt
       go (no ns) (no nt) = rw (ne-eqb v (st .s) ns, ne-eqb v (st .t) nt) (eq→eqZ (balance v f) (pos 0) (k v h ns nt))
+
+module _ (st : Setting) (v : ℕ) where
+  -- what the rules on pumps and sites say, by cases on the number
+  pub pump-natural : v < pumps st → (z : ℤ) → T (pumpNotNegative st v z) → negPart z ≡ 0
+  pump-natural h (pos k) t = refl
+  pump-natural h (negsuc k) t = absurd (implied (ltb v (pumps st)) false t (lt-ltb v (pumps st) h))
+
+  pub pump-balance-most : v < pumps st → (b : ℤ) → T (assignmentBalance st v b) → b ≤ℤ pos 1
+  pump-balance-most h (pos k) t = omega (signed, leb→le k 1 (and-right (leb 0 k) (leb k 1) (rw (lt-ltb v (pumps st) h) at t)))
+  pump-balance-most h (negsuc k) t = omega signed
+
+  pub site-balance-is : pumps st ≤ v → (b : ℤ) → T (assignmentBalance st v b) → b ≡ negℤ (pos 1)
+  site-balance-is h (pos k) t = absurd (rw (le-ltb v (pumps st) h) at t)
+  site-balance-is h (negsuc k) t = ap negsuc (eqb→eq k 0 (rw (le-ltb v (pumps st) h) at t))
+
+  -- and numbers that meet them
+  pub natural-pump : (k : ℕ) → T (pumpNotNegative st v (pos k))
+  natural-pump k = if-so (ltb v (pumps st)) (leb 0 k) (λ t. le→leb 0 k (omega arith))
+
+  pub pump-balance : v < pumps st → (k : ℕ) → k ≤ 1 → T (assignmentBalance st v (pos k))
+  pump-balance h k l = rw (lt-ltb v (pumps st) h) (both (leb 0 k) (leb k 1) (le→leb 0 k (omega arith)) (le→leb k 1 l))
+
+  pub site-balance : pumps st ≤ v → T (assignmentBalance st v (negℤ (pos 1)))
+  site-balance h = rw (le-ltb v (pumps st) h) tt
 
 -- the value of an answer
 of-value : Answer → ℕ
@@ -250,7 +279,8 @@ module _ (st : Setting) (y : ℕ → ℤ) (f : List Load) where
     potentials = node-range assignmentRules st y (c .nodes);
     amounts = c .amounts;
     feasible = every-map (λ l h. leZ-yes h) f (c .on-arcs);
-    balances = λ v h. eqZ→eq (balance v f) (assignmentBalance st v) (c .balances v h);
+    pumps-rule = node-rule assignmentRules st y (c .nodes);
+    balances = c .balances;
     sums = eqZ→eq (pos (cost f)) (potentialGap st y) (c .sums);
     answer = sym (same-value (c .answer));
   }
@@ -269,7 +299,7 @@ module _ (st : Setting) (y : ℕ → ℤ) (f : List Load) where
     marks = node-range noAssignmentRules st y (c .nodes);
     amounts = every-map (λ l (h : l .amount ≤ 0). omega arith) f (c .amounts);
     closed = every-map (λ l h. not→false (crosses (marked y) (l .arc)) h) f (c .on-arcs);
-    more-pumps = ltb→lt (markedSites st (marked y)) (markedPumps st (marked y)) (c .sums);
+    more-sites = c .sums;
   }
 
   acyclic-rules : (v : ℕ) → CertifiedBy acyclicRules acyclicity st y f (value v) → AcyclicCertificate st y f v
@@ -304,7 +334,7 @@ module _ (st : Setting) (y : ℕ → ℤ) (f : List Load) where
   tests-for : (q : Question) (a : Answer) → RulesHold q st y f a → CertifiedBy (rulesFor q (claimFor a)) q st y f a
   tests-for shortestPath (value v) c = record {
     admitted = tt;
-    nodes = node-tests pathRules st y (c .potentials) (vertex-at y (st .s) (pos 0) (c .source));
+    nodes = node-tests pathRules st y (c .potentials) (λ v h. vertex-at y (st .s) (pos 0) (c .source) v);
     amounts = c .amounts;
     on-arcs = every-map (λ l (h : Feasible y l). h .le) f (c .feasible);
     balances = λ v h. eq→eqZ (balance v f) (pathBalance st v) (c .balances v h);
@@ -313,7 +343,7 @@ module _ (st : Setting) (y : ℕ → ℤ) (f : List Load) where
   }
   tests-for shortestPath none c = record {
     admitted = tt;
-    nodes = node-tests noPathRules st y (c .marks) (cut-ends st y (c .source) (c .sink));
+    nodes = node-tests noPathRules st y (c .marks) (λ v h. cut-ends st y (c .source) (c .sink) v);
     amounts = every-map (λ l (h : NoAmount l). omega arith) f (c .amounts);
     on-arcs = every-map (λ l h. false→not (crosses (marked y) (l .arc)) h) f (c .closed);
     balances = λ v h. tt;
@@ -322,7 +352,7 @@ module _ (st : Setting) (y : ℕ → ℤ) (f : List Load) where
   }
   tests-for maximumFlow (value v) c = record {
     admitted = tt;
-    nodes = node-tests flowRules st y (c .marks) (cut-ends st y (c .source) (c .sink));
+    nodes = node-tests flowRules st y (c .marks) (λ v h. cut-ends st y (c .source) (c .sink) v);
     amounts = c .amounts;
     on-arcs = every-true f;
     balances = conserved-test st f (c .balances);
@@ -332,25 +362,25 @@ module _ (st : Setting) (y : ℕ → ℤ) (f : List Load) where
   tests-for maximumFlow none c = absurd c
   tests-for assignment (value v) c = record {
     admitted = tt;
-    nodes = node-tests assignmentRules st y (c .potentials) (λ v. tt);
+    nodes = node-tests assignmentRules st y (c .potentials) (c .pumps-rule);
     amounts = c .amounts;
     on-arcs = every-map (λ l (h : Feasible y l). h .le) f (c .feasible);
-    balances = λ v h. eq→eqZ (balance v f) (assignmentBalance st v) (c .balances v h);
+    balances = c .balances;
     sums = eq→eqZ (pos (cost f)) (potentialGap st y) (c .sums);
     answer = ap value (sym (c .answer));
   }
   tests-for assignment none c = record {
     admitted = tt;
-    nodes = node-tests noAssignmentRules st y (c .marks) (λ v. tt);
+    nodes = node-tests noAssignmentRules st y (c .marks) (λ v h. tt);
     amounts = every-map (λ l (h : NoAmount l). omega arith) f (c .amounts);
     on-arcs = every-map (λ l h. false→not (crosses (marked y) (l .arc)) h) f (c .closed);
     balances = λ v h. tt;
-    sums = lt→ltb (markedSites st (marked y)) (markedPumps st (marked y)) (c .more-pumps);
+    sums = c .more-sites;
     answer = refl;
   }
   tests-for acyclicity (value v) c = record {
     admitted = tt;
-    nodes = node-tests acyclicRules st y (c .potentials) (λ v. tt);
+    nodes = node-tests acyclicRules st y (c .potentials) (λ v h. tt);
     amounts = every-map (λ l (h : NoAmount l). omega arith) f (c .amounts);
     on-arcs = every-map (λ l (h : Rises y l). h .lt) f (c .rising);
     balances = λ v h. tt;
@@ -359,7 +389,7 @@ module _ (st : Setting) (y : ℕ → ℤ) (f : List Load) where
   }
   tests-for acyclicity none c = record {
     admitted = tt;
-    nodes = node-tests cyclicRules st y (c .zeros) (λ v. tt);
+    nodes = node-tests cyclicRules st y (c .zeros) (λ v h. tt);
     amounts = c .amounts;
     on-arcs = every-true f;
     balances = λ v h. eq→eqZ (balance v f) (pos 0) (c .balances v h);

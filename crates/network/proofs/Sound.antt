@@ -5,8 +5,8 @@ use mathlib.Core.Bool.{true, false}
 use mathlib.Core.List.{List, [], _∷_}
 use Prim.Native.Nat.{ℕ, zero, suc, _+_, _-_, _*_, _≤_, _<_}
 use native.Mathlib.Omega.{arith}
-use native.Mathlib.Decide.{decLt}
-use borrow.Author.Tests.{eq-eqb, ne-eqb, lt-ltb, le-ltb}
+use borrow.Author.Tests.{eq-eqb, ne-eqb}
+use lib.Dec.{ltb→lt}
 use lib.IntN.{ℤ, pos, _-ℤ_}
 use lib.Signed.{_≤ℤ_, _<ℤ_}
 use Rattle.prelude.specs.Integers.{eqZ}
@@ -16,16 +16,16 @@ use Rattle.prelude.proofs.Integers.{posPart, negPart, parts-add, parts-sub, sig
 use Rattle.prelude.proofs.Lists.{every-map, every-zip, image-every}
 use Rattle.prelude.proofs.Permutations.{perm-sym, perm-every}
 use Rattle.arc_records.specs.Arcs.{Arc, delta}
-use Rattle.network.specs.Network.{Load, arcs, sumOf, leaving, entering, balance, degree, cost, total, crosses}
-use Rattle.network.specs.Question.{Question, shortestPath, maximumFlow, assignment, acyclicity, unasked, Setting, asks, pumps, sites, EndsFor, TwoVertices, SidesFor, PumpToSite, Allowed, Opened}
+use Rattle.network.specs.Network.{Load, arcs, sumOf, leaving, entering, balance, cost, total, crosses}
+use Rattle.network.specs.Question.{Question, shortestPath, maximumFlow, assignment, acyclicity, unasked, Setting, asks, pumps, sites, EndsFor, TwoVertices, PumpsAndSites, SidesFor, Allowed, Opened}
 use Rattle.network.specs.Question.{Answer, value, none, Walk, ShortestPath, NoWalk, Flow, MaximumFlow, Assignment, CheapestAssignment, NoAssignment, ClosedWalk, Acyclic, TrueFor, TrueAnswer}
-use Rattle.network.specs.Certificate.{marked, Certified}
-use Rattle.network.proofs.Rules.{Potentials, SourceMarked, SinkUnmarked, WithinCapacity, Feasible, PathBalances, PathCertificate, FlowCertificate, AssignmentCertificate, NoPathCertificate, NoAssignmentCertificate, AcyclicCertificate, CyclicCertificate, RulesHold, certified-rules}
+use Rattle.network.specs.Certificate.{marked, unmarkedPumps, unmarkedSites, Certified}
+use Rattle.network.proofs.Rules.{Potentials, SourceMarked, SinkUnmarked, WithinCapacity, Feasible, PathBalances, PathCertificate, FlowCertificate, AssignmentCertificate, NoPathCertificate, NoAssignmentCertificate, AcyclicCertificate, CyclicCertificate, RulesHold, pump-natural, pump-balance-most, site-balance-is, certified-rules}
 use Rattle.network.proofs.Sums.{Compared, compared, Inside}
 use Rattle.network.proofs.Paths.{walk-above, no-walk, Unit-flow, Found, walk-in}
 use Rattle.network.proofs.ClosedWalks.{rising-excludes, circulation-closes}
 use Rattle.network.proofs.Flows.{flow-below-cut}
-use Rattle.network.proofs.Assignments.{Between, enters-no-pump, leaves-no-site, assignment-above, closed-fewer}
+use Rattle.network.proofs.Assignments.{Between, crosses-over, enters-no-pump, leaves-no-site, assignment-above, closed-fewer}
 use Rattle.network.proofs.Orders.{any-order}
 
 -- ---- balances, as sums of natural numbers
@@ -129,22 +129,30 @@ no-path-sound st y f c = no-walk st (marked y) (arcs f) (is-marked st y (c .sour
 
 -- ---- assignment
 
-whole : (st : Setting) → pumps st + sites st ≡ st .n
-whole st = omega arith
+module _ (st : Setting) (y : ℕ → ℤ) (f : List Load) (v : ℕ) (ends : PumpsAndSites st) (inside : Every (Inside (st .n)) (arcs f)) (rule : Every (Between (pumps st) (sites st)) (arcs f)) (c : AssignmentCertificate st y f v) where
+  whole : pumps st + sites st ≡ st .n
+  whole = omega (arith, ends .some-site)
 
-between : (st : Setting) (e : Arc) → Inside (st .n) e → PumpToSite st e → Between (pumps st) (sites st) e
-between st e i p = record { low = p .from-pump; high = p .to-site; below = omega (arith, i .1, whole st) }
+  below : (u : ℕ) → u < pumps st → u < st .n
+  below u h = omega (arith, ends .some-site)
 
-module _ (st : Setting) (y : ℕ → ℤ) (f : List Load) (v : ℕ) (inside : Every (Inside (st .n)) (arcs f)) (rule : Every (Between (pumps st) (sites st)) (arcs f)) (c : AssignmentCertificate st y f v) where
-  touched-once : (u : ℕ) → u < st .n → degree u f ≡ 1
-  touched-once u b = go (decLt u (pumps st))
-    where
-      go : Dec (u < pumps st) → degree u f ≡ 1
-      go (yes l) =
-          omega (signed, rw (lt-ltb u (pumps st) l) at (c .balances u b), balance-parts (leaving u f) (entering u f), enters-no-pump (pumps st) (sites st) f rule u l)
-      go (no l) =
-          let k : pumps st ≤ u = omega arith in
-          omega (signed, rw (le-ltb u (pumps st) k) at (c .balances u b), balance-parts (leaving u f) (entering u f), leaves-no-site (pumps st) (sites st) f rule u k)
+  -- the potential of a pump is natural, so only those of sites are lifted
+  pump-is : (u : ℕ) → u < pumps st → negPart (y u) ≡ 0
+  pump-is u h = pump-natural st u h (y u) (c .pumps-rule u (below u h))
+
+  feasible-at : (l : Load) → Inside (st .n) (l .arc) → Between (pumps st) (sites st) (l .arc) → Feasible y l → lift (y (l .arc .head)) ≤ posPart (y (l .arc .tail)) + (l .arc .weight + 8322818)
+  feasible-at l i b h =
+      omega (signed, parts-add (y (l .arc .tail)) (pos (l .arc .weight)), lift-is st y (c .potentials) (l .arc .head) (i .1), pump-is (l .arc .tail) (b .low))
+
+  feasible-sites : (g : List Load) → Every (Inside (st .n)) (arcs g) → Every (Between (pumps st) (sites st)) (arcs g) → Every (Feasible y) g
+      → Every (λ e. lift (y (e .head)) ≤ posPart (y (e .tail)) + (e .weight + 8322818)) (arcs g)
+  feasible-sites [] i b e = tt
+  feasible-sites (l ∷ g) i b e = (feasible-at l (i .0) (b .0) (e .0), feasible-sites g (i .1) (b .1) (e .1))
+
+  sum-natural : (k : ℕ) → k ≤ pumps st → sumToℤ k y ≡ pos (sumTo k (λ u. posPart (y u)))
+  unfolding sumTo sumToℤ
+  sum-natural zero h = refl
+  sum-natural (suc k) h = omega (signed, sum-natural k (omega arith), pump-is k (omega arith), parts-add (sumToℤ k y) (y k))
 
   assignment-least : (g : List Load) → Assignment st (arcs f) g → v ≤ cost g
   assignment-least g a =
@@ -153,26 +161,30 @@ module _ (st : Setting) (y : ℕ → ℤ) (f : List Load) (v : ℕ) (inside : Ev
         c .answer,
         c .sums,
         parts-sub (sumToℤ (sites st) (λ i. y (pumps st + i))) (sumToℤ (pumps st) y),
-        sum-lifted (pumps st) y (λ i b. lift-is st y (c .potentials) i (omega (arith, whole st))),
-        sum-lifted (sites st) (λ i. y (pumps st + i)) (λ i b. lift-is st y (c .potentials) (pumps st + i) (omega (arith, whole st))),
-        assignment-above st (pumps st) (sites st) (whole st) (arcs f) rule g a (λ u. lift (y u)) (feasible-lifted st y (c .potentials) f inside (c .feasible)),
-        whole st,
+        sum-natural (pumps st) (omega arith),
+        sum-lifted (sites st) (λ i. y (pumps st + i)) (λ i b. lift-is st y (c .potentials) (pumps st + i) (omega (arith, whole))),
+        assignment-above st (sites st) whole (arcs f) rule g a 8322818 (λ u. posPart (y u)) (λ u. lift (y u)) (feasible-sites f inside rule (c .feasible)),
       )
 
   assignment-sound : CheapestAssignment st (arcs f) v
   assignment-sound = record {
     chosen = f;
-    is-assignment = record { each = refl; chosen = c .amounts; once = touched-once };
+    is-assignment = record {
+      each = refl;
+      chosen = c .amounts;
+      pumps-once = λ u h. omega (signed, pump-balance-most st u h (balance u f) (c .balances u (below u h)), balance-parts (leaving u f) (entering u f), enters-no-pump (pumps st) (sites st) f rule u h);
+      sites-once = λ u g h. omega (signed, site-balance-is st u g (balance u f) (c .balances u h), balance-parts (leaving u f) (entering u f), leaves-no-site (pumps st) (sites st) f rule u g);
+    };
     attained = c .answer;
     least = assignment-least;
   }
 
-no-assignment-sound : (st : Setting) (y : ℕ → ℤ) (f : List Load) → Every (Between (pumps st) (sites st)) (arcs f) → NoAssignmentCertificate st y f → NoAssignment st (arcs f)
-no-assignment-sound st y f rule c g a =
+no-assignment-sound : (st : Setting) (y : ℕ → ℤ) (f : List Load) → PumpsAndSites st → Every (Between (pumps st) (sites st)) (arcs f) → NoAssignmentCertificate st y f → NoAssignment st (arcs f)
+no-assignment-sound st y f ends rule c g a =
     omega (
       arith,
-      c .more-pumps,
-      closed-fewer st (pumps st) (sites st) (whole st) (arcs f) rule g a (marked y) (image-every (λ l. l .arc) (λ e. crosses (marked y) e ≡ false) f (c .closed)),
+      ltb→lt (unmarkedPumps st (marked y)) (unmarkedSites st (marked y)) (c .more-sites),
+      closed-fewer st (sites st) (omega (arith, ends .some-site)) (arcs f) rule g a (marked y) (image-every (λ l. l .arc) (λ e. crosses (marked y) e ≡ false) f (c .closed)),
     )
 
 -- ---- acyclicity
@@ -195,9 +207,9 @@ certified-for shortestPath st y f none ends inside sides c = no-path-sound st y 
 certified-for maximumFlow st y f (value v) ends inside sides c = flow-sound st y f v ends inside c
 certified-for maximumFlow st y f none ends inside sides c = c
 certified-for assignment st y f (value v) ends inside sides c =
-    assignment-sound st y f v inside (every-zip (λ e i p. between st e i p) (arcs f) inside sides) c
+    assignment-sound st y f v ends inside (every-zip (λ e i p. crosses-over st e (i .1) p) (arcs f) inside sides) c
 certified-for assignment st y f none ends inside sides c =
-    no-assignment-sound st y f (every-zip (λ e i p. between st e i p) (arcs f) inside sides) c
+    no-assignment-sound st y f ends (every-zip (λ e i p. crosses-over st e (i .1) p) (arcs f) inside sides) c
 certified-for acyclicity st y f (value v) ends inside sides c = acyclic-sound st y f v c
 certified-for acyclicity st y f none ends inside sides c = cyclic-sound st y f inside c
 certified-for unasked st y f a ends inside sides c = absurd c

@@ -79,25 +79,33 @@ rises e l = ltZ (e .tail-number) (e .head-number)
 abbrev pub separates : Setting → ℕ → ℤ → Bool
 separates st v z = implies (eqb v (st .s)) (eqZ z (pos 1)) && implies (eqb v (st .t)) (eqZ z (pos 0))
 
+-- The potential of a pump is not negative (PANEL 5, check 10).
+abbrev pub pumpNotNegative : Setting → ℕ → ℤ → Bool
+pumpNotNegative st v z = implies (ltb v (pumps st)) (leZ (pos 0) z)
+
 -- The balances of one unit on its way from s to t (PANEL 5, check 15).
 abbrev pub pathBalance : Setting → ℕ → ℤ
 pathBalance st v = pick (eqb v (st .s)) (pos 1) (pick (eqb v (st .t)) (negℤ (pos 1)) (pos 0))
 
--- The balances of an assignment (PANEL 5, check 15): one unit leaves each pump, one enters each site.
-abbrev pub assignmentBalance : Setting → ℕ → ℤ
-assignmentBalance st v = pick (ltb v (pumps st)) (pos 1) (negℤ (pos 1))
+-- A balance that the vertex v of an assignment may have (PANEL 5, check 15): 0 or 1 at a pump, -1 at a site.
+abbrev pub assignmentBalance : Setting → ℕ → ℤ → Bool
+assignmentBalance st v b = pick (ltb v (pumps st)) (between (pos 0) (pos 1) b) (eqZ b (negℤ (pos 1)))
 
 -- The potentials of all sites, less those of all pumps (PANEL 5, check 16).
 abbrev pub potentialGap : Setting → (ℕ → ℤ) → ℤ
 potentialGap st y = sumToℤ (sites st) (λ i. y (pumps st + i)) -ℤ sumToℤ (pumps st) y
 
--- How many pumps are marked (PANEL 5, check 16).
-abbrev pub markedPumps : Setting → (ℕ → Bool) → ℕ
-markedPumps st m = count m (pumps st)
+-- How many pumps have no mark (PANEL 5, check 16).
+abbrev pub unmarkedPumps : Setting → (ℕ → Bool) → ℕ
+unmarkedPumps st m = count (λ v. not (m v)) (pumps st)
 
--- How many sites are marked (PANEL 5, check 16).
-abbrev pub markedSites : Setting → (ℕ → Bool) → ℕ
-markedSites st m = count (λ i. m (pumps st + i)) (sites st)
+-- How many sites have no mark (PANEL 5, check 16).
+abbrev pub unmarkedSites : Setting → (ℕ → Bool) → ℕ
+unmarkedSites st m = count (λ i. not (m (pumps st + i))) (sites st)
+
+-- More sites than pumps have no mark (PANEL 5, check 16): no arc leads to such a site but from such a pump, so they cannot all be served.
+abbrev pub moreSitesUnmarked : Setting → (ℕ → Bool) → Bool
+moreSitesUnmarked st m = ltb (unmarkedPumps st m) (unmarkedSites st m)
 
 -- ---- the seven certificates: the columns of PANEL 5, from left to right
 
@@ -135,10 +143,10 @@ assignmentRules = record {
   admitted = true;
   lowest = negℤ (pos mostPotential);
   highest = pos mostPotential;
-  onNode = λ st v z. true;
+  onNode = pumpNotNegative;
   most = λ e. 1;
   onArc = noShortcut;
-  onBalance = λ st v b. eqZ b (assignmentBalance st v);
+  onBalance = assignmentBalance;
   onSums = λ st y m u. eqZ (u .cost) (potentialGap st y);
   answer = λ u. value (natural (u .cost));
 }
@@ -167,7 +175,7 @@ noAssignmentRules = record {
   most = λ e. 0;
   onArc = staysInside;
   onBalance = λ st v b. true;
-  onSums = λ st y m u. ltb (markedSites st m) (markedPumps st m);
+  onSums = λ st y m u. moreSitesUnmarked st m;
   answer = λ u. none;
 }
 

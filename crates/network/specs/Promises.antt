@@ -3,7 +3,7 @@ use mathlib.Core.Path.{_≡_}
 use mathlib.Core.Logic.{_↔_, _≢_}
 use mathlib.Core.Bool.{Bool, false}
 use mathlib.Core.List.{List, _∷_, _++_, map}
-use Prim.Native.Nat.{ℕ, _*_, _≤_, _<_}
+use Prim.Native.Nat.{ℕ, _+_, _*_, _≤_, _<_}
 use lib.Dec.{T}
 use lib.IntN.{ℤ}
 use Rattle.prelude.specs.Lists.{Every, Member, Perm}
@@ -11,7 +11,8 @@ use Rattle.field.specs.Field.{p}
 use Rattle.arc_records.specs.Limits.{mostVertices, mostWeight}
 use Rattle.arc_records.specs.Arcs.{Arc, arcOf}
 use Rattle.network.specs.Network.{SelfLoop, withoutSelfLoops, Load, arcs, balance, crosses, key}
-use Rattle.network.specs.Question.{Question, shortestPath, maximumFlow, assignment, acyclicity, unasked, Setting, asks, Asked, Sized, EndsFor, Opened, Joins, Allowed, WeightWithin, Answer, value, none, TrueAnswer}
+use Rattle.network.specs.Question.{Question, shortestPath, maximumFlow, assignment, acyclicity, unasked, Setting, asks, pumps, Asked, Sized, EndsFor, Opened, Joins, Allowed, WeightWithin, Answer, value, none, TrueAnswer}
+use Rattle.network.specs.PerfectMatchings.{PerfectlyTrue}
 use Rattle.network.specs.Certificate.{Claim, MayClaim, claimFor, marked, sumsOf, Certified}
 use Rattle.network.specs.Tests.{isAsked, sizeOk, endsOk, joinsOk, weightOk, claimOk, answerOf, Passed}
 
@@ -28,6 +29,12 @@ abbrev pub Sound : Type 0
 Sound =
     (st : Setting) (net : List Arc) (y : ℕ → ℤ) (f : List Load) (a : Answer)
     → Opened st → Every (Allowed st) net → Perm (arcs f) net → Certified st y f a → TrueAnswer st net a
+
+-- Where half of the vertices are pumps, the true answer of a pairing is what it was before pumps could be spare (PANEL 3), for all arcs that may be read, both ways.
+abbrev pub SameWhereHalf : Type 0
+SameWhereHalf =
+    (st : Setting) (net : List Arc) (a : Answer)
+    → asks st ≡ assignment → pumps st + pumps st ≡ st .n → Every (Allowed st) net → TrueAnswer st net a ↔ PerfectlyTrue st net a
 
 -- The questions whose answers self-loops do not change (PANEL 3), though they are read.
 abbrev pub PathOrFlow : Question → Type 0

@@ -2,7 +2,7 @@
 use mathlib.Core.Path.{_≡_}
 use mathlib.Core.Logic.{_≢_}
 use mathlib.Core.List.{List, [], _∷_}
-use Prim.Native.Nat.{ℕ, _-_, _/_, _%_, _≤_, _<_}
+use Prim.Native.Nat.{ℕ, _-_, _≤_, _<_}
 use lib.Dec.{eqb}
 use lib.IntN.{pos}
 use lib.ListN.{length}
@@ -27,7 +27,7 @@ pub data Question : Type 0 where
 abbrev pub questionOf : ℕ → Question
 questionOf k = pick (eqb k 1) shortestPath (pick (eqb k 2) maximumFlow (pick (eqb k 3) assignment (pick (eqb k 4) acyclicity unasked)))
 
--- What opening is handed but for the point: the question's number, the number n of vertices 0 to n - 1, the source s and the sink t.
+-- What opening is handed but for the point: the question's number, the number n of vertices 0 to n - 1, the source s and the sink t; for pairing s is the number of pumps.
 pub record Setting : Type 0 where
   pub question : ℕ
   pub n : ℕ
@@ -38,11 +38,11 @@ pub record Setting : Type 0 where
 abbrev pub asks : Setting → Question
 asks st = questionOf (st .question)
 
--- How many pumps there are, for pairing (PANEL 3): they are the vertices below n / 2.
+-- How many pumps there are, for pairing (PANEL 3): s of them, the vertices below s.
 abbrev pub pumps : Setting → ℕ
-pumps st = st .n / 2
+pumps st = st .s
 
--- How many sites there are: the other vertices.
+-- How many sites there are, for pairing (PANEL 3): the other vertices.
 abbrev pub sites : Setting → ℕ
 sites st = st .n - pumps st
 
@@ -74,19 +74,10 @@ Asked assignment = Unit {0}
 Asked acyclicity = Unit {0}
 Asked unasked = ⊥
 
--- The number of vertices is even for an assignment (PANEL 6, check 2).
-abbrev pub EvenFor : Question → ℕ → Type 0
-EvenFor shortestPath n = Unit {0}
-EvenFor maximumFlow n = Unit {0}
-EvenFor assignment n = n % 2 ≡ 0
-EvenFor acyclicity n = Unit {0}
-EvenFor unasked n = Unit {0}
-
--- There are 2 to 255 vertices, an even number for an assignment (PANEL 6, check 2).
+-- There are 2 to 255 vertices (PANEL 6, check 2).
 pub record Sized (st : Setting) : Type 0 where
   pub at-least : 2 ≤ st .n
   pub at-most : st .n ≤ mostVertices
-  pub even : EvenFor (asks st) (st .n)
 
 -- s and t are two different vertices (PANEL 6, check 3).
 pub record TwoVertices (st : Setting) : Type 0 where
@@ -99,11 +90,17 @@ pub record BothZero (st : Setting) : Type 0 where
   pub source-zero : st .s ≡ 0
   pub sink-zero : st .t ≡ 0
 
+-- s is a number of pumps, one at least, that leaves a site, and t is 0 (PANEL 6, check 3).
+pub record PumpsAndSites (st : Setting) : Type 0 where
+  pub some-pump : 1 ≤ st .s
+  pub some-site : st .s < st .n
+  pub sink-zero : st .t ≡ 0
+
 -- What s and t have to be, by the question (PANEL 6, check 3).
 abbrev pub EndsFor : Question → Setting → Type 0
 EndsFor shortestPath st = TwoVertices st
 EndsFor maximumFlow st = TwoVertices st
-EndsFor assignment st = BothZero st
+EndsFor assignment st = PumpsAndSites st
 EndsFor acyclicity st = BothZero st
 EndsFor unasked st = ⊥
 
@@ -194,11 +191,12 @@ pub record MaximumFlow (st : Setting) (net : List Arc) (v : ℕ) : Type 0 where
 
 -- ---- 3, pairing: assignment
 
--- A perfect matching of pumps and sites (PANEL 3): the amount is 1 at the arcs chosen and 0 at the others, and each vertex is an end of one chosen arc.
+-- An assignment (PANEL 3): the amount is 1 at the arcs chosen and 0 at the others; each pump is an end of one chosen arc at most, and each site of exactly one.
 pub record Assignment (st : Setting) (net : List Arc) (f : List Load) : Type 0 where
   pub each : arcs f ≡ net
   pub chosen : Every (λ l. l .amount ≤ 1) f
-  pub once : (v : ℕ) → v < st .n → degree v f ≡ 1
+  pub pumps-once : (v : ℕ) → v < pumps st → degree v f ≤ 1
+  pub sites-once : (v : ℕ) → pumps st ≤ v → v < st .n → degree v f ≡ 1
 
 -- A cheapest assignment costs v (PANEL 3): one costs that, and none costs less.
 pub record CheapestAssignment (st : Setting) (net : List Arc) (v : ℕ) : Type 0 where

@@ -1,7 +1,7 @@
 -- The numbered checks of the steps (PANEL 6), each once: as tests, and as lists in the order in which they run.
 use mathlib.Core.Bool.{Bool, true, false, not, _&&_}
 use mathlib.Core.List.{List, [], _∷_, _++_}
-use Prim.Native.Nat.{ℕ, suc, _%_}
+use Prim.Native.Nat.{ℕ, suc}
 use lib.Dec.{T, eqb, leb, ltb}
 use lib.IntN.{ℤ}
 use Rattle.prelude.specs.Checks.{Check, _unless_}
@@ -24,17 +24,9 @@ isAsked assignment = true
 isAsked acyclicity = true
 isAsked unasked = false
 
--- Is the number of vertices even, for an assignment? (PANEL 6, check 2)
-abbrev pub evenFor : Question → ℕ → Bool
-evenFor shortestPath n = true
-evenFor maximumFlow n = true
-evenFor assignment n = eqb (n % 2) 0
-evenFor acyclicity n = true
-evenFor unasked n = true
-
--- Are there 2 to 255 vertices, an even number for an assignment? (PANEL 6, check 2)
+-- Are there 2 to 255 vertices? (PANEL 6, check 2)
 abbrev pub sizeOk : Setting → Bool
-sizeOk st = (leb 2 (st .n) && leb (st .n) mostVertices) && evenFor (asks st) (st .n)
+sizeOk st = leb 2 (st .n) && leb (st .n) mostVertices
 
 -- Are s and t two different vertices? (PANEL 6, check 3)
 abbrev pub twoVertices : Setting → Bool
@@ -44,11 +36,15 @@ twoVertices st = (ltb (st .s) (st .n) && ltb (st .t) (st .n)) && not (eqb (st .s
 abbrev pub bothZero : Setting → Bool
 bothZero st = eqb (st .s) 0 && eqb (st .t) 0
 
+-- Is s a number of pumps, one at least, that leaves a site, and t 0? (PANEL 6, check 3)
+abbrev pub pumpsAndSites : Setting → Bool
+pumpsAndSites st = (leb 1 (st .s) && ltb (st .s) (st .n)) && eqb (st .t) 0
+
 -- Are s and t what the question asks for? (PANEL 6, check 3)
 abbrev pub endsFor : Question → Setting → Bool
 endsFor shortestPath st = twoVertices st
 endsFor maximumFlow st = twoVertices st
-endsFor assignment st = bothZero st
+endsFor assignment st = pumpsAndSites st
 endsFor acyclicity st = bothZero st
 endsFor unasked st = false
 

@@ -1,11 +1,12 @@
 -- How many numbers below a bound pass a test: the count is k at most exactly where no k + 1 different numbers pass.
 use mathlib.Core.Path.{_≡_, refl, sym, _∙_, ap, subst}
-use mathlib.Core.Bool.{Bool, true, false}
+use mathlib.Core.Bool.{Bool, true, false, not}
 use mathlib.Core.List.{List, [], _∷_}
-use Prim.Native.Nat.{ℕ, zero, suc, _≤_, _<_}
+use Prim.Native.Nat.{ℕ, zero, suc, _+_, _≤_, _<_}
 use native.Mathlib.Omega.{arith}
 use lib.Dec.{T}
 use lib.ListN.{length}
+use Rattle.prelude.specs.Choice.{indicator}
 use Rattle.prelude.specs.Lists.{Every, Distinct, AtMost}
 use Rattle.prelude.specs.Sums.{sumTo, count}
 use Rattle.prelude.proofs.Lists.{every-map}
@@ -43,3 +44,13 @@ pub at-most→count : (f : ℕ → Bool) (n k : ℕ) → AtMost k (Passes f n) �
 at-most→count f n k h =
     let w : Listed f n = listed f n in
     subst (λ (m : ℕ). m ≤ k) (w .counted) (h (w .numbers) (w .different) (w .each))
+
+-- those that pass and those that do not
+pub count-not : (f : ℕ → Bool) (n : ℕ) → count (λ i. not (f i)) n + count f n ≡ n
+unfolding sumTo
+count-not f zero = refl
+count-not f (suc n) = go (f n) (count-not f n)
+  where
+    go : (b : Bool) → count (λ i. not (f i)) n + count f n ≡ n → (count (λ i. not (f i)) n + indicator (not b)) + (count f n + indicator b) ≡ suc n
+    go true e = omega arith
+    go false e = omega arith

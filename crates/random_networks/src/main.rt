@@ -1,8 +1,10 @@
 // Has the helper annotate random networks, judges its annotations at several points, in another order and twisted, and compares every answer
 // with another implementation. A network is wrong that gets any answer but the true one.
 mod annotations;
+mod other_pumps;
 mod places;
 mod self_loops;
+mod site_marks;
 mod tally;
 mod trial;
 mod twists;

@@ -8,10 +8,12 @@ use testing::files::Files;
 use testing::files::START;
 use testing::numbers::minus;
 
-// Its question, how many vertices and records it has, its seed, the key of one of its records, and its true answer.
+// Its question, how many vertices it has, its source or the number of its pumps, how many records it has, its seed, the key of one of its
+// records, and its true answer.
 pub struct Case {
     pub question: usize,
     pub n: usize,
+    pub s: usize,
     pub m: usize,
     pub seed: usize,
     pub key: usize,
@@ -22,6 +24,7 @@ pub fn known(net: Net, key: usize, answer: usize) -> Case {
     Case {
         question: net.question,
         n: net.n,
+        s: net.s,
         m: net.m,
         seed: net.seed,
         key: key,

@@ -1,5 +1,6 @@
 // Where each thing is counted, after what is counted of every network, and how it is shown. The names are a list on standard input: the
-// four questions, what is counted of the networks, what is counted of twists, and the kinds of twists.
+// four questions, what is counted of the networks, what is counted of twists, the kinds of twists, and the last of these for a pairing.
+use super::twists::GIVEN;
 use super::twists::KINDS;
 use testing::print;
 use testing::tally::NETWORKS;
@@ -14,17 +15,25 @@ pub const WRONG: usize = 5;
 // Twisted annotations, at 3 × kind from here: those refused, those that are still right, those with another answer.
 pub const TWISTED: usize = 16;
 
+// Which name a kind of twist has.
+fn name(question: u32, k: u32) -> u32 {
+    if question == 3 && k == GIVEN {
+        return std::num::wrapping_add_u32(13, KINDS);
+    }
+    std::num::wrapping_add_u32(13, k)
+}
+
 // What came of one kind of twist.
-fn kind(names: &[u8], k: u32, tally: &Tally) {
+fn kind(names: &[u8], question: u32, k: u32, tally: &Tally) {
     print::text(b"  ");
-    print::name(names, std::num::wrapping_add_u32(13, k));
+    print::name(names, name(question, k));
     print::counts(names, 10, 3, tally, TWISTED + 3 * (k as usize));
 }
 
-fn kinds(names: &[u8], tally: &Tally) {
+fn kinds(names: &[u8], question: u32, tally: &Tally) {
     let mut k: u32 = 0;
     while k < KINDS {
-        kind(names, k, tally);
+        kind(names, question, k, tally);
         k += 1;
     }
 }
@@ -33,5 +42,5 @@ fn kinds(names: &[u8], tally: &Tally) {
 pub fn show(names: &[u8], question: u32, tally: &Tally) {
     print::name(names, std::num::wrapping_sub_u32(question, 1));
     print::counts(names, 4, 6, tally, NETWORKS);
-    kinds(names, tally);
+    kinds(names, question, tally);
 }

@@ -2,8 +2,10 @@
 use super::annotations::exchange;
 use super::annotations::number_at;
 use super::annotations::record_at;
+use super::other_pumps;
 use super::places::Case;
 use super::self_loops;
+use super::site_marks;
 use reference::random::below;
 use reference::rows::head;
 use reference::rows::tail;
@@ -20,12 +22,13 @@ use testing::numbers::minus;
 use testing::numbers::modulo;
 use testing::numbers::plus;
 
-// An amount, a node number, a weight, a record left out, the claim, another record in place of one, two weights, a basin's amount.
+// An amount, a node number, a weight, a record left out, the claim, another record in place of one, two weights, and what is given.
 pub const KINDS: u32 = 8;
 
 pub const LEFT_OUT: usize = 3;
 
-const SELF_LOOP_FILLED: usize = 7;
+// A basin is given an amount; in a pairing, which has no basins, a site another pump, or a mark where the answer is none.
+pub const GIVEN: u32 = 7;
 
 // What has to come of a twisted annotation: a refusal, the true answer still, or either.
 pub const REFUSED: usize = 0;
@@ -34,10 +37,22 @@ pub const RIGHT: usize = 1;
 
 pub const EITHER: usize = 2;
 
+fn gives(kind: usize) -> bool {
+    kind == GIVEN as usize
+}
+
+// Is there anything to give to?
+fn can_give(c: Case, f: &Files) -> bool {
+    if c.question == 3 {
+        return c.answer == NONE || other_pumps::applies(c, f);
+    }
+    self_loops::next(c, f, 0) < c.m
+}
+
 // Is there anything to change? Without records there is a node number and the claim.
 pub fn applies(kind: usize, c: Case, f: &Files) -> bool {
-    if kind == SELF_LOOP_FILLED {
-        return self_loops::next(c, f, 0) < c.m;
+    if gives(kind) {
+        return can_give(c, f);
     }
     kind == 1 || kind == 4 || c.m != 0
 }
@@ -152,12 +167,25 @@ fn fill(c: Case, f: &mut Files, at: usize, round: usize) {
     put_number(f, plus(at, 4), 2, filling(round, w));
 }
 
-// What has to come of it if only the amount of the record at a place was changed, which cancels in a basin and nowhere else.
-fn with_amount(c: Case, f: &Files, at: usize) -> usize {
-    if self_loops::is_allowed(c, f, at) {
+// What has to come of an annotation that is still right, or is not.
+fn right_if(still: bool) -> usize {
+    if still {
         return RIGHT;
     }
     REFUSED
+}
+
+// What has to come of it if only the amount of the record at a place was changed, which cancels in a basin and nowhere else.
+fn with_amount(c: Case, f: &Files, at: usize) -> usize {
+    right_if(self_loops::is_allowed(c, f, at))
+}
+
+// What has to come of it if only a node number was changed, each of which counts once in the sum of a pairing that there is.
+fn with_number(c: Case) -> usize {
+    if c.question == 3 && c.answer != NONE {
+        return REFUSED;
+    }
+    EITHER
 }
 
 // Gives the first basin from record e on an amount; what has to come of it.
@@ -167,13 +195,29 @@ fn filled(round: usize, c: Case, f: &mut Files, e: usize) -> usize {
     with_amount(c, f, at)
 }
 
-// Is a basin given an amount? Where loops are asked for, one whose amount is to change is too: if 1 were taken off, that might have been the
-// only loop that was shown.
-fn fills(kind: usize, c: Case, f: &Files, e: usize) -> bool {
+// Is something given? Where loops are asked for, a basin whose amount is to change is given one too: if 1 were taken off, that might have
+// been the only loop that was shown.
+fn is_given(kind: usize, c: Case, f: &Files, e: usize) -> bool {
     if kind == 0 && c.question == 4 {
         return self_loops::next(c, f, e) == e;
     }
-    kind == SELF_LOOP_FILLED
+    gives(kind)
+}
+
+// Gives a site another pump or a mark; is the annotation still right then?
+fn site_given(round: usize, c: Case, f: &mut Files, e: usize) -> bool {
+    if c.answer == NONE {
+        return site_marks::give(round, c, f);
+    }
+    other_pumps::give(round, c, f, e)
+}
+
+// Gives something to a site, or to a basin; what has to come of it.
+fn given(round: usize, c: Case, f: &mut Files, e: usize) -> usize {
+    if c.question == 3 {
+        return right_if(site_given(round, c, f, e));
+    }
+    filled(round, c, f, e)
 }
 
 // Gives the head of a record the node number of its tail.
@@ -212,7 +256,7 @@ fn flipped(kind: usize, round: usize, c: Case, f: &mut Files) -> usize {
     flip(f, place(kind, round, c), bits(kind, round));
     match kind {
         0 => with_amount(c, f, record_at(c.n, chosen(c, round))),
-        1 => EITHER,
+        1 => with_number(c),
         _ => REFUSED,
     }
 }
@@ -224,8 +268,8 @@ pub fn twist(kind: usize, round: usize, c: Case, f: &mut Files) -> usize {
         leave_out(f, c, e);
         return REFUSED;
     }
-    if fills(kind, c, f, e) {
-        return filled(round, c, f, e);
+    if is_given(kind, c, f, e) {
+        return given(round, c, f, e);
     }
     if kind == 1 && c.question == 4 {
         return ranked(round, c, f);

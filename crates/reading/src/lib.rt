@@ -16,17 +16,17 @@ use checks::rows::question_of;
 fn sides_ok(question: Question, st: HeldSetting, arc: Record) -> bool
     ensures { λ r. ⌜ r ≡ sidesFor (questionHeld question) (asked st) (arcHeld arc) ⌝ }
 {
-    let half = pumps(st) as u32;
+    let first_site = pumps(st) as u32;
     let tail = arc.tail;
     let head = arc.head;
     match question {
         Question::Path => true,
         Question::Flow => true,
         Question::Assignment => {
-            if half <= tail {
+            if first_site <= tail {
                 return false;
             }
-            half <= head
+            first_site <= head
         }
         Question::Acyclicity => true,
         Question::Unasked => false,

@@ -41,10 +41,19 @@ fn self_loops_before(question: usize, seed: usize, i: usize) -> usize {
     rounds(period, plus(i, below(period, seed, 0, 0)))
 }
 
+// The weight of record i; to a contested site of a pairing a sixteenth of it.
+fn weight_of(net: Net, i: usize) -> usize {
+    let w = weight(net.kind, net.seed, i);
+    if net.question == 3 && pairs::is_contested(net.shape, i) {
+        return w / 16;
+    }
+    w
+}
+
 // The ends of record i. Basins stand between the records of a network's shape, so that a chain stays whole.
 fn ends(net: Net, i: usize) -> usize {
     if net.question == 3 {
-        return pairs::ends(net.shape, net.n / 2, net.seed, i);
+        return pairs::ends(net.shape, net.s, minus(net.n, net.s), net.seed, i);
     }
     let before = self_loops_before(net.question, net.seed, i);
     if before < self_loops_before(net.question, net.seed, plus(i, 1)) {
@@ -59,7 +68,7 @@ pub fn write(net: Net, a: &mut Rows) {
     let mut i: usize = 0;
     while i < m {
         let k = place(net.question, net.shape, i);
-        let r = joined(ends(net, k), weight(net.kind, net.seed, k));
+        let r = joined(ends(net, k), weight_of(net, k));
         put_record(a, i, r);
         i += 1;
     }

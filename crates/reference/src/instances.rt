@@ -1,7 +1,11 @@
-// Which network a seed stands for: its size, its source and sink, the shape of its arcs and the kind of its weights, and its basins.
+// Which network a seed stands for: its size, its source and sink, or how many pumps it has, the shape of its arcs and the kind of its
+// weights, and its basins.
 use super::random::below;
+use testing::numbers::minus;
+use testing::numbers::modulo;
 use testing::numbers::plus;
 
+// For a pairing s is the number of pumps.
 pub struct Net {
     pub question: usize,
     pub n: usize,
@@ -18,21 +22,51 @@ fn class(seed: usize) -> usize {
     seed % 64
 }
 
-// How many vertices; even for a pairing.
+// How many sizes small networks have: more for a pairing, of whose vertices only some are sites.
+fn sizes(question: usize) -> usize {
+    if question == 3 {
+        return 20;
+    }
+    11
+}
+
+// How many vertices a large network has less than others: 0, or for a pairing 0 or 1, so that their number is odd or even.
+fn fewer(question: usize, seed: usize) -> usize {
+    if question == 3 {
+        return below(2, seed, 0, 1);
+    }
+    0
+}
+
+// How many vertices.
 fn vertices(question: usize, seed: usize) -> usize {
     if class(seed) < 60 {
-        if question == 3 {
-            return 2 + 2 * (below(6, seed, 0, 1) % 6);
-        }
-        return 2 + below(11, seed, 0, 1) % 11;
+        return plus(2, below(sizes(question), seed, 0, 1));
     }
     if class(seed) < 62 {
-        return 40;
+        return minus(40, fewer(question, seed));
     }
-    if question == 3 {
-        return 254;
+    minus(255, fewer(question, seed))
+}
+
+// How many of n vertices are to be sites of a pairing, by turns: as many as pumps, half as many, about a tenth, one, all but one, one more
+// than half, any number.
+fn wanted_sites(n: usize, seed: usize) -> usize {
+    match plus(seed, seed / 64) % 11 {
+        0 | 1 | 2 => n / 2,
+        3 | 4 => n / 3,
+        5 | 6 => n / 11 + 1,
+        7 => 1,
+        8 => minus(n, 1),
+        9 => n / 2 + 1,
+        _ => below(n, seed, 0, 4),
     }
-    255
+}
+
+// How many pumps a pairing of n vertices has: all but its sites, with at least one of each.
+fn pumps(n: usize, seed: usize) -> usize {
+    let sites = plus(1, modulo(minus(wanted_sites(n, seed), 1), minus(n, 1)));
+    minus(n, sites)
 }
 
 // How many arcs.
@@ -49,16 +83,13 @@ fn arcs(seed: usize) -> usize {
     4096
 }
 
-// 8 shapes of pairings, 12 where loops are asked for, 10 of other networks, of which the chains come up in all kinds at the size of 255
+// 12 shapes where loops are asked for, 10 of pairings, 10 of other networks, of which the chains come up in all kinds at the size of 255
 // vertices and 400 arcs.
 fn shape(question: usize, seed: usize) -> usize {
-    if question == 3 {
-        return seed / 64 % 8;
-    }
     if question == 4 {
         return plus(seed, seed / 64) % 12;
     }
-    if class(seed) == 62 {
+    if question != 3 && class(seed) == 62 {
         return 1 + seed / 64 % 2;
     }
     seed / 64 % 10
@@ -91,12 +122,12 @@ fn end_to_end(shape: usize) -> bool {
     shape == 1 || shape == 2 || shape == 5 || shape == 6
 }
 
-// The first vertex for such a shape, for a pairing and for loops, else any.
+// The first vertex for such a shape and for loops, else any. For a pairing the number of pumps, which stands in its place.
 fn source(question: usize, n: usize, shape: usize, seed: usize) -> usize {
-    if 2 < question {
-        return 0;
+    if question == 3 {
+        return pumps(n, seed);
     }
-    if end_to_end(shape) {
+    if question == 4 || end_to_end(shape) {
         return 0;
     }
     below(n, seed, 0, 4)

@@ -23,7 +23,7 @@ pub fn truth(net: Net, a: &mut Rows) -> usize {
     match question {
         1 => routes::least(a, net.n, net.m, net.s, net.t),
         2 => discharges::greatest(a, net.n, net.s, net.t),
-        3 => pairings::least(a, net.n),
+        3 => pairings::least(a, net.s, net.n),
         _ => loops::zero_or_none(a, net.n, net.m),
     }
 }

@@ -10,7 +10,7 @@ use super::rows::tail;
 use super::rows::weight;
 use testing::numbers::minus;
 
-// What a pair costs that no record has: more than any whole pairing of records.
+// What stands for the cost of a pair that no record has: more than any record costs.
 pub const ABSENT: usize = 16777216;
 
 fn lower(a: &mut Rows, r: usize) {

@@ -8,12 +8,13 @@ ghost use Rattle.prelude.specs.Choice.{implies};
 ghost use Rattle.prelude.specs.Integers.{eqZ};
 ghost use Rattle.arc_records.specs.Arcs.{arcHeld};
 ghost use Rattle.network.specs.Network.{loadHeld};
-ghost use Rattle.network.specs.Certificate.{staysInside, separates};
+ghost use Rattle.network.specs.Certificate.{staysInside, separates, pumpNotNegative};
 ghost use Rattle.network.specs.Tests.{claimNumber, claimOf, claimOk, nodeOk};
 ghost use Rattle.checks.specs.Held.{asked, rulesHeld};
 ghost use Rattle.rules.specs.Held.{endsHeld};
 use arc_records::Record;
 use checks::HeldSetting;
+use checks::pumps;
 use checks::rows::Row;
 use checks::rows::row_of;
 
@@ -86,6 +87,16 @@ fn separates(st: HeldSetting, v: u32, z: i32) -> bool
     true
 }
 
+// Is the node number of a pump not negative?
+fn pump_not_negative(st: HeldSetting, v: u32, z: i32) -> bool
+    ensures { λ r. ⌜ r ≡ pumpNotNegative (asked st) v z ⌝ }
+{
+    if v < pumps(st) as u32 {
+        return words::signed::not_negative(z);
+    }
+    true
+}
+
 // The rule on the node number of a vertex, besides the range.
 fn on_node(row: Row, st: HeldSetting, v: u32, z: i32) -> bool
     ensures { λ r. ⌜ r ≡ rulesHeld row .onNode (asked st) v z ⌝ }
@@ -93,7 +104,7 @@ fn on_node(row: Row, st: HeldSetting, v: u32, z: i32) -> bool
     match row {
         Row::PathValue => source_zero(st, v, z),
         Row::FlowValue => separates(st, v, z),
-        Row::AssignmentValue => true,
+        Row::AssignmentValue => pump_not_negative(st, v, z),
         Row::PathNone => separates(st, v, z),
         Row::AssignmentNone => true,
         Row::AcyclicityValue => true,

@@ -1,16 +1,16 @@
-// The rules of finishing (PANEL 6) as functions: check 15, the balances, and check 16, the two sums, the marked pumps and sites, or whether an amount is set.
+// The rules of finishing (PANEL 6) as functions: check 15, the balances, and check 16, the two sums, the sites and pumps without a mark, or whether an amount is set.
 ghost use mathlib.Core.Path.{_≡_};
+ghost use mathlib.Core.Bool.{not};
 ghost use mathlib.Core.List.{[], _∷_};
 ghost use Prim.Native.Nat.{_+_, _-_};
-ghost use lib.Dec.{ltb};
 ghost use lib.IntN.{pos};
 ghost use lib.Signed.{ltZ};
 ghost use Rattle.prelude.specs.Checks.{_unless_, firstBroken};
 ghost use Rattle.prelude.specs.Integers.{eqZ};
 ghost use Rattle.prelude.specs.Lists.{at};
-ghost use Rattle.prelude.specs.Sums.{sumToℤ, allTo};
+ghost use Rattle.prelude.specs.Sums.{sumToℤ, count, allTo};
 ghost use Rattle.words.specs.Marks.{isMarked};
-ghost use Rattle.network.specs.Certificate.{flowRules, pathBalance, assignmentBalance, potentialGap, markedPumps, markedSites};
+ghost use Rattle.network.specs.Certificate.{flowRules, pathBalance, assignmentBalance, potentialGap, moreSitesUnmarked};
 ghost use Rattle.checks.specs.Held.{asked, rulesHeld};
 ghost use Rattle.totals.specs.Held.{sumsHeld};
 use arc_records::Balances;
@@ -24,6 +24,7 @@ use words::signed::add;
 use words::signed::equal;
 use words::signed::subtract;
 use words::signed::widened;
+use words::signed::zero_or_one;
 
 // The entry of a vertex, 0 past the end.
 fn potential_at(potentials: Potentials, v: u8) -> i32
@@ -76,13 +77,12 @@ fn flow_balance(st: HeldSetting, v: u8, b: i64) -> bool
     b == 0
 }
 
-// Is b the balance of the vertex v of an assignment?
+// Is b a balance of the vertex v of an assignment?
 fn assignment_balance(st: HeldSetting, v: u8, b: i64) -> bool
-    ensures { λ r. ⌜ r ≡ eqZ b (assignmentBalance (asked st) v) ⌝ }
+    ensures { λ r. ⌜ r ≡ assignmentBalance (asked st) v b ⌝ }
 {
-    let half = pumps(st);
-    if v < half {
-        return b == 1;
+    if v < pumps(st) {
+        return zero_or_one(b);
     }
     b == -1
 }
@@ -147,21 +147,32 @@ fn potential_gap(st: HeldSetting, potentials: Potentials) -> i64
     ensures { λ r. ⌜ r ≡ potentialGap (asked st) (at potentials) ⌝ }
 {
     let n = st.n;
-    let half = pumps(st);
-    let of_pumps = sum_between(potentials, 0, half);
-    let of_sites = sum_between(potentials, half, n);
+    let first_site = pumps(st);
+    let of_pumps = sum_between(potentials, 0, first_site);
+    let of_sites = sum_between(potentials, first_site, n);
     subtract(of_sites, of_pumps)
 }
 
-// Are more pumps marked than sites?
-fn more_pumps(st: HeldSetting, marks: [u64; 4]) -> bool
-    ensures { λ r. ⌜ r ≡ ltb (markedSites (asked st) (isMarked marks)) (markedPumps (asked st) (isMarked marks)) ⌝ }
+// How many of the vertices from low to high - 1 have no mark: all of them, less the ones under their mask.
+fn count_unmarked(marks: [u64; 4], low: u8, high: u8) -> u32
+    ensures { λ r. ⌜ r ≡ count (λ i. not (isMarked marks (low + i))) (high - low) ⌝ }
 {
-    let n = st.n as u32;
-    let half = pumps(st) as u32;
-    let of_pumps = count_marked(marks, 0, half);
-    let of_sites = count_marked(marks, half, n);
-    of_sites < of_pumps
+    let first = low as u32;
+    let end = high as u32;
+    let marked = count_marked(marks, first, end);
+    if end <= first {
+        return 0;
+    }
+    end - first - marked
+}
+
+// Have more sites than pumps no mark?
+fn more_sites_unmarked(st: HeldSetting, marks: [u64; 4]) -> bool
+    ensures { λ r. ⌜ r ≡ moreSitesUnmarked (asked st) (isMarked marks) ⌝ }
+{
+    let n = st.n;
+    let first_site = pumps(st);
+    count_unmarked(marks, 0, first_site) < count_unmarked(marks, first_site, n)
 }
 
 // Is the cost the node number of the sink?
@@ -195,7 +206,7 @@ fn some_amount(cost: i64) -> bool
     0 < cost
 }
 
-// 16: do the two sums agree? For none: are more pumps marked than sites, or is an amount set?
+// 16: do the two sums agree? For none: have more sites than pumps no mark, or is an amount set?
 fn sums_ok(
     row: Row,
     st: HeldSetting,
@@ -212,7 +223,7 @@ fn sums_ok(
         Row::FlowValue => flow_is_cut(st, balances, cut),
         Row::AssignmentValue => cost_is_gap(st, potentials, cost),
         Row::PathNone => true,
-        Row::AssignmentNone => more_pumps(st, marks),
+        Row::AssignmentNone => more_sites_unmarked(st, marks),
         Row::AcyclicityValue => true,
         Row::AcyclicityNone => some_amount(cost),
         Row::Nothing => false,

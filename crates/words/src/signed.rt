@@ -41,6 +41,20 @@ pub fn less(a: i32, b: i32) -> bool
     a < b
 }
 
+// Is z at least 0?
+pub fn not_negative(z: i32) -> bool
+    ensures { λ r. ⌜ r ≡ leZ (pos 0) z ⌝ }
+{
+    0 <= z
+}
+
+// Is z 0 or 1?
+pub fn zero_or_one(z: i64) -> bool
+    ensures { λ r. ⌜ r ≡ between (pos 0) (pos 1) z ⌝ }
+{
+    0 <= z && z <= 1
+}
+
 // Are the two equal?
 pub fn equal(a: i64, b: i64) -> bool
     ensures { λ r. ⌜ r ≡ eqZ a b ⌝ }

@@ -8,7 +8,7 @@ use Rattle.arc_records.specs.Arcs.{delta}
 use Rattle.network.specs.Network.{sumOf, sumAcross, loadsOf}
 use Rattle.network.specs.Tests.{readingAll}
 use Rattle.format.specs.Files.{networkFile}
-use Rattle.worked_examples.specs.Table.{R1, R2, R3, R4, R5, R6, L1, L2}
+use Rattle.worked_examples.specs.Table.{R1, R2, R3, R4, R5, R6, L1, L2, P1, P2}
 use Rattle.worked_examples.specs.Promises.{WorkedExamples}
 use Rattle.worked_examples.proofs.Routes.{r1-lengths, r4-lengths}
 use Rattle.worked_examples.proofs.Plans.{plan-yields}
@@ -34,4 +34,6 @@ worked-examples =
     and record { keyed = refl; taken = tt }
     and plan-yields L1 refl refl refl refl refl refl tt tt tt
     and plan-yields L2 refl refl refl refl refl refl tt tt tt
+    and plan-yields P1 refl refl refl refl refl refl tt tt tt
+    and plan-yields P2 refl refl refl refl refl refl tt tt tt
     and tt

@@ -1,8 +1,8 @@
--- The worked examples R1 to R10, L1 and L2 (PANEL 13), one table, and what it means that the definitions yield the outcomes of an example.
+-- The worked examples R1 to R10, L1, L2, P1 and P2 (PANEL 13), one table, and what it means that the definitions yield the outcomes of an example.
 use mathlib.Core.Path.{_≡_}
 use mathlib.Core.List.{List, [], _∷_, map}
 use Prim.Native.Nat.{ℕ}
-use lib.IntN.{ℤ, pos, negℤ}
+use lib.IntN.{ℤ, pos}
 use lib.ListN.{length}
 use Rattle.prelude.specs.Lists.{Every, Member, at}
 use Rattle.field.specs.Field.{Agree}
@@ -53,7 +53,7 @@ pub record Meeting : Type 0 where
   pub repeated : List Arc
   pub points : List ℕ
 
--- R1 to R6, L1 and L2 are plans, R7 and R10 products, R8 and R9 meetings.
+-- R1 to R6, L1, L2, P1 and P2 are plans, R7 and R10 products, R8 and R9 meetings.
 pub data Example : Type 0 where
   plan : Plan → Example
   product : Product → Example
@@ -155,16 +155,16 @@ R2 = record {
 -- R3: a pairing of cost 5.
 abbrev pub R3 : Plan
 R3 = record {
-  setting = record { question = 3; n = 4; s = 0; t = 0 };
+  setting = record { question = 3; n = 4; s = 2; t = 0 };
   net = arcOf 0 2 3 ∷ arcOf 0 3 1 ∷ arcOf 1 2 4 ∷ arcOf 1 3 5 ∷ [];
   file =
-      0x44 ∷ 0x52 ∷ 0x4E ∷ 0x00 ∷ 0x01 ∷ 0x03 ∷ 0x04 ∷ 0x00 ∷ 0x00 ∷ 0x00 ∷ 0x04
+      0x44 ∷ 0x52 ∷ 0x4E ∷ 0x00 ∷ 0x01 ∷ 0x03 ∷ 0x04 ∷ 0x02 ∷ 0x00 ∷ 0x00 ∷ 0x04
       ∷ 0x00 ∷ 0x02 ∷ 0x00 ∷ 0x03
       ∷ 0x00 ∷ 0x03 ∷ 0x00 ∷ 0x01
       ∷ 0x01 ∷ 0x02 ∷ 0x00 ∷ 0x04
       ∷ 0x01 ∷ 0x03 ∷ 0x00 ∷ 0x05 ∷ [];
   answer = value 5;
-  numbers = pos 0 ∷ negℤ (pos 1) ∷ pos 3 ∷ pos 1 ∷ [];
+  numbers = pos 1 ∷ pos 0 ∷ pos 4 ∷ pos 2 ∷ [];
   amounts = 0 ∷ 1 ∷ 1 ∷ 0 ∷ [];
 }
 
@@ -193,9 +193,9 @@ R5 = record {
 -- R6: no channels, so no pairing. The pumps are marked.
 abbrev pub R6 : Plan
 R6 = record {
-  setting = record { question = 3; n = 4; s = 0; t = 0 };
+  setting = record { question = 3; n = 4; s = 2; t = 0 };
   net = [];
-  file = 0x44 ∷ 0x52 ∷ 0x4E ∷ 0x00 ∷ 0x01 ∷ 0x03 ∷ 0x04 ∷ 0x00 ∷ 0x00 ∷ 0x00 ∷ 0x00 ∷ [];
+  file = 0x44 ∷ 0x52 ∷ 0x4E ∷ 0x00 ∷ 0x01 ∷ 0x03 ∷ 0x04 ∷ 0x02 ∷ 0x00 ∷ 0x00 ∷ 0x00 ∷ [];
   answer = none;
   numbers = pos 1 ∷ pos 1 ∷ pos 0 ∷ pos 0 ∷ [];
   amounts = [];
@@ -251,6 +251,34 @@ L2 = record {
   amounts = 0 ∷ 1 ∷ 0 ∷ 1 ∷ 1 ∷ [];
 }
 
+-- P1: two pumps and one site; the cheaper pump serves it, the other stays spare.
+abbrev pub P1 : Plan
+P1 = record {
+  setting = record { question = 3; n = 3; s = 2; t = 0 };
+  net = arcOf 0 2 5 ∷ arcOf 1 2 3 ∷ [];
+  file =
+      0x44 ∷ 0x52 ∷ 0x4E ∷ 0x00 ∷ 0x01 ∷ 0x03 ∷ 0x03 ∷ 0x02 ∷ 0x00 ∷ 0x00 ∷ 0x02
+      ∷ 0x00 ∷ 0x02 ∷ 0x00 ∷ 0x05
+      ∷ 0x01 ∷ 0x02 ∷ 0x00 ∷ 0x03 ∷ [];
+  answer = value 3;
+  numbers = pos 0 ∷ pos 0 ∷ pos 3 ∷ [];
+  amounts = 0 ∷ 1 ∷ [];
+}
+
+-- P2: one pump and two sites, which it cannot both serve. No junction is marked.
+abbrev pub P2 : Plan
+P2 = record {
+  setting = record { question = 3; n = 3; s = 1; t = 0 };
+  net = arcOf 0 1 1 ∷ arcOf 0 2 1 ∷ [];
+  file =
+      0x44 ∷ 0x52 ∷ 0x4E ∷ 0x00 ∷ 0x01 ∷ 0x03 ∷ 0x03 ∷ 0x01 ∷ 0x00 ∷ 0x00 ∷ 0x02
+      ∷ 0x00 ∷ 0x01 ∷ 0x00 ∷ 0x01
+      ∷ 0x00 ∷ 0x02 ∷ 0x00 ∷ 0x01 ∷ [];
+  answer = none;
+  numbers = pos 0 ∷ pos 0 ∷ pos 0 ∷ [];
+  amounts = 0 ∷ 0 ∷ [];
+}
+
 -- The table (PANEL 13).
 abbrev pub table : List Example
-table = plan R1 ∷ plan R2 ∷ plan R3 ∷ plan R4 ∷ plan R5 ∷ plan R6 ∷ product R7 ∷ meeting R8 ∷ meeting R9 ∷ product R10 ∷ plan L1 ∷ plan L2 ∷ []
+table = plan R1 ∷ plan R2 ∷ plan R3 ∷ plan R4 ∷ plan R5 ∷ plan R6 ∷ product R7 ∷ meeting R8 ∷ meeting R9 ∷ product R10 ∷ plan L1 ∷ plan L2 ∷ plan P1 ∷ plan P2 ∷ []

@@ -36,7 +36,7 @@ module _ (c : tie.After-solve) where
   found-as : (r : Match) → c .solve .result ≡ r → Case r
   found-as r e =
       match-case St R (start .pre .0 .0) (start .pre .0 .1) (start .pre .1 .2) (start .pre .1 .0)
-      (subst (λ (f : Match). MatchOutcome R (pumps St) (now (start .args .pi)) (now (start .args .amounts)) Pi' X' f) e (c .solve .ensures))
+      (subst (λ (f : Match). MatchOutcome R (pumps St) (now (start .args .pi)) (now (start .args .amounts)) Pi' X' f) e (rw (c .before .before .before .pumps .ensures) at (c .solve .ensures)))
 
   same-numbers : length (now (start .args .numbers)) ≡ length Pi'
   same-numbers = start .pre .1 .1 ∙ sym (c .solve .kept .1 .1 .0 ∙ start .pre .1 .2)
@@ -64,6 +64,7 @@ pub answer-assignment-spec : {M : Type 1} → statement M
 answer-assignment-spec =
     tie.close
     (tie.spec
+    (λ c κs. search needs)
     (λ c. search needs)
     (λ c κs. search needs)
     (λ c. search needs)

@@ -17,6 +17,6 @@ ends-ok-spec =
     (λ c. search needs)
     (λ c. rw (c .before .enum-told .given .1) (c .two-vertices .ensures))
     (λ c. rw (c .before .enum-told2 .given .1) (c .two-vertices2 .ensures))
-    (λ c. rw (c .before .enum-told3 .given .1) (c .both-zero .ensures))
-    (λ c. rw (c .before .enum-told4 .given .1) (c .both-zero2 .ensures))
+    (λ c. rw (c .before .enum-told3 .given .1) (c .pumps-and-sites .ensures))
+    (λ c. rw (c .before .enum-told4 .given .1) (c .both-zero .ensures))
     (λ c. rw (c .enum-told5 .given .1)))

@@ -1,4 +1,3 @@
-use borrow.Author.Needs.{needs}
 use Rattle.prelude.proofs.Tested.{tested}
 use Rattle.checks.proofs.size_ok.Statement.{statement}
 use Rattle.checks.proofs.size_ok.Tie as tie
@@ -8,7 +7,4 @@ size-ok-spec =
     tie.close
     (tie.spec
     (λ c. search tested depth 12)
-    (λ c. search tested depth 12)
-    (λ c κs. search needs)
-    (λ c κs. search needs)
-    (λ c. rw (← c .before .question-of .ensures) (search tested depth 12)))
+    (λ c. search tested depth 12))

@@ -1,10 +1,9 @@
-use mathlib.Core.Path.{_≡_, subst}
-use Prim.Native.Nat.{ℕ}
+use mathlib.Core.Path.{_≡_}
 use native.Mathlib.Omega.{arith}
 use borrow.Author.Needs.{needs}
 use Rattle.packed_arcs.specs.Entries.{entry}
 use Rattle.arc_index.specs.ArcIndex.{noArc}
-use Rattle.match_offers.specs.Offers.{Cheapest, Offer}
+use Rattle.match_offers.specs.Offers.{Offer}
 use Rattle.arc_index.specs.Columns.{recordTails, recordHeads, recordWeights}
 use Rattle.match_bids.proofs.Bidding.{affordable, offer, room, taken-offer, bare-of}
 use Rattle.arc_index.proofs.Columns.{tails-len}
@@ -13,63 +12,49 @@ use Rattle.match_bids.proofs.bid.Tie as tie
 
 -- the arc that was chosen is an offer
 here : (c : tie.After-choose)
-    → let a = c .before .before .before .before .before .before .before .before .before .before .before .before .before .before .before .before .before .before .before .args in
+    → let a = c .before .before .before .before .before .before .before .before .before .before .before .before .before .before .before .before .args in
     let rs = a .records .now in
     Offer (recordTails rs) (recordHeads rs) (recordWeights rs) (a .pi .now) (a .t) (c .choose .result) (c .before .before .before .before .cost-of .result)
 here c =
     let at-if4 = c .before .before .before in
     let after-cost-of = at-if4 .before in
     let at-if3 = after-cost-of .before .before in
-    let after-cheapest2 = at-if3 .before in
-    let after-tail-at = after-cheapest2 .before .before in
-    let at-if2 = after-tail-at .before in
-    let after-cheapest = at-if2 .before in
-    let s = after-cheapest .before .before .before .before .before .before .before .before in
-    let rs = s .args .records .now in
-    let e1 = after-cheapest .cheapest .result in
-    offer (s .args .t) e1 (after-cheapest2 .cheapest2 .result) (c .choose .result) (after-cost-of .cost-of .result) (s .pre .0) (at-if2 .if2 .left)
-    (at-if3 .if3 .left) (after-cheapest .cheapest .ensures)
-    (subst (λ (k : ℕ). Cheapest (recordTails rs) (recordHeads rs) (recordWeights rs) (s .args .pi .now) (s .args .t) k
-    (after-cheapest2 .cheapest2 .result)) (after-tail-at .tail-at .ensures) (after-cheapest2 .cheapest2 .ensures)) (after-cost-of .cost-of .ensures)
-    (at-if4 .if4 .left) (c .choose .ensures)
+    let at-if2 = at-if3 .before in
+    let after-two = at-if2 .before in
+    let s = after-two .before .before .before .before .before .before .before .before in
+    offer (s .args .t) _ _ (c .choose .result) (after-cost-of .cost-of .result) (s .pre .0) (at-if2 .if2 .left) (at-if3 .if3 .left) (after-two .two-cheapest .ensures)
+    (after-cost-of .cost-of .ensures) (at-if4 .if4 .left) (c .choose .ensures)
 
 -- before that t was exposed
 exposed : (c : tie.Else1) → entry (c .before .before .before .before .before .before .args .mate .now) (c .before .before .before .before .before .before .args .t) ≡ noArc
 exposed c = let s = c .before .before .before .before .before .before in bare-of (s .args .t) (s .pre .0) (s .pre .1 .1) (c .if1 .left)
 
-cheapest-requires : tie.Need-cheapest-requires
-cheapest-requires c κs =
+two-cheapest-requires : tie.Need-two-cheapest-requires
+two-cheapest-requires c κs =
     let s = c .before .before .before .before .before .before .before in
-    ((s .pre .0 .index, omega (arith, s .pre .1 .1, s .pre .0 .graph .small)), affordable (s .pre .0))
-
-tail-at-requires : tie.Need-tail-at-requires
-tail-at-requires c κs =
-    let s = c .before .before .before .before .before .before .before .before .before in
-    omega (arith, c .before .cheapest .ensures .arc (c .if2 .left), tails-len (s .args .records .now))
-
-cheapest-requires-2 : tie.Need-cheapest-requires-2
-cheapest-requires-2 c κs =
-    let s = c .before .before .before .before .before .before .before .before .before .before .before in
-    ((s .pre .0 .index, omega (arith, s .pre .1 .1, s .pre .0 .graph .small)), affordable (s .pre .0))
+    ((s .pre .0 .index, omega (arith, s .pre .1 .1, s .pre .0 .graph .small)), (affordable (s .pre .0), s .pre .0 .graph .small))
 
 cost-of-requires : tie.Need-cost-of-requires
 cost-of-requires c κs =
-    let s = c .before .before .before .before .before .before .before .before .before .before .before .before .before .before in
-    (affordable (s .pre .0), omega (arith, c .before .before .cheapest2 .ensures .arc (c .before .if3 .left), tails-len (s .args .records .now)))
+    let at-if3 = c .before in
+    let at-if2 = at-if3 .before in
+    let after-two = at-if2 .before in
+    let s = after-two .before .before .before .before .before .before .before .before in
+    (affordable (s .pre .0), omega (arith, after-two .two-cheapest .ensures .second (at-if2 .if2 .left) .arc (at-if3 .if3 .left), tails-len (s .args .records .now)))
 
 choose-requires : tie.Need-choose-requires
 choose-requires c κs =
-    let at-if2 = c .before .before .before .before .before .before .before .before .before in
-    let after-cheapest = at-if2 .before in
-    let s = after-cheapest .before .before .before .before .before .before .before .before in (
+    let at-if2 = c .before .before .before .before .before .before in
+    let after-two = at-if2 .before in
+    let s = after-two .before .before .before .before .before .before .before .before in (
       affordable (s .pre .0),
-      omega (arith, after-cheapest .cheapest .ensures .arc (at-if2 .if2 .left), tails-len (s .args .records .now)),
+      omega (arith, after-two .two-cheapest .ensures .first .arc (at-if2 .if2 .left), tails-len (s .args .records .now)),
       s .pre .0 .pairs .len,
     )
 
 assign-requires : tie.Need-assign-requires
 assign-requires c κs =
-    let there = c .before .before .before .before .before .before .before .before .before .before .before .before .before .before .before in
+    let there = c .before .before .before .before .before .before .before .before .before .before .before .before in
     let s = there .before .before .before .before .before .before in
     room (s .pre .0) (s .pre .1 .0) (s .pre .1 .1) (exposed there) (here (c .before .before))
 
@@ -77,7 +62,7 @@ returns-5 : tie.Need-returns-5
 returns-5 c =
     let after-assign = c .before .before .before .before in
     let there = after-assign .before .before .before in
-    let there-2 = there .before .before .before .before .before .before .before .before .before .before .before .before .before in
+    let there-2 = there .before .before .before .before .before .before .before .before .before .before in
     let s = there-2 .before .before .before .before .before .before in
     taken-offer (s .pre .0) (s .pre .1 .0) (s .pre .1 .1) (exposed there-2) (here there) _ _ (after-assign .assign .ensures .0)
     (after-assign .assign .ensures .1)
@@ -89,16 +74,14 @@ bid-spec =
     (λ c. search needs)
     (λ c. search needs)
     (λ c. c .before .before .before .before .before .before .pre .0)
-    cheapest-requires
+    two-cheapest-requires
     (λ c. search needs)
     (λ c. c .before .before .before .before .before .before .before .before .before .pre .0)
-    tail-at-requires
-    cheapest-requires-2
     (λ c. search needs)
-    (λ c. c .before .before .before .before .before .before .before .before .before .before .before .before .before .pre .0)
+    (λ c. c .before .before .before .before .before .before .before .before .before .before .pre .0)
     cost-of-requires
     (λ c. search needs)
-    (λ c. c .before .before .before .before .before .before .before .before .before .before .before .before .before .before .before .before .pre .0)
+    (λ c. c .before .before .before .before .before .before .before .before .before .before .before .before .before .pre .0)
     choose-requires
     assign-requires
     (λ c. search needs)

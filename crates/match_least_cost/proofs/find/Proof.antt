@@ -1,5 +1,4 @@
 use mathlib.Core.Path.{refl, sym, _∙_}
-use native.Mathlib.Omega.{arith}
 use borrow.Author.Needs.{needs}
 use Rattle.match_rounds.proofs.Serving.{state-at, pass-at}
 use Rattle.match_least_cost.proofs.Finding.{outcome-at}
@@ -20,7 +19,7 @@ write-found-requires c κs =
     let dist-len = after-serve-all .serve-all .kept .1 .1 .1 .1 .0 in
     let pi-len = after-serve-all .serve-all .kept .1 .1 .1 .0 in (
       pass-at (sym dist-len) (sym pi-len) (after-serve-all .serve-all .ensures),
-      (omega (arith, dist-len, pi-len, after-bids .index-and-bid .kept .1 .1 .1 .1 .0, p .0 .1), p .1 .0 .3),
+      p .1 .0 .3,
     )
 
 -- the lengths of links, mate and pi stay

@@ -44,7 +44,7 @@ tail-at-requires c κs = matched c .0
 mul-far-mark-2 : tie.Need-mul-far-mark-2
 mul-far-mark-2 c =
     let start = c .before .before .before .before .before .before .before .before .before in
-    omega (arith, matched (c .before) .1, c .tail-at .ensures, start .pre .0 .half)
+    omega (arith, matched (c .before) .1, c .tail-at .ensures, start .pre .0 .small)
 
 shared-slice-read-far-mark-2 : tie.Need-shared-slice-read-far-mark-2
 shared-slice-read-far-mark-2 c = omega (arith, matched (c .before .before) .1, c .before .tail-at .ensures)

@@ -6,7 +6,7 @@ use lib.ListN.{length}
 use borrow.Author.Needs.{needs}
 use Rattle.prelude.proofs.Filling.{Filling, fill-start, fill-turn, fill-end}
 use Rattle.arc_index.specs.Columns.{recordHeads}
-use Rattle.match_results.specs.Results.{matchedAmount}
+use Rattle.match_state.specs.Amounts.{matchedAmount}
 use Rattle.arc_index.proofs.Columns.{heads-len}
 use Rattle.match_results.proofs.write_amounts.Statement.{statement}
 use Rattle.match_results.proofs.write_amounts.Tie as tie

@@ -1,3 +1,4 @@
+use mir.Facts.{toZ-ofZ}
 use borrow.Author.Needs.{needs}
 use Rattle.rules.proofs.Signed.{signed}
 use Rattle.totals.proofs.assignment_balance.Statement.{statement}
@@ -8,5 +9,6 @@ assignment-balance-spec =
     tie.close
     (tie.spec
     (λ c κs. search needs)
-    (λ c. let h = rw (c .before .pumps .ensures) at (c .if1 .taken) in search signed depth 12)
+    (λ c κs. search needs)
+    (λ c. let h = rw (c .before .before .pumps .ensures) at (c .before .if1 .taken) in let e = simp (toZ-ofZ (c .before .before .before .fits .b)) at (c .zero-or-one .ensures) in search signed depth 12)
     (λ c. let h = rw (c .before .pumps .ensures) at (c .if1 .left) in search signed depth 12))

@@ -1,4 +1,4 @@
-use Prim.Native.Nat.{_-_, _/_}
+use Prim.Native.Nat.{_-_}
 use native.Mathlib.Nat.{sub-zero}
 use borrow.Author.Needs.{needs}
 use mir.Syntax.{w64}
@@ -21,4 +21,4 @@ potential-gap-spec =
     let h = c .before .before .before .pumps .ensures in
     let a = c .before .before .before .before .args in
     let e = simp (returned w64 (q .result) (q .ok) (simp h at (q .ensures)), returned w64 (p .result) (p .ok) (simp (sub-zero, h) at (p .ensures))) at (c .subtract .ensures) in
-    returned w64 (c .subtract .result) (c .subtract .ok) (difference (a .potentials) (λ i. search each-sized) (a .st .n / 2) (a .st .n - a .st .n / 2) (search needs) (search needs) (c .subtract .result) e)))
+    returned w64 (c .subtract .result) (c .subtract .ok) (difference (a .potentials) (λ i. search each-sized) (a .st .s) (a .st .n - a .st .s) (search needs) (search needs) (c .subtract .result) e)))

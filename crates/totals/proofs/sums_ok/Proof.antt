@@ -24,7 +24,7 @@ sums-ok-spec =
     (λ c. rw (c .before .enum-told2 .given .1) (simp (toZ-ofZ (c .before .before .before .fits .cut)) at (c .flow-is-cut .ensures)))
     (λ c. rw (c .before .enum-told3 .given .1) (simp (toZ-ofZ (c .before .before .before .fits .cost)) at (c .cost-is-gap .ensures)))
     (λ c. rw (c .enum-told4 .given .1))
-    (λ c. rw (c .before .enum-told5 .given .1) (c .more-pumps .ensures))
+    (λ c. rw (c .before .enum-told5 .given .1) (c .more-sites-unmarked .ensures))
     (λ c. rw (c .enum-told6 .given .1))
     (λ c. rw (c .before .enum-told7 .given .1) (simp (toZ-ofZ (c .before .before .before .fits .cost)) at (c .some-amount .ensures)))
     (λ c. rw (c .enum-told8 .given .1)))

@@ -24,7 +24,7 @@ loop-holds : tie.Need-loop-holds Inv-loop μ-loop
 loop-holds c = (c .before .before .before .before .before .before .pre, λ v g l m. m)
 
 mul-e : tie.Need-mul-e Inv-loop μ-loop
-mul-e c = let A = c .loop .inv .0 in record { fits = omega (arith, A .left, A .graph .half) }
+mul-e c = let A = c .loop .inv .0 in record { fits = omega (arith, A .left, A .graph .within, A .graph .small) }
 
 shared-slice-read-e : tie.Need-shared-slice-read-e Inv-loop μ-loop
 shared-slice-read-e c = let A = c .before .loop .inv .0 in omega (arith, A .left, A .par-len)
@@ -64,7 +64,7 @@ slice-read-f c =
     )
 
 mul-mate : tie.Need-mul-mate Inv-loop μ-loop
-mul-mate c = let A = c .before .before .before .before .loop .inv .0 in record { fits = omega (arith, A .left, A .graph .half) }
+mul-mate c = let A = c .before .before .before .before .loop .inv .0 in record { fits = omega (arith, A .left, A .graph .within, A .graph .small) }
 
 slice-write-mate : tie.Need-slice-write-mate Inv-loop μ-loop
 slice-write-mate c = let A = c .before .before .before .before .loop .inv .0 in omega (arith, A .left, A .graph .within, A .pairs .len)
@@ -177,7 +177,8 @@ mul-mate-3 c =
           ap
               (λ (z : ℕ). entry (top .loop .mate) (entry (recordHeads (start .args .records .now)) z)) (after-place .place .ensures),
         )),
-        A .graph .half,
+        A .graph .within,
+        A .graph .small,
       );
     }
 

@@ -6,10 +6,10 @@ use Rattle.random_networks.proofs.tally.kinds.Statement.{statement}
 use Rattle.random_networks.proofs.tally.kinds.Tie as tie
 
 abbrev Inv-loop : tie.InvT-loop
-Inv-loop names tally k₀ k = Unit {0}
+Inv-loop names question tally k₀ k = Unit {0}
 
 abbrev μ-loop : tie.MeasureT-loop
-μ-loop names tally k₀ k = 8 - k
+μ-loop names question tally k₀ k = 8 - k
 
 pub kinds-spec : {M : Type 1} → statement M
 kinds-spec =

@@ -1,4 +1,4 @@
--- `reference::pairings::change` is safe and ends: it goes through 256 sites at most.
+-- `reference::pairings::change` is safe and ends: it goes through 256 pumps at most.
 use Prim.Native.Nat.{_-_}
 use native.Mathlib.Omega.{arith}
 use borrow.Author.Needs.{needs}
@@ -6,10 +6,10 @@ use Rattle.reference.proofs.pairings.change.Statement.{statement}
 use Rattle.reference.proofs.pairings.change.Tie as tie
 
 abbrev Inv-loop : tie.InvT-loop
-Inv-loop a₀ last q₀ i₀ a q i = Unit {0}
+Inv-loop a₀ last p₀ i₀ a p i = Unit {0}
 
 abbrev μ-loop : tie.MeasureT-loop
-μ-loop a₀ last q₀ i₀ a q i = 256 - i
+μ-loop a₀ last p₀ i₀ a p i = 256 - i
 
 pub change-spec : {M : Type 1} → statement M
 change-spec =

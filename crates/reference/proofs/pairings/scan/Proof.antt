@@ -1,4 +1,4 @@
--- `reference::pairings::scan` is safe and ends: it goes through the sites.
+-- `reference::pairings::scan` is safe and ends: it goes through the pumps.
 use Prim.Native.Nat.{_-_}
 use native.Mathlib.Omega.{arith}
 use borrow.Author.Needs.{needs}
@@ -6,10 +6,10 @@ use Rattle.reference.proofs.pairings.scan.Statement.{statement}
 use Rattle.reference.proofs.pairings.scan.Tie as tie
 
 abbrev Inv-loop : tie.InvT-loop
-Inv-loop a₀ h n from q₀ a q = Unit {0}
+Inv-loop a₀ pumps from p₀ a p = Unit {0}
 
 abbrev μ-loop : tie.MeasureT-loop
-μ-loop a₀ h n from q₀ a q = n - q
+μ-loop a₀ pumps from p₀ a p = pumps - p
 
 pub scan-spec : {M : Type 1} → statement M
 scan-spec =
