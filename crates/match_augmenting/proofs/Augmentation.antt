@@ -12,7 +12,7 @@ use Rattle.match_state.specs.Matching.{Noted, State}
 use Rattle.match_augmenting.specs.Augmenting.{Onward, Alternating, Augmented}
 use Rattle.match_state.proofs.Pairs.{noted}
 
-module _ {h n : ℕ} {T H W links mate pi par order : List ℕ} {t a : ℕ} (A : Alternating h n T H W links mate pi par order t a) where
+module _ {h n : ℕ} {T H W mate pi par order : List ℕ} {t a : ℕ} (A : Alternating h n T H W mate pi par order t a) where
   abbrev e : ℕ
   e = entry par a
 
@@ -96,10 +96,9 @@ module _ {h n : ℕ} {T H W links mate pi par order : List ℕ} {t a : ℕ} (A :
         not-b : (v : ℕ) → Noted T H mate v (entry mate v) → entry H (entry mate v) ≢ b
         not-b v N z = omega (arith, N .arc, A .graph .few, N .at-head, ap (entry mate) z, f)
 
-    state : State h n T H W links given pi
+    state : State h n T H W given pi
     state = record {
       graph = A .graph;
-      index = A .index;
       pairs = record { len = given-len; each = pairs-end };
       priced = record {
         len = A .priced .len;
@@ -110,7 +109,7 @@ module _ {h n : ℕ} {T H W links mate pi par order : List ℕ} {t a : ℕ} (A :
       range = A .range;
     }
 
-    pub augmented : (mate₀ : List ℕ) → ((v : ℕ) → h ≤ v → v < n → entry mate₀ v < noArc → entry mate v < noArc) → Augmented h n T H W links mate₀ pi t given
+    pub augmented : (mate₀ : List ℕ) → ((v : ℕ) → h ≤ v → v < n → entry mate₀ v < noArc → entry mate v < noArc) → Augmented h n T H W mate₀ pi t given
     augmented mate₀ kept = record {
       state = state;
       root = omega (arith, at-b, ap (entry given) is-root, small);
@@ -207,10 +206,9 @@ module _ {h n : ℕ} {T H W links mate pi par order : List ℕ} {t a : ℕ} (A :
             (λ z. omega (arith, ap (λ (k : ℕ). entry order (entry T (entry mate k))) z))
             (head-left (entry par c) (P .arc))
 
-    pub alternates : Alternating h n T H W links freed pi par order t a'
+    pub alternates : Alternating h n T H W freed pi par order t a'
     alternates = record {
       graph = A .graph;
-      index = A .index;
       pairs = record { len = length-set given a' noArc ∙ given-len; each = pairs-on };
       priced = record {
         len = A .priced .len;

@@ -13,14 +13,13 @@ pub(crate) fn augment(
     r: usize,
     t: usize,
     records: &[u32],
-    links: &[u16],
     pi: &[u32],
     par: &[u16],
     order: &[u8],
     mate: &mut [u16],
 )
-    requires { ⌜ Alternating (length (now order)) (length (now pi)) (recordTails (now records)) (recordHeads (now records)) (recordWeights (now records)) (now links) (now mate) (now pi) (now par) (now order) t r ⌝ }
-    ensures { λ _. ⌜ Augmented (length (now (order .entry))) (length (now (pi .entry))) (recordTails (now (records .entry))) (recordHeads (now (records .entry))) (recordWeights (now (records .entry))) (now (links .entry)) (now (mate .entry)) (now (pi .entry)) t (now (mate .exit)) ⌝ }
+    requires { ⌜ Alternating (length (now order)) (length (now pi)) (recordTails (now records)) (recordHeads (now records)) (recordWeights (now records)) (now mate) (now pi) (now par) (now order) t r ⌝ }
+    ensures { λ _. ⌜ Augmented (length (now (order .entry))) (length (now (pi .entry))) (recordTails (now (records .entry))) (recordHeads (now (records .entry))) (recordWeights (now (records .entry))) (now (mate .entry)) (now (pi .entry)) t (now (mate .exit)) ⌝ }
 {
     let mut a = r;
     loop {

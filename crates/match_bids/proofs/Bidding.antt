@@ -16,15 +16,15 @@ use Rattle.match_state.proofs.Pairs.{noted, left-end}
 
 -- ---- an offer
 
-pub affordable : {h n : ℕ} {T H W links mate pi : List ℕ} → State h n T H W links mate pi → Affordable T W pi
+pub affordable : {h n : ℕ} {T H W mate pi : List ℕ} → State h n T H W mate pi → Affordable T W pi
 affordable {h} {n} {T} S e l =
     let a = S .graph .from-left e l in
     (omega (arith, a, S .graph .within, S .priced .len), omega (arith, S .graph .weights e l, S .range (entry T e) (omega (arith, a, S .graph .within))))
 
 -- the cheapest arc, or the second, where they cost the same, for what the second costs
-pub offer : {h n : ℕ} {T H W links mate pi : List ℕ} (t e1 e2 e u : ℕ) → State h n T H W links mate pi → e1 < noArc → e2 < noArc → TwoCheapest T H W pi t e1 e2
+pub offer : {h n : ℕ} {T H W mate pi : List ℕ} (t e1 e2 e u : ℕ) → State h n T H W mate pi → e1 < noArc → e2 < noArc → TwoCheapest T H W pi t e1 e2
     → u ≡ bidCost T W pi e2 → u ≤ 8322818 → (e ≡ e1) ⊎ ((e ≡ e2) × (u ≤ bidCost T W pi e1)) → Offer T H W pi t e u
-offer {h} {n} {T} {H} {W} {links} {mate} {pi} t e1 e2 e u S i j two q m c = go c
+offer {h} {n} {T} {H} {W} {mate} {pi} t e1 e2 e u S i j two q m c = go c
   where
     A : Cheapest T H W pi t 256 e1
     A = two .first
@@ -60,7 +60,7 @@ offer {h} {n} {T} {H} {W} {links} {mate} {pi} t e1 e2 e u S i j two q m c = go c
 
 -- ---- the state after an offer is taken
 
-module _ {h n : ℕ} {T H W links mate pi : List ℕ} {t e u : ℕ} (S : State h n T H W links mate pi) (right : h ≤ t) (target : t < n) (bare : entry mate t ≡ noArc) (O : Offer T H W pi t e u) where
+module _ {h n : ℕ} {T H W mate pi : List ℕ} {t e u : ℕ} (S : State h n T H W mate pi) (right : h ≤ t) (target : t < n) (bare : entry mate t ≡ noArc) (O : Offer T H W pi t e u) where
   abbrev G : Bipartite h n T H W
   G = S .graph
 
@@ -261,10 +261,9 @@ module _ {h n : ℕ} {T H W links mate pi : List ℕ} {t e u : ℕ} (S : State h
       go (no p) (yes q) = omega (arith, ap (entry pi') q, pi-t, O .most)
       go (no p) (no q) = omega (arith, pi-other v p q, S .range v l)
 
-  pub assigned : State h n T H W links (assignedMates H mate (entry T e) t e) (assignedPotentials pi (entry T e) t u (entry W e))
+  pub assigned : State h n T H W (assignedMates H mate (entry T e) t e) (assignedPotentials pi (entry T e) t u (entry W e))
   assigned = record {
     graph = G;
-    index = S .index;
     pairs = record { len = mate-len; each = each };
     priced = record { len = simp length-set (S .priced .len); feasible = feasible; tight = tight };
     exposed = bare-left;
@@ -272,21 +271,21 @@ module _ {h n : ℕ} {T H W links mate pi : List ℕ} {t e u : ℕ} (S : State h
   }
 
   -- with the lists that this gives
-  pub taken-offer : (mate₁ pi₁ : List ℕ) → mate₁ ≡ assignedMates H mate (entry T e) t e → pi₁ ≡ assignedPotentials pi (entry T e) t u (entry W e) → State h n T H W links mate₁ pi₁
-  taken-offer mate₁ pi₁ q p = subst (λ (m : List ℕ). State h n T H W links m pi₁) (sym q) (subst (λ (l : List ℕ). State h n T H W links (assignedMates H mate (entry T e) t e) l) (sym p) assigned)
+  pub taken-offer : (mate₁ pi₁ : List ℕ) → mate₁ ≡ assignedMates H mate (entry T e) t e → pi₁ ≡ assignedPotentials pi (entry T e) t u (entry W e) → State h n T H W mate₁ pi₁
+  taken-offer mate₁ pi₁ q p = subst (λ (m : List ℕ). State h n T H W m pi₁) (sym q) (subst (λ (l : List ℕ). State h n T H W (assignedMates H mate (entry T e) t e) l) (sym p) assigned)
 
 -- a vertex with no arc is exposed
-pub bare-of : {h n : ℕ} {T H W links mate pi : List ℕ} (t : ℕ) → State h n T H W links mate pi → t < n → noArc ≤ entry mate t → entry mate t ≡ noArc
-bare-of {h} {n} {T} {H} {W} {links} {mate} t S l k = go (S .pairs .each t l)
+pub bare-of : {h n : ℕ} {T H W mate pi : List ℕ} (t : ℕ) → State h n T H W mate pi → t < n → noArc ≤ entry mate t → entry mate t ≡ noArc
+bare-of {h} {n} {T} {H} {W} {mate} t S l k = go (S .pairs .each t l)
   where
     go : (entry mate t ≡ noArc) ⊎ Noted T H mate t (entry mate t) → entry mate t ≡ noArc
     go (inl q) = q
     go (inr N) = absurd (omega (arith, N .arc, S .graph .few))
 
 -- the number of vertices is how many potentials there are
-pub sized : {h n : ℕ} {T H W links mate pi : List ℕ} → State h n T H W links mate pi → State h (length pi) T H W links mate pi
-sized {h} {n} {T} {H} {W} {links} {mate} {pi} S = subst (λ (k : ℕ). State h k T H W links mate pi) (sym (S .priced .len)) S
+pub sized : {h n : ℕ} {T H W mate pi : List ℕ} → State h n T H W mate pi → State h (length pi) T H W mate pi
+sized {h} {n} {T} {H} {W} {mate} {pi} S = subst (λ (k : ℕ). State h k T H W mate pi) (sym (S .priced .len)) S
 
 -- and stays so
-pub resized : {h m n : ℕ} {T H W links mate pi : List ℕ} → m ≡ n → State h m T H W links mate pi → State h n T H W links mate pi
-resized {h} {m} {n} {T} {H} {W} {links} {mate} {pi} q S = subst (λ (k : ℕ). State h k T H W links mate pi) q S
+pub resized : {h m n : ℕ} {T H W mate pi : List ℕ} → m ≡ n → State h m T H W mate pi → State h n T H W mate pi
+resized {h} {m} {n} {T} {H} {W} {mate} {pi} q S = subst (λ (k : ℕ). State h k T H W mate pi) q S

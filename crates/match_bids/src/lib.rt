@@ -3,6 +3,7 @@ ghost use Prim.Native.Nat.{_<_, _≤_};
 ghost use lib.ListN.{length};
 ghost use Rattle.packed_arcs.specs.Entries.{entry};
 ghost use Rattle.arc_index.specs.Columns.{recordTails, recordHeads, recordWeights};
+ghost use Rattle.match_state.specs.Rows.{Rows};
 ghost use Rattle.match_state.specs.Matching.{State};
 use arc_index::NO_ARC;
 use match_offers::assign;
@@ -14,15 +15,15 @@ use match_offers::two_cheapest;
 const MOST: u32 = 8322818;
 
 // The bid of the right vertex t, where it is exposed: it takes its cheapest arc for what the cheapest from another vertex costs.
-fn bid(h: usize, t: usize, records: &[u32], links: &[u16], mate: &mut [u16], pi: &mut [u32])
-    requires { ⌜ State h (length (now pi)) (recordTails (now records)) (recordHeads (now records)) (recordWeights (now records)) (now links) (now mate) (now pi) ⌝ }
+fn bid(h: usize, t: usize, records: &[u32], rows: &[u64], mate: &mut [u16], pi: &mut [u32])
+    requires { ⌜ State h (length (now pi)) (recordTails (now records)) (recordHeads (now records)) (recordWeights (now records)) (now mate) (now pi) × Rows (recordTails (now records)) (recordHeads (now records)) (recordWeights (now records)) (now rows) ⌝ }
     requires { ⌜ (h ≤ t) × (t < length (now pi)) ⌝ }
-    ensures { λ _. ⌜ State h (length (now (pi .entry))) (recordTails (now (records .entry))) (recordHeads (now (records .entry))) (recordWeights (now (records .entry))) (now (links .entry)) (now (mate .exit)) (now (pi .exit)) ⌝ }
+    ensures { λ _. ⌜ State h (length (now (pi .entry))) (recordTails (now (records .entry))) (recordHeads (now (records .entry))) (recordWeights (now (records .entry))) (now (mate .exit)) (now (pi .exit)) ⌝ }
 {
     if mate[t] < NO_ARC {
         return;
     }
-    let two = two_cheapest(t, records, links, pi);
+    let two = two_cheapest(t, records, rows, pi);
     let e1 = two.first;
     if 4096 <= e1 {
         return;
@@ -40,22 +41,22 @@ fn bid(h: usize, t: usize, records: &[u32], links: &[u16], mate: &mut [u16], pi:
 }
 
 // A round of bids, by every right vertex that is exposed at its turn.
-fn bid_round(h: usize, records: &[u32], links: &[u16], mate: &mut [u16], pi: &mut [u32])
-    requires { ⌜ State h (length (now pi)) (recordTails (now records)) (recordHeads (now records)) (recordWeights (now records)) (now links) (now mate) (now pi) ⌝ }
-    ensures { λ _. ⌜ State h (length (now (pi .entry))) (recordTails (now (records .entry))) (recordHeads (now (records .entry))) (recordWeights (now (records .entry))) (now (links .entry)) (now (mate .exit)) (now (pi .exit)) ⌝ }
+fn bid_round(h: usize, records: &[u32], rows: &[u64], mate: &mut [u16], pi: &mut [u32])
+    requires { ⌜ State h (length (now pi)) (recordTails (now records)) (recordHeads (now records)) (recordWeights (now records)) (now mate) (now pi) × Rows (recordTails (now records)) (recordHeads (now records)) (recordWeights (now records)) (now rows) ⌝ }
+    ensures { λ _. ⌜ State h (length (now (pi .entry))) (recordTails (now (records .entry))) (recordHeads (now (records .entry))) (recordWeights (now (records .entry))) (now (mate .exit)) (now (pi .exit)) ⌝ }
 {
     let mut t = h;
     while t < pi.len() {
-        bid(h, t, records, links, mate, pi);
+        bid(h, t, records, rows, mate, pi);
         t += 1;
     }
 }
 
 // Two rounds of bids: later ones match few more.
-pub fn bid_all(h: usize, records: &[u32], links: &[u16], mate: &mut [u16], pi: &mut [u32])
-    requires { ⌜ State h (length (now pi)) (recordTails (now records)) (recordHeads (now records)) (recordWeights (now records)) (now links) (now mate) (now pi) ⌝ }
-    ensures { λ _. ⌜ State h (length (now (pi .entry))) (recordTails (now (records .entry))) (recordHeads (now (records .entry))) (recordWeights (now (records .entry))) (now (links .entry)) (now (mate .exit)) (now (pi .exit)) ⌝ }
+pub fn bid_all(h: usize, records: &[u32], rows: &[u64], mate: &mut [u16], pi: &mut [u32])
+    requires { ⌜ State h (length (now pi)) (recordTails (now records)) (recordHeads (now records)) (recordWeights (now records)) (now mate) (now pi) × Rows (recordTails (now records)) (recordHeads (now records)) (recordWeights (now records)) (now rows) ⌝ }
+    ensures { λ _. ⌜ State h (length (now (pi .entry))) (recordTails (now (records .entry))) (recordHeads (now (records .entry))) (recordWeights (now (records .entry))) (now (mate .exit)) (now (pi .exit)) ⌝ }
 {
-    bid_round(h, records, links, mate, pi);
-    bid_round(h, records, links, mate, pi);
+    bid_round(h, records, rows, mate, pi);
+    bid_round(h, records, rows, mate, pi);
 }

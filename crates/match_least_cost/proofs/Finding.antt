@@ -16,10 +16,6 @@ use Rattle.packed_arcs.specs.Entries.{entry, zeroList}
 use Rattle.packed_arcs.proofs.LentParts.{zero-at}
 use Rattle.packed_arcs.proofs.ListLoops.{each-entry}
 use Rattle.arc_index.specs.ArcIndex.{noArc}
-use Rattle.arc_index.specs.Chains.{Chains}
-use Rattle.arc_index.specs.declared.End.the-variants.{Head}
-use Rattle.arc_index.proofs.Building.{Built, links-built}
-use Rattle.arc_index.proofs.Ends.{record-chains}
 use Rattle.arc_index.specs.Columns.{recordTails, recordHeads, recordWeights}
 use Rattle.match_state.specs.Matching.{Bipartite, State}
 use Rattle.match_state.specs.Amounts.{Amounts}
@@ -103,11 +99,10 @@ matchable-facts rs h n xs ok =
 
 -- ---- nothing is matched yet
 
-pub begun : (rs links₀ : List ℕ) {h n : ℕ} {links mate pi : List ℕ} → Bipartite h n (recordTails rs) (recordHeads rs) (recordWeights rs) → length links₀ ≡ 256 + length rs → Built rs (recordHeads rs) links₀ links
-    → mate ≡ replicate n noArc → pi ≡ zeroList n → State h n (recordTails rs) (recordHeads rs) (recordWeights rs) links mate pi
-begun rs links₀ {h} {n} {links} {mate} {pi} G l q em ep = record {
+pub begun : (rs : List ℕ) {h n : ℕ} {mate pi : List ℕ} → Bipartite h n (recordTails rs) (recordHeads rs) (recordWeights rs)
+    → mate ≡ replicate n noArc → pi ≡ zeroList n → State h n (recordTails rs) (recordHeads rs) (recordWeights rs) mate pi
+begun rs {h} {n} {mate} {pi} G em ep = record {
   graph = G;
-  index = subst (Chains (recordHeads rs)) (sym (links-built rs (recordHeads rs) links₀ links few l q)) (record-chains Head rs few);
   pairs = record { len = rw em (length-replicate n noArc); each = λ v b. inl (bare v b) };
   priced = record {
     len = rw ep (length-replicate n 0);
@@ -118,9 +113,6 @@ begun rs links₀ {h} {n} {links} {mate} {pi} G l q em ep = record {
   range = λ v b. omega (arith, none v);
 }
   where
-    few : length rs ≤ noArc
-    few = omega (arith, G .few, tails-len rs)
-
     bare : (v : ℕ) → v < n → entry mate v ≡ noArc
     bare v b = rw em (getD-replicate n v noArc 0 b)
 
@@ -156,18 +148,18 @@ found-too-few {h} {n} {T} {H} {W} {pi} {x} l p q = FindOutcome.deficient (rw p (
 
 -- ---- what comes of the search
 
-module _ {h n : ℕ} {T H W links dist mate pi : List ℕ} {t : ℕ} (O : PassOutcome h n T H W links 1 dist mate pi t) where
+module _ {h n : ℕ} {T H W dist mate pi : List ℕ} {t : ℕ} (O : PassOutcome h n T H W 1 dist mate pi t) where
   pub found-saturating : n ≤ t → {x : List ℕ} → Amounts H mate x → FindOutcome h n T H W pi x SaturatingMatch
   found-saturating g {x} A = go O
     where
-      go : PassOutcome h n T H W links 1 dist mate pi t → FindOutcome h n T H W pi x SaturatingMatch
+      go : PassOutcome h n T H W 1 dist mate pi t → FindOutcome h n T H W pi x SaturatingMatch
       go (PassOutcome.whole d S e f) = FindOutcome.saturating (saturating S (f refl) A)
       go (PassOutcome.stuck d S l k K) = absurd (omega arith)
 
   pub found-none : t < n → {marks x : List ℕ} → Marks n T mate dist t marks → x ≡ zeroList (length T) → FindOutcome h n T H W marks x NoMatch
   found-none l {marks} {x} M z = go O
     where
-      go : PassOutcome h n T H W links 1 dist mate pi t → FindOutcome h n T H W marks x NoMatch
+      go : PassOutcome h n T H W 1 dist mate pi t → FindOutcome h n T H W marks x NoMatch
       go (PassOutcome.whole d S e f) = absurd (omega arith)
       go (PassOutcome.stuck d S q k K) = FindOutcome.deficient (deficient S (K .tree) (K .none) M) z
 

@@ -6,17 +6,19 @@ ghost use lib.ListN.{length, replicate};
 ghost use Rattle.packed_arcs.specs.Entries.{zeroList};
 ghost use Rattle.arc_index.specs.ArcIndex.{noArc};
 ghost use Rattle.arc_index.specs.Columns.{recordTails, recordHeads, recordWeights};
+ghost use Rattle.match_state.specs.Rows.{Rows};
 ghost use Rattle.match_state.specs.Matching.{Bipartite, State};
+ghost use Rattle.match_slack.specs.Slack.{Lightest};
 ghost use Rattle.match_rounds.specs.Serving.{PassOutcome};
 ghost use Rattle.match_least_cost.specs.Outcome.{FindOutcome, MatchOutcome};
-use arc_index::End;
 use arc_index::NO_ARC;
-use arc_index::index;
 use limits::is_matchable;
 use match_bids::bid_all;
 use match_results::write_amounts;
 use match_results::write_marks;
 use match_rounds::serve_all;
+use match_rows::write_rows;
+use match_slack::write_lightest;
 use packed_arcs::clearing::clear_amounts;
 use packed_arcs::clearing::clear_potentials;
 
@@ -29,27 +31,38 @@ pub enum Match {
     Refused,
 }
 
-// Indexes the arcs by head, and matches by bids, where nothing is matched.
-fn index_and_bid(h: usize, records: &[u32], links: &mut [u16], mate: &mut [u16], pi: &mut [u32])
-    requires { ⌜ Bipartite h (length (now pi)) (recordTails (now records)) (recordHeads (now records)) (recordWeights (now records)) × (length (now links) ≡ 256 + length (now records)) ⌝ }
+// Puts the arcs into rows, and matches by bids, where nothing is matched.
+fn arrange_and_bid(h: usize, records: &[u32], rows: &mut [u64], mate: &mut [u16], pi: &mut [u32])
+    requires { ⌜ Bipartite h (length (now pi)) (recordTails (now records)) (recordHeads (now records)) (recordWeights (now records)) × (length (now rows) ≡ 769 + length (now records)) ⌝ }
     requires { ⌜ (now mate ≡ replicate (length (now pi)) noArc) × (now pi ≡ zeroList (length (now pi))) ⌝ }
-    ensures { λ _. ⌜ State h (length (now (pi .entry))) (recordTails (now (records .entry))) (recordHeads (now (records .entry))) (recordWeights (now (records .entry))) (now (links .exit)) (now (mate .exit)) (now (pi .exit)) ⌝ }
+    ensures { λ _. ⌜ State h (length (now (pi .entry))) (recordTails (now (records .entry))) (recordHeads (now (records .entry))) (recordWeights (now (records .entry))) (now (mate .exit)) (now (pi .exit)) ⌝ }
+    ensures { λ _. ⌜ Rows (recordTails (now (records .entry))) (recordHeads (now (records .entry))) (recordWeights (now (records .entry))) (now (rows .exit)) ⌝ }
 {
-    index(records, End::Head, links);
-    bid_all(h, records, links, mate, pi);
+    write_rows(records, rows);
+    bid_all(h, records, rows, mate, pi);
+}
+
+// Notes the least weight of the arcs from each left vertex, where there are more left vertices than right ones; else 0, which is of no use, stays.
+fn note_lightest(n: usize, records: &[u32], lightest: &mut [u16])
+    requires { ⌜ Bipartite (length (now lightest)) n (recordTails (now records)) (recordHeads (now records)) (recordWeights (now records)) × (now lightest ≡ zeroList (length (now lightest))) ⌝ }
+    ensures { λ _. ⌜ Lightest (recordTails (now (records .entry))) (recordWeights (now (records .entry))) (now (lightest .exit)) ⌝ }
+{
+    if 2 * lightest.len() <= n {
+        return;
+    }
+    write_lightest(records, lightest);
 }
 
 // Writes what the search found: t is a vertex that cannot be matched, or the number of vertices.
 fn write_found(
     t: usize,
     records: &[u32],
-    links: &[u16],
     mate: &[u16],
     dist: &[u32],
     pi: &mut [u32],
     x: &mut [u16],
 ) -> Match
-    requires { ⌜ PassOutcome (length (now dist)) (length (now pi)) (recordTails (now records)) (recordHeads (now records)) (recordWeights (now records)) (now links) 1 (now dist) (now mate) (now pi) t ⌝ }
+    requires { ⌜ PassOutcome (length (now dist)) (length (now pi)) (recordTails (now records)) (recordHeads (now records)) (recordWeights (now records)) 1 (now dist) (now mate) (now pi) t ⌝ }
     requires { ⌜ length (now x) ≡ length (now records) ⌝ }
     ensures { λ r. ⌜ FindOutcome (length (now (dist .entry))) (length (now (pi .entry))) (recordTails (now (records .entry))) (recordHeads (now (records .entry))) (recordWeights (now (records .entry))) (now (pi .exit)) (now (x .exit)) r ⌝ }
 {
@@ -65,7 +78,8 @@ fn write_found(
 // The search on arrays in which nothing is matched.
 fn find(
     records: &[u32],
-    links: &mut [u16],
+    rows: &mut [u64],
+    lightest: &mut [u16],
     mate: &mut [u16],
     pi: &mut [u32],
     dist: &mut [u32],
@@ -74,13 +88,14 @@ fn find(
     x: &mut [u16],
 ) -> Match
     requires { ⌜ Bipartite (length (now dist)) (length (now pi)) (recordTails (now records)) (recordHeads (now records)) (recordWeights (now records)) ⌝ }
-    requires { ⌜ (length (now links) ≡ 256 + length (now records)) × (length (now par) ≡ length (now dist)) × (length (now order) ≡ length (now dist)) × (length (now x) ≡ length (now records)) ⌝ }
+    requires { ⌜ (length (now rows) ≡ 769 + length (now records)) × (length (now par) ≡ length (now dist)) × (length (now order) ≡ length (now dist)) × (length (now x) ≡ length (now records)) × (length (now lightest) ≡ length (now dist)) × (now lightest ≡ zeroList (length (now lightest))) ⌝ }
     requires { ⌜ (now mate ≡ replicate (length (now pi)) noArc) × (now pi ≡ zeroList (length (now pi))) ⌝ }
     ensures { λ r. ⌜ FindOutcome (length (now (dist .entry))) (length (now (pi .entry))) (recordTails (now (records .entry))) (recordHeads (now (records .entry))) (recordWeights (now (records .entry))) (now (pi .exit)) (now (x .exit)) r ⌝ }
 {
-    index_and_bid(dist.len(), records, links, mate, pi);
-    let t = serve_all(records, links, mate, pi, dist, par, order);
-    write_found(t, records, links, mate, dist, pi, x)
+    arrange_and_bid(dist.len(), records, rows, mate, pi);
+    note_lightest(pi.len(), records, lightest);
+    let t = serve_all(records, rows, lightest, mate, pi, dist, par, order);
+    write_found(t, records, mate, dist, pi, x)
 }
 
 // The same, in arrays of its own.
@@ -91,14 +106,16 @@ fn find_by_search(records: &[u32], h: usize, pi: &mut [u32], x: &mut [u16]) -> M
 {
     let n = pi.len();
     let m = records.len();
-    let mut links = [0u16; 4352];
+    let mut rows = [0u64; 4865];
+    let mut lightest = [0u16; 255];
     let mut mate = [NO_ARC; 255];
     let mut dist = [0u32; 255];
     let mut par = [0u16; 255];
     let mut order = [0u8; 255];
     find(
         records,
-        &mut links[..256 + m],
+        &mut rows[..769 + m],
+        &mut lightest[..h],
         &mut mate[..n],
         pi,
         &mut dist[..h],

@@ -5,11 +5,14 @@ ghost use Prim.Native.Nat.{_<_, _≤_};
 ghost use lib.ListN.{length};
 ghost use Rattle.packed_arcs.specs.Entries.{entry};
 ghost use Rattle.arc_index.specs.ArcIndex.{noArc};
-ghost use Rattle.arc_index.specs.Chains.{Chains};
 ghost use Rattle.arc_index.specs.Columns.{recordTails, recordHeads, recordWeights};
+ghost use Rattle.match_state.specs.Rows.{Rows};
 ghost use Rattle.match_offers.specs.Offers.{bidCost, withSameTail, withArc, Affordable, TwoCheapest, Room, freed, assignedMates, assignedPotentials};
 use arc_index::NO_ARC;
 use match_state::head_at;
+use match_state::row_number;
+use match_state::row_tail;
+use match_state::row_weight;
 use match_state::tail_at;
 use match_state::weight_at;
 use packed_arcs::numbers::place;
@@ -79,9 +82,9 @@ fn with_arc(two: TwoArcs, a: usize, e: usize, cost: u32) -> TwoArcs
     }
 }
 
-// The first of the cheapest arcs to t, or no arc; and the first of the cheapest that come from another vertex than that one, or no arc.
-pub fn two_cheapest(t: usize, records: &[u32], links: &[u16], pi: &[u32]) -> TwoArcs
-    requires { ⌜ Chains (recordHeads (now records)) (now links) × (t < 256) ⌝ }
+// The cheapest arc to t, or no arc; and the cheapest that comes from another vertex than that one, or no arc.
+pub fn two_cheapest(t: usize, records: &[u32], rows: &[u64], pi: &[u32]) -> TwoArcs
+    requires { ⌜ Rows (recordTails (now records)) (recordHeads (now records)) (recordWeights (now records)) (now rows) × (t < 256) ⌝ }
     requires { ⌜ Affordable (recordTails (now records)) (recordWeights (now records)) (now pi) × (length (now pi) ≤ 255) ⌝ }
     ensures { λ r. ⌜ TwoCheapest (recordTails (now (records .entry))) (recordHeads (now (records .entry))) (recordWeights (now (records .entry))) (now (pi .entry)) t (r .first) (r .second) ⌝ }
 {
@@ -92,12 +95,14 @@ pub fn two_cheapest(t: usize, records: &[u32], links: &[u16], pi: &[u32]) -> Two
         second: 4096,
         next: TOO_MUCH,
     };
-    let mut e = place(links[t]);
-    while e < 4096 {
-        let a = tail_at(e, records);
-        let cost = cost_of(e, records, pi);
-        two = with_arc(two, a, e, cost);
-        e = place(links[256 + e]);
+    let end = rows[t + 1] as usize;
+    let mut i = rows[t] as usize;
+    while i < end {
+        let arc = rows[i];
+        let a = row_tail(arc);
+        let cost = row_weight(arc) + pi[a];
+        two = with_arc(two, a, row_number(arc), cost);
+        i += 1;
     }
     two
 }

@@ -25,9 +25,9 @@ use Rattle.match_state.proofs.Flows.{listed-at}
 
 -- ---- every right vertex is matched
 
-pub saturating : {h n : ℕ} {T H W links mate pi x : List ℕ} → State h n T H W links mate pi → ((b : ℕ) → h ≤ b → b < n → entry mate b < noArc) → Amounts H mate x
+pub saturating : {h n : ℕ} {T H W mate pi x : List ℕ} → State h n T H W mate pi → ((b : ℕ) → h ≤ b → b < n → entry mate b < noArc) → Amounts H mate x
     → Saturating h n T H W x pi
-saturating {h} {n} {T} {H} {W} {links} {mate} {pi} {x} S all A =
+saturating {h} {n} {T} {H} {W} {mate} {pi} {x} S all A =
     let G = S .graph in
     let M = S .pairs in
     record {
@@ -67,8 +67,8 @@ record Near (T mate dist order : List ℕ) (t b : ℕ) : Type 0 where
   in-tree : InTree T mate dist order t b D j
   few : D ≤ 20000000
 
-module _ {h n : ℕ} {T H W links mate pi : List ℕ} {t : ℕ} {dist par order keys : List ℕ} {k nd : ℕ} {marks : List ℕ} (S : State h n T H W links mate pi)
-    (F : Tree h n T H W mate pi t dist par order keys k nd n 0) (end : (a : ℕ) → a < h → entry order a ≡ 0 → waitsNot ≤ entry dist a) (K : Marks n T mate dist t marks) where
+module _ {h n : ℕ} {T H W mate pi : List ℕ} {t : ℕ} {dist par order keys : List ℕ} {k nd : ℕ} {marks : List ℕ} (S : State h n T H W mate pi)
+    (F : Tree h n T H W mate pi t dist par order keys k nd n waitsNot) (end : (a : ℕ) → a < h → entry order a ≡ 0 → waitsNot ≤ entry dist a) (K : Marks n T mate dist t marks) where
   -- a vertex that was taken is near
   near : (a : ℕ) → a < h → 0 < entry order a → entry dist a ≤ 20000000
   near a l o = omega (arith, F .taken a l o .near, F .count, S .graph .within, S .graph .small, S .range a (omega (arith, S .graph .within)))

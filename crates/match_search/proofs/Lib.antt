@@ -1,2 +1,3 @@
 pub mod TakenVertices
+pub mod Reaching
 pub mod SearchSteps

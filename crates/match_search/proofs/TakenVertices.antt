@@ -2,7 +2,7 @@
 use mathlib.Core.Path.{_≡_, refl, sym, _∙_, ap, subst}
 use mathlib.Core.List.{List}
 use mathlib.Core.Logic.{_⊎_, inl, inr, _≢_, ⊎-elim}
-use Prim.Native.Nat.{ℕ, _+_, _<_, _≤_}
+use Prim.Native.Nat.{ℕ, _+_, _<_, _≤_, min}
 use native.Mathlib.Omega.{arith}
 use native.Mathlib.Decide.{decLt}
 use lib.ListN.{length, set, length-set}
@@ -16,8 +16,8 @@ use Rattle.match_tree.specs.Tree.{InTree, Parent, TakenLeft, Tree}
 use Rattle.match_tree.proofs.TreeLaws.{right-end, left-end, in-tree-near}
 use Rattle.match_state.proofs.Pairs.{noted}
 
-module _ {h n : ℕ} {T H W links mate pi : List ℕ} (S : State h n T H W links mate pi) where
-  module _ {t : ℕ} {dist par order keys : List ℕ} {k nd : ℕ} (R : Tree h n T H W mate pi t dist par order keys k nd n 0)
+module _ {h n : ℕ} {T H W mate pi : List ℕ} (S : State h n T H W mate pi) where
+  module _ {t : ℕ} {dist par order keys : List ℕ} {k nd best : ℕ} (R : Tree h n T H W mate pi t dist par order keys k nd n best)
       (a : ℕ) (ha : a < h) (wait : entry keys a < waitsNot) (least : (u : ℕ) → u < 256 → entry keys a ≤ entry keys u) where
     -- it was not taken before, and is as far as its key says
     pub untaken : entry order a ≡ 0
@@ -37,34 +37,7 @@ module _ {h n : ℕ} {T H W links mate pi : List ℕ} (S : State h n T H W links
     key-at : (c : ℕ) → ((c ≡ a) × (entry (set keys a waitsNot) c ≡ waitsNot)) ⊎ ((c ≢ a) × (entry (set keys a waitsNot) c ≡ entry keys c))
     key-at c = set-cases keys a waitsNot c (omega (arith, R .keys-len, ha, S .graph .within, S .graph .small))
 
-    -- ---- it is exposed: the search ends
-
-    taken-farther : (c : ℕ) → TakenLeft mate pi dist order t k nd c → TakenLeft mate pi dist order t (entry dist a) nd c
-    taken-farther c A = record { no-farther = omega (arith, A .no-farther, R .ahead a ha untaken); mated = A .mated; when = A .when; near = A .near; not-below = A .not-below }
-
-    pub ended : Tree h n T H W mate pi t dist par order keys (entry dist a) nd n 0
-    ended = record {
-      dist-len = R .dist-len;
-      par-len = R .par-len;
-      order-len = R .order-len;
-      keys-len = R .keys-len;
-      target = R .target;
-      right = R .right;
-      bare = R .bare;
-      parents = R .parents;
-      waits = R .waits;
-      gone = R .gone;
-      nobody = R .nobody;
-      most = R .most;
-      taken = λ c hc o. taken-farther c (R .taken c hc o);
-      ahead = none-nearer;
-      looked = R .looked;
-      near = R .near;
-      not-below = R .not-below;
-      count = R .count;
-    }
-
-    -- ---- it is matched: the search goes on
+    -- ---- what it is matched to comes into the tree
 
     module _ (m : entry mate a < noArc) where
       abbrev order' : List ℕ
@@ -139,17 +112,17 @@ module _ {h n : ℕ} {T H W links mate pi : List ℕ} (S : State h n T H W links
           })
           (order-at c)
 
-      looked' : (i D l : ℕ) → i < length T → InTree T mate dist order' t (entry H i) D l → (entry H i ≡ b → i < 0)
-          → entry dist (entry T i) + entry pi (entry H i) ≤ D + entry pi (entry T i) + entry W i
+      looked' : (i D l : ℕ) → i < length T → InTree T mate dist order' t (entry H i) D l → entry H i ≢ b
+          → min (entry dist (entry T i)) best + entry pi (entry H i) ≤ D + entry pi (entry T i) + entry W i
       looked' i D l hi I c = ⊎-elim
           (λ J. R .looked i D l hi J (λ z. absurd (omega (arith, S .graph .below i hi))))
-          (λ p. absurd (omega (arith, c (sym (right-end S (entry H i) (S .graph .to-right i hi) (S .graph .below i hi) (p.0)) ∙ ap (entry H) (same-arc (entry H i) (S .graph .below i hi) (p.0) (p.1))))))
+          (λ p. absurd (c (sym (right-end S (entry H i) (S .graph .to-right i hi) (S .graph .below i hi) (p.0)) ∙ ap (entry H) (same-arc (entry H i) (S .graph .below i hi) (p.0) (p.1)))))
           (in-back (entry H i) D l I)
         where
           same-arc : (c : ℕ) → c < n → entry mate c < noArc → entry T (entry mate c) ≡ a → entry mate c ≡ entry mate a
           same-arc c hc q z = sym (noted (S .pairs) c hc q .at-tail) ∙ ap (entry mate) z
 
-      pub goes-on : Tree h n T H W mate pi t dist par order' (set keys a waitsNot) (entry dist a) (nd + 1) b 0
+      pub goes-on : Tree h n T H W mate pi t dist par order' (set keys a waitsNot) (entry dist a) (nd + 1) b best
       goes-on = record {
         dist-len = R .dist-len;
         par-len = R .par-len;
@@ -172,6 +145,7 @@ module _ {h n : ℕ} {T H W links mate pi : List ℕ} (S : State h n T H W links
         taken = taken';
         ahead = λ c hc o. ⊎-elim (λ p. absurd (omega (arith, p.1))) (λ p. none-nearer c hc (omega (arith, p.1))) (order-at c);
         looked = looked';
+        least = R .least;
         near = λ c hc l. omega (arith, R .near c hc l);
         not-below = λ c hc l. omega (arith, R .not-below c hc l);
         count = omega (arith, R .count, zeros-fewer order a (nd + 1) (omega (arith, R .order-len, ha)) untaken (omega arith));

@@ -6,7 +6,6 @@ use Prim.Native.Nat.{ℕ, _+_, _<_, _≤_}
 use lib.ListN.{length}
 use Rattle.packed_arcs.specs.Entries.{entry}
 use Rattle.arc_index.specs.ArcIndex.{noArc}
-use Rattle.arc_index.specs.Chains.{Chains}
 
 -- Every arc leads from a left vertex, below h, to a right one, from h on and below n; tails, heads and weights by column.
 pub record Bipartite (h n : ℕ) (T H W : List ℕ) : Type 0 where
@@ -39,9 +38,8 @@ pub record Priced (n : ℕ) (T H W mate pi : List ℕ) : Type 0 where
   pub tight : (v : ℕ) → v < n → entry mate v < noArc → entry pi (entry H (entry mate v)) ≡ entry pi (entry T (entry mate v)) + entry W (entry mate v)
 
 -- Between searches: besides, an exposed left vertex has the potential 0, and no potential is above what a node number may be.
-pub record State (h n : ℕ) (T H W links mate pi : List ℕ) : Type 0 where
+pub record State (h n : ℕ) (T H W mate pi : List ℕ) : Type 0 where
   pub graph : Bipartite h n T H W
-  pub index : Chains H links
   pub pairs : Matching n T H mate
   pub priced : Priced n T H W mate pi
   pub exposed : (a : ℕ) → a < h → entry mate a ≡ noArc → entry pi a ≡ 0

@@ -4,7 +4,7 @@ use mathlib.Core.List.{List}
 use mathlib.Core.Logic.{_⊎_, _≢_, ⊎-elim}
 use Prim.Native.Nat.{ℕ, _+_, _*_, _-_, _<_, _≤_}
 use native.Mathlib.Omega.{arith}
-use native.Mathlib.Decide.{ℕ-discrete, decLt}
+use native.Mathlib.Decide.{decLt}
 use lib.ListN.{length, set, length-set}
 use Rattle.packed_arcs.specs.Entries.{entry}
 use Rattle.packed_arcs.proofs.ListLoops.{set-cases}
@@ -14,7 +14,7 @@ use Rattle.match_tree.specs.Tree.{InTree, Parent, Tree}
 use Rattle.match_state.proofs.Pairs as pairs
 use Rattle.match_state.proofs.Pairs.{noted}
 
-module _ {h n : ℕ} {T H W links mate pi : List ℕ} (S : State h n T H W links mate pi) where
+module _ {h n : ℕ} {T H W mate pi : List ℕ} (S : State h n T H W mate pi) where
   -- the arc of a right vertex ends there, that of a left one begins there
   pub right-end : (b : ℕ) → h ≤ b → b < n → entry mate b < noArc → entry H (entry mate b) ≡ b
   right-end b g l m = pairs.right-end (S .graph) b g (noted (S .pairs) b l m)
@@ -27,7 +27,7 @@ module _ {h n : ℕ} {T H W links mate pi : List ℕ} (S : State h n T H W links
   partner b g l m = S .graph .from-left (entry mate b) (noted (S .pairs) b l m .arc)
 
   -- how far the potential of a right vertex in the tree is from its distance
-  pub in-tree-near : {t : ℕ} {dist par order keys : List ℕ} {k nd cur lo : ℕ} → Tree h n T H W mate pi t dist par order keys k nd cur lo
+  pub in-tree-near : {t : ℕ} {dist par order keys : List ℕ} {k nd cur best : ℕ} → Tree h n T H W mate pi t dist par order keys k nd cur best
       → (b D j : ℕ) → h ≤ b → b < n → InTree T mate dist order t b D j
       → (D + entry pi t ≤ entry pi b + nd * 32767) × (entry pi b ≤ D + entry pi t + nd * 32767) × (D ≤ k) × (j ≤ nd)
   in-tree-near {t} {dist} {par} {order} {keys} {k} {nd} R b D j g l (InTree.root eb eD ej) =
@@ -42,17 +42,17 @@ module _ {h n : ℕ} {T H W links mate pi : List ℕ} (S : State h n T H W links
       (omega (arith, A .near), omega (arith, A .not-below), omega (arith, A .no-farther), omega (arith, A .when))
 
   -- a vertex of the tree has one distance
-  pub one-distance : {t : ℕ} {dist par order keys : List ℕ} {k nd cur lo : ℕ} → Tree h n T H W mate pi t dist par order keys k nd cur lo
+  pub one-distance : {t : ℕ} {dist par order keys : List ℕ} {k nd cur best : ℕ} → Tree h n T H W mate pi t dist par order keys k nd cur best
       → (b D D' j j' : ℕ) → InTree T mate dist order t b D j → InTree T mate dist order t b D' j' → D ≡ D'
   one-distance R b D D' j j' (InTree.root eb eD ej) (InTree.root fb fD fj) = eD ∙ sym fD
   one-distance R b D D' j j' (InTree.root eb eD ej) (InTree.matched m o x y) = absurd (omega (arith, R .bare, ap (entry mate) eb))
   one-distance R b D D' j j' (InTree.matched m o x y) (InTree.root eb eD ej) = absurd (omega (arith, R .bare, ap (entry mate) eb))
   one-distance R b D D' j j' (InTree.matched m o x y) (InTree.matched m' o' x' y') = x ∙ sym x'
 
-  -- ---- an arc that is looked at
+  -- ---- an arc that brings its tail nearer
 
-  module _ {t : ℕ} {dist par order keys : List ℕ} {k nd b lo : ℕ} (R : Tree h n T H W mate pi t dist par order keys k nd b lo)
-      (j : ℕ) (here : InTree T mate dist order t b k j) (e : ℕ) (he : e < length T) (hb : entry H e ≡ b) (skip : (i : ℕ) → lo ≤ i → i < e → entry H i ≢ b) where
+  module _ {t : ℕ} {dist par order keys : List ℕ} {k nd b best : ℕ} (R : Tree h n T H W mate pi t dist par order keys k nd b best)
+      (j : ℕ) (here : InTree T mate dist order t b k j) (e : ℕ) (he : e < length T) (hb : entry H e ≡ b) where
     abbrev a : ℕ
     a = entry T e
 
@@ -74,47 +74,8 @@ module _ {h n : ℕ} {T H W links mate pi : List ℕ} (S : State h n T H W links
     room : (k + entry pi t ≤ entry pi b + nd * 32767) × (entry pi b ≤ k + entry pi t + nd * 32767) × (k ≤ k) × (j ≤ nd)
     room = in-tree-near R b k j right-b below-b here
 
-    far-is : far + entry pi b ≡ k + entry pi a + entry W e
+    pub far-is : far + entry pi b ≡ k + entry pi a + entry W e
     far-is = omega (arith, price)
-
-    -- the arcs to b before e were looked at
-    before : (i : ℕ) → (entry H i ≡ b → i < e + 1) → i ≢ e → entry H i ≡ b → i < lo
-    before i c z y = go (decLt i lo)
-      where
-        go : Dec (i < lo) → i < lo
-        go (yes q) = q
-        go (no q) = absurd (skip i (omega arith) (omega (arith, c y)) y)
-
-    pub looked-kept : entry dist a ≤ far → Tree h n T H W mate pi t dist par order keys k nd b (e + 1)
-    looked-kept q = record {
-      dist-len = R .dist-len;
-      par-len = R .par-len;
-      order-len = R .order-len;
-      keys-len = R .keys-len;
-      target = R .target;
-      right = R .right;
-      bare = R .bare;
-      parents = R .parents;
-      waits = R .waits;
-      gone = R .gone;
-      nobody = R .nobody;
-      most = R .most;
-      taken = R .taken;
-      ahead = R .ahead;
-      looked = looked';
-      near = R .near;
-      not-below = R .not-below;
-      count = R .count;
-    }
-      where
-        looked' : (i D l : ℕ) → i < length T → InTree T mate dist order t (entry H i) D l → (entry H i ≡ b → i < e + 1)
-            → entry dist (entry T i) + entry pi (entry H i) ≤ D + entry pi (entry T i) + entry W i
-        looked' i D l hi I c = go (ℕ-discrete i e)
-          where
-            go : Dec (i ≡ e) → entry dist (entry T i) + entry pi (entry H i) ≤ D + entry pi (entry T i) + entry W i
-            go (yes z) = subst (λ (y : ℕ). entry dist (entry T y) + entry pi (entry H y) ≤ D + entry pi (entry T y) + entry W y) (sym z)
-                (omega (arith, far-is, ap (entry pi) hb, one-distance R b D k l j (subst (λ (y : ℕ). InTree T mate dist order t y D l) (ap (entry H) z ∙ hb) I) here))
-            go (no z) = R .looked i D l hi I (before i c z)
 
     -- what is nearer was not taken yet
     pub fresh : far < entry dist a → entry order a ≡ 0
@@ -168,8 +129,10 @@ module _ {h n : ℕ} {T H W links mate pi : List ℕ} (S : State h n T H W links
         far = own-far;
       }
 
-      pub looked-nearer : Tree h n T H W mate pi t (set dist a far) (set par a e) order (set keys a far) k nd b (e + 1)
-      looked-nearer = record {
+      -- now no exposed vertex is nearer than best'
+      pub nearer-tree : (best' : ℕ) → best' ≤ best → (entry mate a ≡ noArc → best' ≤ far)
+          → Tree h n T H W mate pi t (set dist a far) (set par a e) order (set keys a far) k nd b best'
+      nearer-tree best' no-farther exposed = record {
         dist-len = length-set dist a far ∙ R .dist-len;
         par-len = length-set par a e ∙ R .par-len;
         order-len = R .order-len;
@@ -188,7 +151,8 @@ module _ {h n : ℕ} {T H W links mate pi : List ℕ} (S : State h n T H W links
         taken = λ c hc o. let A = R .taken c hc o in let s = same c o in
             record { no-farther = omega (arith, A .no-farther); mated = A .mated; when = A .when; near = omega (arith, A .near); not-below = omega (arith, A .not-below) };
         ahead = λ c hc o. ⊎-elim (λ p. omega (arith, p.1)) (λ p. omega (arith, p.1, R .ahead c hc o)) (dist-at c);
-        looked = looked';
+        looked = λ i D l hi I z. omega (arith, no-more (entry T i), R .looked i D l hi (in-back (entry H i) D l I) z);
+        least = λ c hc m. ⊎-elim (λ p. omega (arith, p.1, exposed (subst (λ (z : ℕ). entry mate z ≡ noArc) (p.0) m))) (λ p. omega (arith, p.1, R .least c hc m)) (dist-at c);
         near = λ c hc l. ⊎-elim (λ p. omega (arith, p.1, ap (entry pi) p.0, far-is, room .0, S .graph .weights e he)) (λ p. omega (arith, p.1, R .near c hc (omega (arith, p.1)))) (dist-at c);
         not-below = λ c hc l. ⊎-elim (λ p. omega (arith, p.1, ap (entry pi) p.0, far-is, room .1)) (λ p. omega (arith, p.1, R .not-below c hc (omega (arith, p.1)))) (dist-at c);
         count = R .count;
@@ -208,12 +172,3 @@ module _ {h n : ℕ} {T H W links mate pi : List ℕ} (S : State h n T H W links
 
           key-other : (c : ℕ) → c ≢ a → entry (set keys a far) c ≡ entry keys c
           key-other c z = ⊎-elim (λ p. absurd (z (p.0))) (λ p. p.1) (set-cases keys a far c keys-long)
-
-          looked' : (i D l : ℕ) → i < length T → InTree T mate (set dist a far) order t (entry H i) D l → (entry H i ≡ b → i < e + 1)
-              → entry (set dist a far) (entry T i) + entry pi (entry H i) ≤ D + entry pi (entry T i) + entry W i
-          looked' i D l hi I c = go (ℕ-discrete i e)
-            where
-              go : Dec (i ≡ e) → entry (set dist a far) (entry T i) + entry pi (entry H i) ≤ D + entry pi (entry T i) + entry W i
-              go (yes z) = subst (λ (y : ℕ). entry (set dist a far) (entry T y) + entry pi (entry H y) ≤ D + entry pi (entry T y) + entry W y) (sym z)
-                  (omega (arith, own-far, one-distance R b D k l j (subst (λ (y : ℕ). InTree T mate dist order t y D l) (ap (entry H) z ∙ hb) (in-back (entry H i) D l I)) here))
-              go (no z) = omega (arith, no-more (entry T i), R .looked i D l hi (in-back (entry H i) D l I) (before i c z))

@@ -1,12 +1,16 @@
 -- A search for an exposed left vertex, back from an exposed right one, the root: distances by reduced cost, parents, and the order in which left vertices were taken.
 use mathlib.Core.Path.{_≡_}
-use mathlib.Core.Bool.{Bool, true, false}
+use mathlib.Core.Bool.{Bool, false}
 use mathlib.Core.List.{List}
-use Prim.Native.Nat.{ℕ, _+_, _*_, _/_, _<_, _≤_, min}
+use mathlib.Core.Logic.{_⊎_, _≢_}
+use Prim.Native.Nat.{ℕ, _+_, _*_, _-_, _/_, _<_, _≤_, min}
+use lib.Dec.{eqb, ltb}
 use lib.ListN.{length, set}
+use Rattle.prelude.specs.Choice.{pick}
 use Rattle.packed_arcs.specs.Entries.{entry, zeroCount}
 use Rattle.arc_index.specs.ArcIndex.{noArc}
 use Rattle.vertex_queue.specs.VertexQueue.{waitsNot, Kept}
+use Rattle.match_state.specs.Rows.{rowNumber, rowTail, rowWeight}
 
 -- The right vertex b is in the tree: the root, at the distance 0, or matched to a left vertex that was taken, and as far as that. j is when that was taken, 0 for the root.
 pub data InTree (T mate dist order : List ℕ) (t b D j : ℕ) : Type 0 where
@@ -33,8 +37,9 @@ pub record TakenLeft (mate pi dist order : List ℕ) (t k nd a : ℕ) : Type 0 w
   pub near : entry dist a + entry pi t ≤ entry pi a + nd * 32767
   pub not-below : entry pi a + 32767 ≤ entry dist a + entry pi t + nd * 32767
 
--- The search after nd left vertices were taken, the last at the distance k. Of the arcs to the right vertex cur only those below lo were looked at.
-pub record Tree (h n : ℕ) (T H W mate pi : List ℕ) (t : ℕ) (dist par order keys : List ℕ) (k nd cur lo : ℕ) : Type 0 where
+-- The search after nd left vertices were taken, the last at the distance k. The arcs to the right vertices in the tree were looked at, but those to cur.
+-- No exposed left vertex is nearer than best, and what is no nearer may have been left out.
+pub record Tree (h n : ℕ) (T H W mate pi : List ℕ) (t : ℕ) (dist par order keys : List ℕ) (k nd cur best : ℕ) : Type 0 where
   pub dist-len : length dist ≡ h
   pub par-len : length par ≡ h
   pub order-len : length order ≡ h
@@ -50,53 +55,81 @@ pub record Tree (h n : ℕ) (T H W mate pi : List ℕ) (t : ℕ) (dist par order
   pub taken : (a : ℕ) → a < h → 0 < entry order a → TakenLeft mate pi dist order t k nd a
   pub ahead : (a : ℕ) → a < h → entry order a ≡ 0 → k ≤ entry dist a
   pub looked :
-      (e D j : ℕ) → e < length T → InTree T mate dist order t (entry H e) D j → (entry H e ≡ cur → e < lo)
-      → entry dist (entry T e) + entry pi (entry H e) ≤ D + entry pi (entry T e) + entry W e
+      (e D j : ℕ) → e < length T → InTree T mate dist order t (entry H e) D j → entry H e ≢ cur
+      → min (entry dist (entry T e)) best + entry pi (entry H e) ≤ D + entry pi (entry T e) + entry W e
+  pub least : (a : ℕ) → a < h → entry mate a ≡ noArc → best ≤ entry dist a
   pub near : (a : ℕ) → a < h → entry dist a < waitsNot → entry dist a + entry pi t ≤ entry pi a + (nd + 1) * 32767
   pub not-below : (a : ℕ) → a < h → entry dist a < waitsNot → entry pi a ≤ entry dist a + entry pi t + nd * 32767
   pub count : nd + zeroCount order ≡ h
 
--- The left vertex a came to be at the distance far by the arc e, where that is nearer; the reply is whether it is then exposed and no farther than k.
-pub data Lowered (a e far k : ℕ) (mate dist par keys low dist' par' keys' low' : List ℕ) : Bool → Type 0 where
-  nearer :
-      far < entry dist a → dist' ≡ set dist a far → par' ≡ set par a e → keys' ≡ set keys a far → low' ≡ set low (a / 16) (min (entry low (a / 16)) far)
-      → {r : Bool} → (r ≡ true → (far ≡ k) × (entry mate a ≡ noArc)) → Lowered a e far k mate dist par keys low dist' par' keys' low' r
-  kept : entry dist a ≤ far → dist' ≡ dist → par' ≡ par → keys' ≡ keys → low' ≡ low → Lowered a e far k mate dist par keys low dist' par' keys' low' false
+-- How far the exposed left vertex r is; farther than any where r is none, that is, the number of left vertices.
+abbrev pub exposedDistance : List ℕ → ℕ → ℕ
+exposedDistance dist r = pick (ltb r (length dist)) (entry dist r) waitsNot
 
--- What looking at the arc e takes for granted: the head of the arc is at the distance k and has the potential price.
-pub record Relaxable (e k price : ℕ) (T W mate pi dist par : List ℕ) : Type 0 where
-  pub number : e < 4096
-  pub tail : entry T e < length dist
+-- The nearest exposed left vertex that was found is r, at the distance best; or none was found.
+pub data NearestExposed (h : ℕ) (mate dist : List ℕ) (r best : ℕ) : Type 0 where
+  some : r < h → entry mate r ≡ noArc → entry dist r ≡ best → best < waitsNot → NearestExposed h mate dist r best
+  none : r ≡ h → best ≡ waitsNot → NearestExposed h mate dist r best
+
+-- The left vertex a came to be at the distance far by the arc e, where that is nearer than it was, and than best; the reply is then whether it is exposed.
+pub data Lowered (a e far best : ℕ) (mate dist par keys low dist' par' keys' low' : List ℕ) : Bool → Type 0 where
+  nearer :
+      far < entry dist a → far < best → dist' ≡ set dist a far → par' ≡ set par a e → keys' ≡ set keys a far
+      → low' ≡ set low (a / 16) (min (entry low (a / 16)) far) → {r : Bool} → r ≡ eqb (entry mate a) noArc → Lowered a e far best mate dist par keys low dist' par' keys' low' r
+  kept : min (entry dist a) best ≤ far → dist' ≡ dist → par' ≡ par → keys' ≡ keys → low' ≡ low → Lowered a e far best mate dist par keys low dist' par' keys' low' false
+
+-- What looking at an arc in a row takes for granted: the head of the arc is at the distance k and has the potential price.
+pub record Relaxable (arc k price : ℕ) (mate pi dist par : List ℕ) : Type 0 where
+  pub number : rowNumber arc < 4096
+  pub tail : rowTail arc < length dist
   pub small : length dist ≤ 255
   pub mates : length dist ≤ length mate
   pub potentials : length dist ≤ length pi
   pub par-len : length par ≡ length dist
   pub near : k ≤ 2000000000
-  pub weight : entry W e ≤ 32767
-  pub potential : entry pi (entry T e) ≤ 8322818
-  pub not-negative : price ≤ entry W e + entry pi (entry T e)
+  pub weight : rowWeight arc ≤ 32767
+  pub potential : entry pi (rowTail arc) ≤ 8322818
+  pub not-negative : price ≤ rowWeight arc + entry pi (rowTail arc)
 
--- After the arcs to b, at the distance k, were looked at: all of them, or those up to the first that comes from an exposed vertex which is no farther.
+-- After the arcs to b, at the distance k, were looked at: all of them, and r is the nearest exposed vertex; or those up to the first that comes from an exposed vertex which is no farther.
 pub data ScanEnd (h n : ℕ) (T H W mate pi : List ℕ) (t : ℕ) (dist par order keys : List ℕ) (b k nd r : ℕ) : Type 0 where
-  all : r ≡ 256 → Tree h n T H W mate pi t dist par order keys k nd n 0 → ScanEnd h n T H W mate pi t dist par order keys b k nd r
+  all :
+      (best : ℕ) → NearestExposed h mate dist r best → Tree h n T H W mate pi t dist par order keys k nd n best → ScanEnd h n T H W mate pi t dist par order keys b k nd r
   found :
-      r < h → entry mate r ≡ noArc → entry dist r ≡ k → (j lo : ℕ) → InTree T mate dist order t b k j → Tree h n T H W mate pi t dist par order keys k nd b lo
+      r < h → entry mate r ≡ noArc → entry dist r ≡ k → (j : ℕ) → InTree T mate dist order t b k j → Tree h n T H W mate pi t dist par order keys k nd b k
       → ScanEnd h n T H W mate pi t dist par order keys b k nd r
 
--- What looking at the arcs to b keeps, whatever the root and the order were.
-pub record Scanned (h n : ℕ) (T H W mate pi dist par keys low dist' par' keys' low' : List ℕ) (b k r : ℕ) : Type 0 where
+-- What looking at the arcs to b keeps, whatever the root and the order were; r₀ was the nearest exposed vertex.
+pub record Scanned (h n : ℕ) (T H W mate pi dist par keys low dist' par' keys' low' : List ℕ) (b k r₀ r : ℕ) : Type 0 where
   pub dist-len : length dist' ≡ length dist
   pub par-len : length par' ≡ length par
   pub grows :
-      (t nd j : ℕ) (order : List ℕ) → InTree T mate dist order t b k j → Kept keys low → Tree h n T H W mate pi t dist par order keys k nd b 0
-      → Kept keys' low' × ScanEnd h n T H W mate pi t dist' par' order keys' b k nd r
+      (t nd j best : ℕ) (order : List ℕ) → InTree T mate dist order t b k j → Kept keys low → NearestExposed h mate dist r₀ best
+      → Tree h n T H W mate pi t dist par order keys k nd b best → Kept keys' low' × ScanEnd h n T H W mate pi t dist' par' order keys' b k nd r
 
--- What the search came to: the exposed vertex r at the distance d, and no vertex in the tree whose arcs were not all looked at is nearer; or no vertex, and nobody waits.
+-- What is known where the exposed left vertex r was reached: potentials may rise by what vertices are nearer than r, and parent arcs lead from r to the root.
+pub record Reached (h n : ℕ) (T H W mate pi : List ℕ) (t : ℕ) (dist par order : List ℕ) (r : ℕ) : Type 0 where
+  pub dist-len : length dist ≡ h
+  pub par-len : length par ≡ h
+  pub order-len : length order ≡ h
+  pub target : t < n
+  pub right : h ≤ t
+  pub open-root : entry mate t ≡ noArc
+  pub left : r < h
+  pub bare : entry mate r ≡ noArc
+  pub exposed : (a : ℕ) → a < h → entry mate a ≡ noArc → entry dist r ≤ entry dist a
+  pub to-root : (e : ℕ) → e < length T → entry H e ≡ t → min (entry dist (entry T e)) (entry dist r) + entry pi t ≤ entry pi (entry T e) + entry W e
+  pub to-matched :
+      (e : ℕ) → e < length T → entry mate (entry H e) < noArc
+      → min (entry dist (entry T e)) (entry dist r) + entry pi (entry H e) ≤ entry dist (entry T (entry mate (entry H e))) + entry pi (entry T e) + entry W e
+  pub range-root : entry dist r + entry pi t ≤ 8322818
+  pub range : (a : ℕ) → a < h → entry mate a < noArc → entry dist a < entry dist r → entry pi a + (entry dist r - entry dist a) ≤ 8290051
+  pub taken : (a : ℕ) → a < h → 0 < entry order a → (entry mate a < noArc) × (entry dist a ≤ entry dist r) × (entry order a ≤ 254)
+  pub parents : (c : ℕ) → c < h → (0 < entry order c) ⊎ (c ≡ r) → Parent T H W mate pi dist order t c (entry par c)
+
+-- What the search came to: an exposed vertex r; or none, and nobody waits.
 pub data SearchedBack (h n : ℕ) (T H W mate pi : List ℕ) (t : ℕ) (dist par order : List ℕ) (r : ℕ) : Type 0 where
-  reached :
-      r < h → entry mate r ≡ noArc → entry dist r < waitsNot → (keys : List ℕ) (nd cur lo : ℕ)
-      → Tree h n T H W mate pi t dist par order keys (entry dist r) nd cur lo
-      → ((D j : ℕ) → cur < n → InTree T mate dist order t cur D j → entry dist r ≤ D) → SearchedBack h n T H W mate pi t dist par order r
+  reached : Reached h n T H W mate pi t dist par order r → SearchedBack h n T H W mate pi t dist par order r
   stuck :
-      r ≡ 256 → (keys : List ℕ) (k nd : ℕ) → Tree h n T H W mate pi t dist par order keys k nd n 0
+      r ≡ h → (keys : List ℕ) (k nd : ℕ) → Tree h n T H W mate pi t dist par order keys k nd n waitsNot
       → ((a : ℕ) → a < h → entry order a ≡ 0 → waitsNot ≤ entry dist a) → SearchedBack h n T H W mate pi t dist par order r

@@ -3,7 +3,8 @@
 ghost use mathlib.Core.Path.{_≡_};
 ghost use Prim.Native.Nat.{_+_, _≤_, _<_};
 ghost use lib.ListN.{length};
-ghost use Rattle.vertex_queue.specs.VertexQueue.{Holds, nobody, putIn, takenOut, leastVertex, leastEntry, leastFrom};
+ghost use Rattle.packed_arcs.specs.Entries.{entry};
+ghost use Rattle.vertex_queue.specs.VertexQueue.{Holds, nobody, putIn, takenOut, leastBlock, leastVertex, leastEntry, leastFrom};
 use packed_arcs::numbers::lesser;
 
 // The key of a vertex that does not wait.
@@ -60,15 +61,30 @@ pub fn put(v: u8, k: u32, keys: &mut [u32; 256], low: &mut [u32; 16])
     low[b] = lesser(old, k);
 }
 
-// Takes the first vertex with the least key, which then waits no longer.
-pub fn take(keys: &mut [u32; 256], low: &mut [u32; 16]) -> u8
+// The first block with the least key, which stands at it in `low`.
+pub fn least_block(low: &[u32; 16]) -> usize
+    ensures { λ r. ⌜ (r ≡ leastBlock (now (low .entry))) × (r < 16) × (entry (now (low .entry)) r ≡ leastEntry (now (low .entry)) 0) ⌝ }
+{
+    first_least(0, low)
+}
+
+// Takes the first vertex with the least key, which is in the block b: it then waits no longer.
+pub fn take_from(b: usize, keys: &mut [u32; 256], low: &mut [u32; 16]) -> u8
+    requires { ⌜ (b ≡ leastBlock (now low)) × (b < 16) ⌝ }
     ensures { λ r. ⌜ (r ≡ leastVertex (now (keys .entry)) (now (low .entry))) × Holds (now (keys .exit)) (now (low .exit)) (takenOut (now (keys .entry)) (now (low .entry))) ⌝ }
 {
-    let b = first_least(0, low);
     let v = first_least(16 * b, keys);
     keys[v] = WAITS_NOT;
     low[b] = least_entry(16 * b, keys);
     v as u8
+}
+
+// Takes the first vertex with the least key, which then waits no longer.
+pub fn take(keys: &mut [u32; 256], low: &mut [u32; 16]) -> u8
+    ensures { λ r. ⌜ (r ≡ leastVertex (now (keys .entry)) (now (low .entry))) × Holds (now (keys .exit)) (now (low .exit)) (takenOut (now (keys .entry)) (now (low .entry))) ⌝ }
+{
+    let b = least_block(low);
+    take_from(b, keys, low)
 }
 
 // The least key of all.

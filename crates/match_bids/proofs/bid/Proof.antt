@@ -22,17 +22,17 @@ here c =
     let at-if2 = at-if3 .before in
     let after-two = at-if2 .before in
     let s = after-two .before .before .before .before .before .before .before .before in
-    offer (s .args .t) _ _ (c .choose .result) (after-cost-of .cost-of .result) (s .pre .0) (at-if2 .if2 .left) (at-if3 .if3 .left) (after-two .two-cheapest .ensures)
+    offer (s .args .t) _ _ (c .choose .result) (after-cost-of .cost-of .result) (s .pre .0 .0) (at-if2 .if2 .left) (at-if3 .if3 .left) (after-two .two-cheapest .ensures)
     (after-cost-of .cost-of .ensures) (at-if4 .if4 .left) (c .choose .ensures)
 
 -- before that t was exposed
 exposed : (c : tie.Else1) → entry (c .before .before .before .before .before .before .args .mate .now) (c .before .before .before .before .before .before .args .t) ≡ noArc
-exposed c = let s = c .before .before .before .before .before .before in bare-of (s .args .t) (s .pre .0) (s .pre .1 .1) (c .if1 .left)
+exposed c = let s = c .before .before .before .before .before .before in bare-of (s .args .t) (s .pre .0 .0) (s .pre .1 .1) (c .if1 .left)
 
 two-cheapest-requires : tie.Need-two-cheapest-requires
 two-cheapest-requires c κs =
     let s = c .before .before .before .before .before .before .before in
-    ((s .pre .0 .index, omega (arith, s .pre .1 .1, s .pre .0 .graph .small)), (affordable (s .pre .0), s .pre .0 .graph .small))
+    ((s .pre .0 .1, omega (arith, s .pre .1 .1, s .pre .0 .0 .graph .small)), (affordable (s .pre .0 .0), s .pre .0 .0 .graph .small))
 
 cost-of-requires : tie.Need-cost-of-requires
 cost-of-requires c κs =
@@ -40,23 +40,23 @@ cost-of-requires c κs =
     let at-if2 = at-if3 .before in
     let after-two = at-if2 .before in
     let s = after-two .before .before .before .before .before .before .before .before in
-    (affordable (s .pre .0), omega (arith, after-two .two-cheapest .ensures .second (at-if2 .if2 .left) .arc (at-if3 .if3 .left), tails-len (s .args .records .now)))
+    (affordable (s .pre .0 .0), omega (arith, after-two .two-cheapest .ensures .second (at-if2 .if2 .left) .arc (at-if3 .if3 .left), tails-len (s .args .records .now)))
 
 choose-requires : tie.Need-choose-requires
 choose-requires c κs =
     let at-if2 = c .before .before .before .before .before .before in
     let after-two = at-if2 .before in
     let s = after-two .before .before .before .before .before .before .before .before in (
-      affordable (s .pre .0),
+      affordable (s .pre .0 .0),
       omega (arith, after-two .two-cheapest .ensures .first .arc (at-if2 .if2 .left), tails-len (s .args .records .now)),
-      s .pre .0 .pairs .len,
+      s .pre .0 .0 .pairs .len,
     )
 
 assign-requires : tie.Need-assign-requires
 assign-requires c κs =
     let there = c .before .before .before .before .before .before .before .before .before .before .before .before in
     let s = there .before .before .before .before .before .before in
-    room (s .pre .0) (s .pre .1 .0) (s .pre .1 .1) (exposed there) (here (c .before .before))
+    room (s .pre .0 .0) (s .pre .1 .0) (s .pre .1 .1) (exposed there) (here (c .before .before))
 
 returns-5 : tie.Need-returns-5
 returns-5 c =
@@ -64,7 +64,7 @@ returns-5 c =
     let there = after-assign .before .before .before in
     let there-2 = there .before .before .before .before .before .before .before .before .before .before in
     let s = there-2 .before .before .before .before .before .before in
-    taken-offer (s .pre .0) (s .pre .1 .0) (s .pre .1 .1) (exposed there-2) (here there) _ _ (after-assign .assign .ensures .0)
+    taken-offer (s .pre .0 .0) (s .pre .1 .0) (s .pre .1 .1) (exposed there-2) (here there) _ _ (after-assign .assign .ensures .0)
     (after-assign .assign .ensures .1)
 
 pub bid-spec : {M : Type 1} → statement M
@@ -73,15 +73,15 @@ bid-spec =
     (tie.spec
     (λ c. search needs)
     (λ c. search needs)
-    (λ c. c .before .before .before .before .before .before .pre .0)
+    (λ c. c .before .before .before .before .before .before .pre .0 .0)
     two-cheapest-requires
     (λ c. search needs)
-    (λ c. c .before .before .before .before .before .before .before .before .before .pre .0)
+    (λ c. c .before .before .before .before .before .before .before .before .before .pre .0 .0)
     (λ c. search needs)
-    (λ c. c .before .before .before .before .before .before .before .before .before .before .pre .0)
+    (λ c. c .before .before .before .before .before .before .before .before .before .before .pre .0 .0)
     cost-of-requires
     (λ c. search needs)
-    (λ c. c .before .before .before .before .before .before .before .before .before .before .before .before .before .pre .0)
+    (λ c. c .before .before .before .before .before .before .before .before .before .before .before .before .before .pre .0 .0)
     choose-requires
     assign-requires
     (λ c. search needs)

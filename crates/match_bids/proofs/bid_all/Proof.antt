@@ -4,7 +4,9 @@ use Rattle.match_bids.proofs.bid_all.Statement.{statement}
 use Rattle.match_bids.proofs.bid_all.Tie as tie
 
 bid-round-requires-2 : tie.Need-bid-round-requires-2
-bid-round-requires-2 c κs = sized (c .before .before .before .before .before .before .bid-round .ensures)
+bid-round-requires-2 c κs =
+    let after-bid-round = c .before .before .before .before .before .before in
+    (sized (after-bid-round .bid-round .ensures), after-bid-round .before .before .before .before .before .before .before .pre .1)
 
 returns : tie.Need-returns
 returns c =

@@ -11,17 +11,20 @@ use Rattle.match_bids.proofs.bid_round.Statement.{statement}
 use Rattle.match_bids.proofs.bid_round.Tie as tie
 
 abbrev Inv-loop : tie.InvT-loop
-Inv-loop h records links mate₀ pi₀ t₀ mate pi t =
-    (h ≤ t) × State h (length pi₀) (recordTails records) (recordHeads records) (recordWeights records) links mate pi
+Inv-loop h records rows mate₀ pi₀ t₀ mate pi t =
+    (h ≤ t) × State h (length pi₀) (recordTails records) (recordHeads records) (recordWeights records) mate pi
 
 abbrev μ-loop : tie.MeasureT-loop
-μ-loop h records links mate₀ pi₀ t₀ mate pi t = length pi₀ - t
+μ-loop h records rows mate₀ pi₀ t₀ mate pi t = length pi₀ - t
 
 loop-holds : tie.Need-loop-holds Inv-loop μ-loop
-loop-holds c = (omega arith, c .before .before .before .before .pre)
+loop-holds c = (omega arith, c .before .before .before .before .pre .0)
 
 bid-requires : tie.Need-bid-requires Inv-loop μ-loop
-bid-requires c κs = let l = c .before .before .before .loop in (sized (l .inv .1), (l .inv .0, c .before .before .loop-test .taken))
+bid-requires c κs =
+    let top = c .before .before .before in
+    let l = top .loop in
+    ((sized (l .inv .1), top .before .before .before .before .before .pre .1), (l .inv .0, c .before .before .loop-test .taken))
 
 loop-less : tie.Need-loop-less Inv-loop μ-loop
 loop-less c =
@@ -38,7 +41,7 @@ loop-again c =
     (omega (arith, l .inv .0), resized (l .inv .1 .priced .len) (after-bid .bid .ensures))
 
 same-length : tie.Need-same-length Inv-loop μ-loop
-same-length c = c .before .loop .inv .1 .pairs .len ∙ sym (c .before .before .before .before .before .before .pre .pairs .len)
+same-length c = c .before .loop .inv .1 .pairs .len ∙ sym (c .before .before .before .before .before .before .pre .0 .pairs .len)
 
 same-length-2 : tie.Need-same-length-2 Inv-loop μ-loop
 same-length-2 c = c .before .loop .inv .1 .priced .len

@@ -1,86 +1,66 @@
--- The loop's invariant: the two cheapest arcs of the chain before e.
-use mathlib.Core.Path.{sym, subst, _∙_}
+-- The loop's invariant: the two cheapest of the arcs in the row before i.
+use mathlib.Core.Path.{_≡_, sym, _∙_}
+use mathlib.Core.List.{List}
 use Prim.Native.Nat.{ℕ, _-_}
 use native.Mathlib.Omega.{arith}
 use borrow.Author.Needs.{needs}
-use Rattle.arc_index.specs.ArcIndex.{nextArc}
+use lib.ListN.{length}
 use Rattle.arc_index.specs.Columns.{recordTails, recordHeads, recordWeights}
-use Rattle.match_offers.specs.declared.TwoArcs.{TwoArcs}
-use Rattle.match_offers.proofs.Costs.{Both, both-start, both-next, both-end, at-arc, next-later}
+use Rattle.match_state.proofs.RowSteps.{row-start, row-end, in-rows}
+use Rattle.match_offers.proofs.Costs.{Looking, looking-start, looking-fits, looking-next, looking-end}
 use Rattle.arc_index.proofs.Columns.{tails-len, heads-len}
 use Rattle.match_offers.proofs.two_cheapest.Statement.{statement}
 use Rattle.match_offers.proofs.two_cheapest.Tie as tie
 
 abbrev Inv-loop : tie.InvT-loop
-Inv-loop t records links pi two₀ e₀ two e = Both (recordTails records) (recordHeads records) (recordWeights records) pi t e two
+Inv-loop t records rows pi two₀ end i₀ two i = Looking (recordTails records) (recordHeads records) (recordWeights records) rows pi t i two
 
 abbrev μ-loop : tie.MeasureT-loop
-μ-loop t records links pi two₀ e₀ two e = 4096 - e
+μ-loop t records rows pi two₀ end i₀ two i = end - i
 
-shared-slice-read-place : tie.Need-shared-slice-read-place Inv-loop μ-loop
-shared-slice-read-place c = let start = c .before .before .before .before in omega (arith, start .pre .0 .1, start .pre .0 .0 .len)
+same-len : (rs : List ℕ) → length (recordHeads rs) ≡ length (recordTails rs)
+same-len rs = heads-len rs ∙ sym (tails-len rs)
 
-loop-holds : tie.Need-loop-holds Inv-loop μ-loop
-loop-holds c =
-    let start = c .before .before .before .before .before in
-    let a = start .args in
-    subst (λ (k : ℕ). Both (recordTails (a .records .now)) (recordHeads (a .records .now)) (recordWeights (a .records .now)) (a .pi .now) (a .t) k _) (sym (c .place .ensures))
-    (both-start _ _ _ _ (a .links .now) (a .t) (start .pre .0 .0) (start .pre .0 .1))
+mul-arc : tie.Need-mul-arc Inv-loop μ-loop
+mul-arc c = let start = c .before .before .before .before .before .before .before in omega (arith, in-rows (start .pre .0 .0) (start .pre .0 .1) (c .loop-test .taken), start .good)
 
-tail-at-requires : tie.Need-tail-at-requires Inv-loop μ-loop
-tail-at-requires c κs =
-    let start = c .before .before .before .before .before .before .before in
-    omega (arith, at-arc (c .before .loop .inv .cheapest) (c .loop-test .taken) .0, heads-len (start .args .records .now))
-
-cost-of-requires : tie.Need-cost-of-requires Inv-loop μ-loop
-cost-of-requires c κs =
-    let at-loop-test = c .before in
-    let start = at-loop-test .before .before .before .before .before .before .before in
-    (start .pre .1 .0, omega (arith, at-arc (at-loop-test .before .loop .inv .cheapest) (at-loop-test .loop-test .taken) .0, heads-len (start .args .records .now)))
-
-shared-slice-read-place-2 : tie.Need-shared-slice-read-place-2 Inv-loop μ-loop
-shared-slice-read-place-2 c =
+shared-slice-read-cost : tie.Need-shared-slice-read-cost Inv-loop μ-loop
+shared-slice-read-cost c =
     let at-loop-test = c .before .before .before .before in
     let top = at-loop-test .before in
     let start = top .before .before .before .before .before .before in
-    omega (arith, at-arc (top .loop .inv .cheapest) (at-loop-test .loop-test .taken) .0, start .pre .0 .0 .len)
+    let p = start .pre in
+    let f = looking-fits (p .0 .0) (p .0 .1) (p .1 .0) (p .1 .1) (same-len (start .args .records .now)) (top .loop .inv) (at-loop-test .loop-test .taken) in
+    omega (arith, f .0, c .before .before .row-tail .ensures)
 
-loop-less : tie.Need-loop-less Inv-loop μ-loop
-loop-less c =
-    let at-loop-test = c .before .before .before .before .before in
+add-cost : tie.Need-add-cost Inv-loop μ-loop
+add-cost c =
+    let at-loop-test = c .before .before .before .before in
     let top = at-loop-test .before in
     let start = top .before .before .before .before .before .before in
-    omega (
-      arith,
-      c .place2 .ensures,
-      next-later _ _ _ _ (start .args .links .now) _ _ (top .loop .e) _ _ (start .pre .0 .0) (at-loop-test .loop-test .taken) (top .loop .inv .cheapest),
-      at-loop-test .loop-test .taken,
-    )
+    let p = start .pre in
+    let f = looking-fits (p .0 .0) (p .0 .1) (p .1 .0) (p .1 .1) (same-len (start .args .records .now)) (top .loop .inv) (at-loop-test .loop-test .taken) in
+    rw (c .before .before .row-tail .ensures, c .before .row-weight .ensures) (omega (arith, f .1))
+
+add-i : tie.Need-add-i Inv-loop μ-loop
+add-i c =
+    let at-loop-test = c .before .before .before .before .before .before in
+    let start = at-loop-test .before .before .before .before .before .before .before in
+    omega (arith, in-rows (start .pre .0 .0) (start .pre .0 .1) (at-loop-test .loop-test .taken), start .good)
 
 loop-again : tie.Need-loop-again Inv-loop μ-loop
 loop-again c =
-    let after-with-arc = c .before .before in
-    let after-cost-of = after-with-arc .before in
-    let after-tail-at = after-cost-of .before in
-    let at-loop-test = after-tail-at .before in
+    let at-loop-test = c .before .before .before .before .before .before in
     let top = at-loop-test .before in
     let start = top .before .before .before .before .before .before in
-    let a = start .args in
-    let rs = a .records .now in
-    subst (λ (k : ℕ). Both (recordTails rs) (recordHeads rs) (recordWeights rs) (a .pi .now) (a .t) k (after-with-arc .with-arc .result)) (sym (c .place2 .ensures))
-    (subst (λ (w : TwoArcs). Both (recordTails rs) (recordHeads rs) (recordWeights rs) (a .pi .now) (a .t) (nextArc (a .links .now) (top .loop .e)) w)
-    (sym (after-with-arc .with-arc .ensures))
-    (both-next (recordTails rs) (recordHeads rs) (recordWeights rs) (a .pi .now) (a .links .now) (a .t) (top .loop .e) (top .loop .two) (start .pre .1 .0) (start .pre .1 .1)
-    (heads-len rs ∙ sym (tails-len rs)) (start .pre .0 .0) (at-loop-test .loop-test .taken) (top .loop .inv) _ _ (after-tail-at .tail-at .ensures)
-    (after-cost-of .cost-of .ensures)))
+    let p = start .pre in
+    rw (c .with-arc .ensures, c .before .row-number .ensures, c .before .before .before .row-weight .ensures, c .before .before .before .before .row-tail .ensures)
+    (looking-next (p .0 .0) (p .0 .1) (p .1 .0) (p .1 .1) (same-len (start .args .records .now)) (top .loop .inv) (at-loop-test .loop-test .taken))
 
 returns : tie.Need-returns Inv-loop μ-loop
 returns c =
     let start = c .before .before .before .before .before .before .before in
-    let a = start .args in
-    let rs = a .records .now in
-    both-end (recordTails rs) (recordHeads rs) (recordWeights rs) (a .pi .now) (a .t) (c .before .loop .e) (c .before .loop .two) (heads-len rs ∙ sym (tails-len rs))
-    (start .pre .0 .0 .few) (c .loop-test .left) (c .before .loop .inv)
+    looking-end (start .pre .0 .0) (start .pre .0 .1) (same-len (start .args .records .now)) (c .before .loop .inv) (c .loop-test .left)
 
 pub two-cheapest-spec : {M : Type 1} → statement M
 two-cheapest-spec =
@@ -89,16 +69,21 @@ two-cheapest-spec =
     Inv-loop
     μ-loop
     (λ c. search needs)
-    shared-slice-read-place
+    (λ c. search needs)
+    (λ c. let start = c .before .before .before .before in row-end (start .pre .0 .0) (start .pre .0 .1))
+    (λ c. search needs)
+    (λ c. let start = c .before .before .before .before .before in row-start (start .pre .0 .0) (start .pre .0 .1))
+    (λ c. looking-start)
+    mul-arc
+    (λ c. let start = c .before .before .before .before .before .before .before .before in in-rows (start .pre .0 .0) (start .pre .0 .1) (c .before .loop-test .taken))
     (λ c κs. search needs)
-    loop-holds
-    tail-at-requires
-    cost-of-requires
     (λ c κs. search needs)
-    (λ c. omega (arith, c .before .before .before .loop-test .taken))
-    (λ c. omega (arith, c .before .before .before .loop-test .taken))
-    shared-slice-read-place-2
+    (λ c. search needs)
+    shared-slice-read-cost
+    add-cost
     (λ c κs. search needs)
-    loop-less
+    (λ c κs. search needs)
+    add-i
+    (λ c. search needs)
     loop-again
     returns)

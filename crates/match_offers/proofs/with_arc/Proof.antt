@@ -1,4 +1,3 @@
-use mathlib.Core.Path.{refl}
 use borrow.Author.Needs.{needs}
 use Rattle.prelude.proofs.Choice.{checks}
 use Rattle.match_offers.proofs.with_arc.Statement.{statement}

@@ -13,15 +13,15 @@ use Rattle.match_augmenting.proofs.augment.augment.Statement.{statement
 use Rattle.match_augmenting.proofs.augment.augment.Tie as tie
 
 abbrev Inv-loop : tie.InvT-loop
-Inv-loop r t records links pi par order mate₀ a₀ mate a =
-    Alternating (length order) (length pi) (recordTails records) (recordHeads records) (recordWeights records) links mate pi par order t a
+Inv-loop r t records pi par order mate₀ a₀ mate a =
+    Alternating (length order) (length pi) (recordTails records) (recordHeads records) (recordWeights records) mate pi par order t a
     × ((v : ℕ) → length order ≤ v → v < length pi → entry mate₀ v < noArc → entry mate v < noArc)
 
 abbrev μ-loop : tie.MeasureT-loop
-μ-loop r t records links pi par order mate₀ a₀ mate a = entry order a
+μ-loop r t records pi par order mate₀ a₀ mate a = entry order a
 
 loop-holds : tie.Need-loop-holds Inv-loop μ-loop
-loop-holds c = (c .before .before .before .before .before .before .pre, λ v g l m. m)
+loop-holds c = (c .before .before .before .before .before .pre, λ v g l m. m)
 
 mul-e : tie.Need-mul-e Inv-loop μ-loop
 mul-e c = let A = c .loop .inv .0 in record { fits = omega (arith, A .left, A .graph .within, A .graph .small) }
@@ -31,14 +31,14 @@ shared-slice-read-e c = let A = c .before .loop .inv .0 in omega (arith, A .left
 
 head-at-requires : tie.Need-head-at-requires Inv-loop μ-loop
 head-at-requires c κs =
-    let start = c .before .before .before .before .before .before .before .before .before in
+    let start = c .before .before .before .before .before .before .before .before in
     let A = c .before .before .loop .inv .0 in
     omega (arith, next A .arc, c .place .ensures, tails-len (start .args .records .now))
 
 mul-f : tie.Need-mul-f Inv-loop μ-loop
 mul-f c =
     let top = c .before .before .before in
-    let start = top .before .before .before .before .before .before .before in
+    let start = top .before .before .before .before .before .before in
     let A = top .loop .inv .0 in
     record {
       fits = omega (
@@ -53,7 +53,7 @@ mul-f c =
 slice-read-f : tie.Need-slice-read-f Inv-loop μ-loop
 slice-read-f c =
     let top = c .before .before .before .before in
-    let start = top .before .before .before .before .before .before .before in
+    let start = top .before .before .before .before .before .before in
     let A = top .loop .inv .0 in
     omega (
       arith,
@@ -72,7 +72,7 @@ slice-write-mate c = let A = c .before .before .before .before .loop .inv .0 in 
 mul-mate-2 : tie.Need-mul-mate-2 Inv-loop μ-loop
 mul-mate-2 c =
     let top = c .before .before .before .before in
-    let start = top .before .before .before .before .before .before .before in
+    let start = top .before .before .before .before .before .before in
     let A = top .loop .inv .0 in
     record {
       fits = omega (
@@ -87,7 +87,7 @@ mul-mate-2 c =
 slice-write-mate-2 : tie.Need-slice-write-mate-2 Inv-loop μ-loop
 slice-write-mate-2 c =
     let top = c .before .before .before .before in
-    let start = top .before .before .before .before .before .before .before in
+    let start = top .before .before .before .before .before .before in
     let A = top .loop .inv .0 in
     omega (
       arith,
@@ -101,7 +101,7 @@ slice-write-mate-2 c =
 same-length : tie.Need-same-length Inv-loop μ-loop
 same-length c =
     let top = c .before .before .before .before .before in
-    let start = top .before .before .before .before .before .before .before in
+    let start = top .before .before .before .before .before .before in
     let A = top .loop .inv .0 in
     omega (
       arith,
@@ -117,7 +117,7 @@ returns : tie.Need-returns Inv-loop μ-loop
 returns c =
     let after-place = c .before .before .before in
     let top = after-place .before .before in
-    let start = top .before .before .before .before .before .before .before in
+    let start = top .before .before .before .before .before .before in
     let A = top .loop .inv .0 in
     rw (c .before .before .head-at .ensures, after-place .place .ensures)
     (augmented A (omega (
@@ -133,7 +133,7 @@ tail-at-requires c κs =
     let after-head-at = c .before .before .before in
     let after-place = after-head-at .before in
     let top = after-place .before .before in
-    let start = top .before .before .before .before .before .before .before in
+    let start = top .before .before .before .before .before .before in
     let A = top .loop .inv .0 in
     omega (
       arith,
@@ -158,7 +158,7 @@ mul-mate-3 c =
     let after-head-at = c .before .before .before .before in
     let after-place = after-head-at .before in
     let top = after-place .before .before in
-    let start = top .before .before .before .before .before .before .before in
+    let start = top .before .before .before .before .before .before in
     let A = top .loop .inv .0 in
     record {
       fits = omega (
@@ -187,7 +187,7 @@ slice-write-mate-3 c =
     let after-head-at = c .before .before .before .before in
     let after-place = after-head-at .before in
     let top = after-place .before .before in
-    let start = top .before .before .before .before .before .before .before in
+    let start = top .before .before .before .before .before .before in
     let A = top .loop .inv .0 in
     omega (
       arith,
@@ -217,7 +217,7 @@ loop-less c =
     let after-head-at = c .before .before .before .before in
     let after-place = after-head-at .before in
     let top = after-place .before .before in
-    let start = top .before .before .before .before .before .before .before in
+    let start = top .before .before .before .before .before .before in
     let A = top .loop .inv .0 in
     rw (c .tail-at .ensures, c .before .place2 .ensures, after-head-at .head-at .ensures, after-place .place .ensures)
     (shorter A (omega (
@@ -233,7 +233,7 @@ loop-again c =
     let after-head-at = c .before .before .before .before in
     let after-place = after-head-at .before in
     let top = after-place .before .before in
-    let start = top .before .before .before .before .before .before .before in
+    let start = top .before .before .before .before .before .before in
     let A = top .loop .inv .0 in
     rw (c .tail-at .ensures, c .before .place2 .ensures, after-head-at .head-at .ensures, after-place .place .ensures) (
       alternates A (omega (

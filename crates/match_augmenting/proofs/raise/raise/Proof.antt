@@ -3,65 +3,67 @@ use native.Mathlib.Omega.{arith}
 use lib.ListN.{length}
 use borrow.Author.Needs.{needs}
 use Rattle.arc_index.specs.Columns.{recordTails}
-use Rattle.match_augmenting.specs.Augmenting.{riseOf}
 use Rattle.arc_index.proofs.Columns.{tails-len}
-use Rattle.match_state.proofs.Pairs.{noted}
-use Rattle.match_augmenting.proofs.Raising.{rise-most}
-use Rattle.match_augmenting.proofs.RaiseLoop.{Rising, rising-start, rising-turn}
+use Rattle.match_augmenting.proofs.RaiseLoop.{Rising, rising-start, low-pair, rising-turn, root-low, raised}
 use Rattle.match_augmenting.proofs.raise.raise.Statement.{statement}
 use Rattle.match_augmenting.proofs.raise.raise.Tie as tie
 
 abbrev Inv-loop : tie.InvT-loop
-Inv-loop t d records links mate dist pi₀ v₀ pi v = Rising (riseOf (length dist) (recordTails records) mate dist t d) pi₀ pi v
+Inv-loop t d records mate dist pi₀ a₀ pi a = Rising (length dist) (recordTails records) mate dist d pi₀ pi a
 
 abbrev μ-loop : tie.MeasureT-loop
-μ-loop t d records links mate dist pi₀ v₀ pi v = length pi₀ - v
+μ-loop t d records mate dist pi₀ a₀ pi a = length dist - a
 
 loop-holds : tie.Need-loop-holds Inv-loop μ-loop
-loop-holds c = rising-start _ _
+loop-holds c = rising-start _ _ _ _ _ _
 
-rise-requires : tie.Need-rise-requires Inv-loop μ-loop
-rise-requires c κs =
+raise-pair-requires : tie.Need-raise-pair-requires Inv-loop μ-loop
+raise-pair-requires c κs =
+    let l = c .before .before .loop in
     let start = c .before .before .before .before .before .before .before in
-    let S = start .pre .0 in
-    let l = c .before .loop in (
-      omega (arith, c .loop-test .taken, l .inv .len, S .pairs .len),
-      λ m. (
-        omega (arith, noted (S .pairs) (l .v) (omega (arith, c .loop-test .taken, l .inv .len)) m .arc, tails-len (start .args .records .now)),
-        S .graph .from-left _ (noted (S .pairs) (l .v) (omega (arith, c .loop-test .taken, l .inv .len)) m .arc),
-      ),
+    let pre = start .pre in (
+      c .before .loop-test .taken,
+      pre .1 .0,
+      λ near. low-pair (pre .0) (l .inv) (c .before .loop-test .taken) (pre .1 .4 (l .a) (c .before .loop-test .taken)) near (tails-len (start .args .records .now)),
     )
-
-add-pi : tie.Need-add-pi Inv-loop μ-loop
-add-pi c =
-    let top = c .before .before .before in
-    let start = top .before .before .before .before .before .before in
-    let a = start .args in
-    let l = top .loop in
-    record {
-      fits = omega (
-        arith,
-        l .inv .above (l .v) (omega arith),
-        start .pre .0 .range (l .v)
-            (omega (arith, c .before .before .loop-test .taken, l .inv .len)),
-        c .before .rise .ensures,
-        rise-most (length (a .dist .now))
-            (recordTails (a .records .now)) (a .mate .now) (a .dist .now) (a .t) (a .d) (l .v),
-        start .pre .1,
-      );
-    }
-
-loop-less : tie.Need-loop-less Inv-loop μ-loop
-loop-less c = let l = c .before .before .before .loop in omega (arith, l .inv .len, c .before .before .loop-test .taken)
 
 loop-again : tie.Need-loop-again Inv-loop μ-loop
 loop-again c =
-    let top = c .before .before .before in
+    let top = c .before .before .before .before .before in
+    let pre = top .before .before .before .before .before .pre in
     let l = top .loop in
-    rising-turn _ _ (l .pi) (l .v) (c .before .rise .result) (c .before .before .loop-test .taken) (c .before .rise .ensures) (l .inv)
+    let test = c .before .before .before .before .loop-test .taken in
+    rw (c .before .before .raise-pair .ensures) (rising-turn (pre .0) (l .inv) test (pre .1 .4 (l .a) test))
+
+slice-read-pi : tie.Need-slice-read-pi Inv-loop μ-loop
+slice-read-pi c =
+    let top = c .before .before in
+    let pre = top .before .before .before .before .before .pre in
+    omega (arith, pre .1 .2, top .loop .inv .len)
+
+add-pi : tie.Need-add-pi Inv-loop μ-loop
+add-pi c =
+    let top = c .before .before in
+    let pre = top .before .before .before .before .before .pre in
+    record { fits = omega (arith, pre .1 .0, root-low (pre .0) (top .loop .inv) (c .before .loop-test .left) _ (pre .1 .1) (pre .1 .2) (pre .1 .3)) }
+
+slice-write-pi : tie.Need-slice-write-pi Inv-loop μ-loop
+slice-write-pi c =
+    let top = c .before .before in
+    let pre = top .before .before .before .before .before .pre in
+    omega (arith, pre .1 .2, top .loop .inv .len)
+
+same-length : tie.Need-same-length Inv-loop μ-loop
+same-length c =
+    let top = c .before .before in
+    let pre = top .before .before .before .before .before .pre in
+    raised (pre .0) (top .loop .inv) (c .before .loop-test .left) _ (pre .1 .1) (pre .1 .2) (pre .1 .3) .len
 
 returns : tie.Need-returns Inv-loop μ-loop
-returns c = let l = c .before .loop in record { len = l .inv .len; each = λ v h. l .inv .below v (omega (arith, c .loop-test .left, l .inv .len)) }
+returns c =
+    let top = c .before .before in
+    let pre = top .before .before .before .before .before .pre in
+    raised (pre .0) (top .loop .inv) (c .before .loop-test .left) _ (pre .1 .1) (pre .1 .2) (pre .1 .3)
 
 pub raise-spec : {M : Type 1} → statement M
 raise-spec =
@@ -70,14 +72,14 @@ raise-spec =
     Inv-loop
     μ-loop
     loop-holds
-    rise-requires
+    raise-pair-requires
     (λ c. search needs)
     (λ c. search needs)
-    add-pi
-    (λ c. search needs)
-    (λ c. search needs)
-    (λ c. search needs)
-    loop-less
     loop-again
     (λ c. search needs)
+    slice-read-pi
+    add-pi
+    (λ c. search needs)
+    slice-write-pi
+    same-length
     returns)
