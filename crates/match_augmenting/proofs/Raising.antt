@@ -14,7 +14,7 @@ use Rattle.match_state.specs.Matching.{State}
 use Rattle.match_tree.specs.Tree.{InTree, Parent, Reached}
 use Rattle.match_augmenting.specs.Augmenting.{Raised, Onward, Alternating}
 use Rattle.match_tree.proofs.TreeLaws.{right-end, partner}
-use Rattle.match_state.proofs.Pairs.{noted}
+use Rattle.match_state.proofs.Pairs.{noted, exposed-or-matched}
 
 module _ {h n : ℕ} {T H W mate pi : List ℕ} (S : State h n T H W mate pi) {t : ℕ} {dist par order : List ℕ} {r : ℕ} (R : Reached h n T H W mate pi t dist par order r)
     {pi' : List ℕ} (U : Raised h T mate dist t (entry dist r) pi pi') where
@@ -105,11 +105,8 @@ module _ {h n : ℕ} {T H W mate pi : List ℕ} (S : State h n T H W mate pi) {t
   range : (v : ℕ) → v < n → entry pi' v ≤ 8322818
   range v l = go (decLt v h)
     where
-      sides : (entry mate v ≡ noArc) ⊎ (entry mate v < noArc)
-      sides = ⊎-elim (λ q. inl q) (λ N. inr (omega (arith, N .arc, S .graph .few))) (S .pairs .each v l)
-
       go : Dec (v < h) → entry pi' v ≤ 8322818
-      go (yes q) = left-range v q sides (decLt (entry dist v) d)
+      go (yes q) = left-range v q (exposed-or-matched (S .graph) (S .pairs) v l) (decLt (entry dist v) d)
       go (no q) = right-range v (omega arith) l (rose v (omega arith) l)
 
   -- ---- parent arcs are tight

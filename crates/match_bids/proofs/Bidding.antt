@@ -274,14 +274,6 @@ module _ {h n : ℕ} {T H W mate pi : List ℕ} {t e u : ℕ} (S : State h n T H
   pub taken-offer : (mate₁ pi₁ : List ℕ) → mate₁ ≡ assignedMates H mate (entry T e) t e → pi₁ ≡ assignedPotentials pi (entry T e) t u (entry W e) → State h n T H W mate₁ pi₁
   taken-offer mate₁ pi₁ q p = subst (λ (m : List ℕ). State h n T H W m pi₁) (sym q) (subst (λ (l : List ℕ). State h n T H W (assignedMates H mate (entry T e) t e) l) (sym p) assigned)
 
--- a vertex with no arc is exposed
-pub bare-of : {h n : ℕ} {T H W mate pi : List ℕ} (t : ℕ) → State h n T H W mate pi → t < n → noArc ≤ entry mate t → entry mate t ≡ noArc
-bare-of {h} {n} {T} {H} {W} {mate} t S l k = go (S .pairs .each t l)
-  where
-    go : (entry mate t ≡ noArc) ⊎ Noted T H mate t (entry mate t) → entry mate t ≡ noArc
-    go (inl q) = q
-    go (inr N) = absurd (omega (arith, N .arc, S .graph .few))
-
 -- the number of vertices is how many potentials there are
 pub sized : {h n : ℕ} {T H W mate pi : List ℕ} → State h n T H W mate pi → State h (length pi) T H W mate pi
 sized {h} {n} {T} {H} {W} {mate} {pi} S = subst (λ (k : ℕ). State h k T H W mate pi) (sym (S .priced .len)) S

@@ -2,14 +2,13 @@
 use mathlib.Core.Path.{_≡_, refl, sym, _∙_, subst}
 use mathlib.Core.Bool.{true, false}
 use mathlib.Core.List.{List}
-use mathlib.Core.Logic.{_⊎_, inl, inr}
 use Prim.Native.Nat.{ℕ, _+_, _/_, _<_, _≤_}
 use native.Mathlib.Omega.{arith}
 use native.Mathlib.Decide.{decLt}
 use lib.ListN.{length}
 use Rattle.packed_arcs.specs.Entries.{entry}
 use Rattle.arc_index.specs.ArcIndex.{noArc}
-use Rattle.match_state.specs.Matching.{Noted, State}
+use Rattle.match_state.specs.Matching.{State}
 use Rattle.match_tree.specs.Tree.{Reached, SearchedBack}
 use Rattle.match_augmenting.specs.Augmenting.{Augmented}
 use Rattle.match_rounds.specs.Serving.{Stuck, Served, PassOutcome}
@@ -51,14 +50,6 @@ module _ {h n : ℕ} {T H W mate pi : List ℕ} (S : State h n T H W mate pi) {t
 -- it was matched already
 pub was-matched : {h n : ℕ} {T H W mate pi : List ℕ} {t : ℕ} {dist : List ℕ} → State h n T H W mate pi → length dist ≡ h → entry mate t < noArc → Served h n T H W mate t dist mate pi true
 was-matched S d m = Served.grown d S m (λ b g l x. x)
-
--- who is not matched is exposed
-pub is-exposed : {h n : ℕ} {T H W mate pi : List ℕ} → State h n T H W mate pi → (t : ℕ) → t < n → noArc ≤ entry mate t → entry mate t ≡ noArc
-is-exposed {h} {n} {T} {H} {W} {mate} S t l g = go (S .pairs .each t l)
-  where
-    go : (entry mate t ≡ noArc) ⊎ Noted T H mate t (entry mate t) → entry mate t ≡ noArc
-    go (inl e) = e
-    go (inr N) = absurd (omega (arith, N .arc, S .graph .few))
 
 -- ---- one after the other
 

@@ -12,7 +12,7 @@ use Rattle.packed_arcs.proofs.Zeros.{zeros-fewer}
 use Rattle.arc_index.specs.ArcIndex.{noArc}
 use Rattle.vertex_queue.specs.VertexQueue.{waitsNot}
 use Rattle.match_state.specs.Matching.{State}
-use Rattle.match_state.proofs.Pairs.{noted}
+use Rattle.match_state.proofs.Pairs.{noted, exposed-or-matched}
 use Rattle.match_state.proofs.MatchedAmounts.{taken-few}
 use Rattle.match_tree.specs.Tree.{InTree, Parent, Tree, Reached}
 use Rattle.match_tree.proofs.TreeLaws.{left-end, partner}
@@ -72,9 +72,8 @@ module _ {h n : ℕ} {T H W mate pi : List ℕ} (S : State h n T H W mate pi)
   at-r : entry dist' r ≡ best
   at-r = bare-stays r hr br ∙ dr
 
-  -- exposed or matched
   sides : (a : ℕ) → a < h → (entry mate a ≡ noArc) ⊎ (entry mate a < noArc)
-  sides a l = ⊎-elim (λ q. inl q) (λ N. inr (omega (arith, N .arc, S .graph .few))) (S .pairs .each a (omega (arith, S .graph .within)))
+  sides a l = exposed-or-matched (S .graph) (S .pairs) a (omega (arith, S .graph .within))
 
   no-farther : (a : ℕ) → a < h → min (entry dist' a) best ≤ min (entry dist a) best
   no-farther a l = ⊎-elim (λ m. omega (arith, bare-stays a l m)) (λ m. omega (arith, brought a l m)) (sides a l)

@@ -17,7 +17,7 @@ use Rattle.match_state.specs.Matching.{Noted, State}
 use Rattle.match_slack.specs.Slack.{Lightest, Slack}
 use Rattle.match_tree.specs.Tree.{InTree, Tree, exposedDistance, NearestExposed, ScanEnd, Scanned, Reached, SearchedBack}
 use Rattle.match_search.specs.Bringing.{BroughtNear}
-use Rattle.match_tree.proofs.TreeLaws.{in-tree-near, one-distance}
+use Rattle.match_tree.proofs.TreeLaws.{retold, in-tree-near, one-distance}
 use Rattle.match_tree.proofs.Scans.{nearest-distance}
 use Rattle.match_search.proofs.TakenVertices as vertices
 use Rattle.match_search.proofs.Reaching.{reached}
@@ -125,27 +125,7 @@ module _ {h n : ℕ} {T H W mate pi : List ℕ} (S : State h n T H W mate pi) wh
 
         -- the same search, once nothing nearer than the least key waits
         later : Tree h n T H W mate pi t dist' par' order keys' (leastEntry low' 0) nd cur best
-        later = record {
-          dist-len = R .dist-len;
-          par-len = R .par-len;
-          order-len = R .order-len;
-          keys-len = R .keys-len;
-          target = R .target;
-          right = R .right;
-          bare = R .bare;
-          parents = R .parents;
-          waits = R .waits;
-          gone = R .gone;
-          nobody = R .nobody;
-          most = R .most;
-          taken = λ c hc o. let A = R .taken c hc o in record { no-farther = omega (arith, A .no-farther, first .0); mated = A .mated; when = A .when; near = A .near; not-below = A .not-below };
-          ahead = untaken-far;
-          looked = R .looked;
-          least = R .least;
-          near = R .near;
-          not-below = R .not-below;
-          count = R .count;
-        }
+        later = retold R (first .0) untaken-far (R .looked)
 
         -- an exposed vertex that was found waits
         exposed-waits : (v : ℕ) → v < h → entry mate v ≡ noArc → leastEntry low' 0 ≤ entry dist' v

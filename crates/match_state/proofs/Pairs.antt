@@ -33,3 +33,20 @@ module _ {h n : ℕ} {T H W mate : List ℕ} (G : Bipartite h n T H W) where
       go : (entry T (entry mate b) ≡ b) ⊎ (entry H (entry mate b) ≡ b) → entry H (entry mate b) ≡ b
       go (inl e) = absurd (omega (arith, G .from-left (entry mate b) (N .arc)))
       go (inr e) = e
+
+module _ {h n : ℕ} {T H W mate : List ℕ} (G : Bipartite h n T H W) (M : Matching n T H mate) where
+  -- a vertex is exposed or matched
+  pub exposed-or-matched : (v : ℕ) → v < n → (entry mate v ≡ noArc) ⊎ (entry mate v < noArc)
+  exposed-or-matched v l = go (M .each v l)
+    where
+      go : (entry mate v ≡ noArc) ⊎ Noted T H mate v (entry mate v) → (entry mate v ≡ noArc) ⊎ (entry mate v < noArc)
+      go (inl q) = inl q
+      go (inr N) = inr (omega (arith, N .arc, G .few))
+
+  -- one that is not matched is exposed
+  pub is-exposed : (v : ℕ) → v < n → noArc ≤ entry mate v → entry mate v ≡ noArc
+  is-exposed v l g = go (exposed-or-matched v l)
+    where
+      go : (entry mate v ≡ noArc) ⊎ (entry mate v < noArc) → entry mate v ≡ noArc
+      go (inl q) = q
+      go (inr q) = absurd (omega arith)

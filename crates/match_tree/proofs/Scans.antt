@@ -18,7 +18,7 @@ use Rattle.vertex_queue.proofs.Laws.{put-kept}
 use Rattle.match_state.specs.Rows.{rowNumber, rowTail, rowWeight, RowArc, InRow, Parted}
 use Rattle.match_state.specs.Matching.{State}
 use Rattle.match_tree.specs.Tree.{InTree, Tree, exposedDistance, NearestExposed, Lowered, Relaxable, ScanEnd, Scanned}
-use Rattle.match_tree.proofs.TreeLaws.{one-distance, nearer-tree, in-on, fresh, far-is}
+use Rattle.match_tree.proofs.TreeLaws.{retold, one-distance, nearer-tree, in-on, fresh, far-is}
 
 -- the distance that the code has for the nearest exposed vertex
 pub nearest-distance : {h : ℕ} {mate dist : List ℕ} {r best : ℕ} → length dist ≡ h → NearestExposed h mate dist r best → exposedDistance dist r ≡ best
@@ -242,27 +242,7 @@ module _ {h n : ℕ} {T H W mate pi : List ℕ} (S : State h n T H W mate pi) {r
               started (no y) = omega (arith, P .from, P .before)
 
       whole : Tree h n T H W mate pi t dist par order keys k nd n best
-      whole = record {
-        dist-len = R .dist-len;
-        par-len = R .par-len;
-        order-len = R .order-len;
-        keys-len = R .keys-len;
-        target = R .target;
-        right = R .right;
-        bare = R .bare;
-        parents = R .parents;
-        waits = R .waits;
-        gone = R .gone;
-        nobody = R .nobody;
-        most = R .most;
-        taken = R .taken;
-        ahead = R .ahead;
-        looked = λ e D l he J c. looked' e D l he J (ℕ-discrete (entry H e) b);
-        least = R .least;
-        near = R .near;
-        not-below = R .not-below;
-        count = R .count;
-      }
+      whole = retold R (omega arith) (R .ahead) (λ e D l he J c. looked' e D l he J (ℕ-discrete (entry H e) b))
         where
           looked' : (e D l : ℕ) → e < length T → InTree T mate dist order t (entry H e) D l → Dec (entry H e ≡ b)
               → min (entry dist (entry T e)) best + entry pi (entry H e) ≤ D + entry pi (entry T e) + entry W e

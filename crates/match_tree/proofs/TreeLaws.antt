@@ -2,7 +2,7 @@
 use mathlib.Core.Path.{_≡_, refl, sym, _∙_, ap, subst}
 use mathlib.Core.List.{List}
 use mathlib.Core.Logic.{_⊎_, _≢_, ⊎-elim}
-use Prim.Native.Nat.{ℕ, _+_, _*_, _-_, _<_, _≤_}
+use Prim.Native.Nat.{ℕ, _+_, _*_, _-_, _<_, _≤_, min}
 use native.Mathlib.Omega.{arith}
 use native.Mathlib.Decide.{decLt}
 use lib.ListN.{length, set, length-set}
@@ -13,6 +13,33 @@ use Rattle.match_state.specs.Matching.{State}
 use Rattle.match_tree.specs.Tree.{InTree, Parent, Tree}
 use Rattle.match_state.proofs.Pairs as pairs
 use Rattle.match_state.proofs.Pairs.{noted}
+
+-- the same search at a later distance, where those not taken are no nearer, and with other arcs looked at
+pub retold : {h n : ℕ} {T H W mate pi : List ℕ} {t : ℕ} {dist par order keys : List ℕ} {k k' nd cur cur' best : ℕ} → Tree h n T H W mate pi t dist par order keys k nd cur best → k ≤ k'
+    → ((a : ℕ) → a < h → entry order a ≡ 0 → k' ≤ entry dist a)
+    → ((e D j : ℕ) → e < length T → InTree T mate dist order t (entry H e) D j → entry H e ≢ cur' → min (entry dist (entry T e)) best + entry pi (entry H e) ≤ D + entry pi (entry T e) + entry W e)
+    → Tree h n T H W mate pi t dist par order keys k' nd cur' best
+retold R later ahead looked = record {
+  dist-len = R .dist-len;
+  par-len = R .par-len;
+  order-len = R .order-len;
+  keys-len = R .keys-len;
+  target = R .target;
+  right = R .right;
+  bare = R .bare;
+  parents = R .parents;
+  waits = R .waits;
+  gone = R .gone;
+  nobody = R .nobody;
+  most = R .most;
+  taken = λ a l o. let A = R .taken a l o in record { no-farther = omega (arith, A .no-farther); mated = A .mated; when = A .when; near = A .near; not-below = A .not-below };
+  ahead = ahead;
+  looked = looked;
+  least = R .least;
+  near = R .near;
+  not-below = R .not-below;
+  count = R .count;
+}
 
 module _ {h n : ℕ} {T H W mate pi : List ℕ} (S : State h n T H W mate pi) where
   -- the arc of a right vertex ends there, that of a left one begins there

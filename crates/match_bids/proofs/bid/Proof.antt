@@ -5,7 +5,8 @@ use Rattle.packed_arcs.specs.Entries.{entry}
 use Rattle.arc_index.specs.ArcIndex.{noArc}
 use Rattle.match_offers.specs.Offers.{Offer}
 use Rattle.arc_index.specs.Columns.{recordTails, recordHeads, recordWeights}
-use Rattle.match_bids.proofs.Bidding.{affordable, offer, room, taken-offer, bare-of}
+use Rattle.match_state.proofs.Pairs.{is-exposed}
+use Rattle.match_bids.proofs.Bidding.{affordable, offer, room, taken-offer}
 use Rattle.arc_index.proofs.Columns.{tails-len}
 use Rattle.match_bids.proofs.bid.Statement.{statement}
 use Rattle.match_bids.proofs.bid.Tie as tie
@@ -27,7 +28,7 @@ here c =
 
 -- before that t was exposed
 exposed : (c : tie.Else1) → entry (c .before .before .before .before .before .before .args .mate .now) (c .before .before .before .before .before .before .args .t) ≡ noArc
-exposed c = let s = c .before .before .before .before .before .before in bare-of (s .args .t) (s .pre .0 .0) (s .pre .1 .1) (c .if1 .left)
+exposed c = let s = c .before .before .before .before .before .before in is-exposed (s .pre .0 .0 .graph) (s .pre .0 .0 .pairs) (s .args .t) (s .pre .1 .1) (c .if1 .left)
 
 two-cheapest-requires : tie.Need-two-cheapest-requires
 two-cheapest-requires c κs =

@@ -1,5 +1,5 @@
-use mathlib.Core.Path.{sym, ap, subst}
-use Prim.Native.Nat.{ℕ, _-_}
+use mathlib.Core.Path.{sym, subst}
+use Prim.Native.Nat.{ℕ, _-_, _<_}
 use native.Mathlib.Omega.{arith}
 use lib.ListN.{length}
 use borrow.Author.Needs.{needs}
@@ -112,10 +112,13 @@ add-nd c =
     let top = c .before .before .before .before .before .before .before .before .before .before .before .before .before .before .before .before .before .before .before .before .before .before in
     record { fits = omega (arith, few (top .before .before .before .before .before .before .before .before .before .before .before .before .before .before .before .before .before .before .before .pre .0) (top .loop .inv .0)) }
 
-slice-write-order : tie.Need-slice-write-order Inv-loop μ-loop
-slice-write-order c =
-    let after-take = c in
-    let at-if1 = after-take .before .before .before in
+-- the vertex that is taken is a left one, and matched
+taken : (c : tie.After-take-from Inv-loop μ-loop)
+    → let a = c .before .before .before .before .before .before .before .before .before .before .before .before .before .before .before .before .before .before .before .before .before .before .before
+    .before .before .before .before .before .before .before .before .before .before .before .before .before .before .before .before .before .before .args in
+    (c .take-from .result < length (a .dist .now)) × (entry (a .mate .now) (c .take-from .result) < length (recordTails (a .records .now)))
+taken c =
+    let at-if1 = c .before .before .before in
     let after-is-near = at-if1 .before in
     let after-exposed-distance = after-is-near .before in
     let after-slack-after = after-exposed-distance .before .before in
@@ -126,70 +129,46 @@ slice-write-order c =
     let start = top .before .before .before .before .before .before .before .before .before .before .before .before .before .before .before .before .before .before .before in
     let p = start .pre in
     let G = top .loop .inv .0 in
-    omega (
-      arith,
-      after-take .take-from .ensures .0,
+    rw (c .take-from .ensures .0) (
       left (p .0) G (G .tree .dist-len) (after-scan .scan .ensures .0) (omega (
         arith,
         after-is-near .is-near .ensures .1 (at-if1 .if1 .left),
         after-exposed-distance .exposed-distance .ensures,
         least-is,
       )),
-      G .tree .order-len,
-    )
-
-shared-slice-read-place : tie.Need-shared-slice-read-place Inv-loop μ-loop
-shared-slice-read-place c =
-    let after-take = c .before in
-    let at-if1 = after-take .before .before .before in
-    let after-is-near = at-if1 .before in
-    let after-exposed-distance = after-is-near .before in
-    let after-slack-after = after-exposed-distance .before .before in
-    let after-least = after-slack-after .before in
-    let least-is = after-least .least-block .ensures .2 in
-    let after-scan = after-least .before .before .before .before .before .before .before .before in
-    let top = after-scan .before .before .before .before .before .before in
-    let start = top .before .before .before .before .before .before .before .before .before .before .before .before .before .before .before .before .before .before .before in
-    let p = start .pre in
-    let G = top .loop .inv .0 in
-    omega (
-      arith,
-      after-take .take-from .ensures .0,
-      left (p .0) G (G .tree .dist-len) (after-scan .scan .ensures .0) (omega (
-        arith,
-        after-is-near .is-near .ensures .1 (at-if1 .if1 .left),
-        after-exposed-distance .exposed-distance .ensures,
-        least-is,
-      )),
-      p .0 .graph .within,
-      p .0 .pairs .len,
-    )
-
-head-at-requires : tie.Need-head-at-requires Inv-loop μ-loop
-head-at-requires c κs =
-    let after-take = c .before .before in
-    let at-if1 = after-take .before .before .before in
-    let after-is-near = at-if1 .before in
-    let after-exposed-distance = after-is-near .before in
-    let after-slack-after = after-exposed-distance .before .before in
-    let after-least = after-slack-after .before in
-    let least-is = after-least .least-block .ensures .2 in
-    let after-scan = after-least .before .before .before .before .before .before .before .before in
-    let top = after-scan .before .before .before .before .before .before in
-    let start = top .before .before .before .before .before .before .before .before .before .before .before .before .before .before .before .before .before .before .before in
-    let p = start .pre in
-    let G = top .loop .inv .0 in
-    omega (
-      arith,
       matched-arc (p .0) G (G .tree .dist-len) (after-scan .scan .ensures .0) (omega (
         arith,
         after-is-near .is-near .ensures .1 (at-if1 .if1 .left),
         after-exposed-distance .exposed-distance .ensures,
         least-is,
       )),
+    )
+
+slice-write-order : tie.Need-slice-write-order Inv-loop μ-loop
+slice-write-order c =
+    omega (
+      arith,
+      taken c .0,
+      c .before .before .before .before .before .before .before .before .before .before .before .before .before .before .before .before .before .before .before .before .before
+          .before .loop .inv .0 .tree .order-len,
+    )
+
+shared-slice-read-place : tie.Need-shared-slice-read-place Inv-loop μ-loop
+shared-slice-read-place c =
+    let S = c .before .before .before .before .before .before .before .before .before .before .before .before .before .before .before .before .before .before .before .before .before .before .before
+    .before .before .before .before .before .before .before .before .before .before .before .before .before .before .before .before .before .before .before .pre .0 in
+    omega (arith, taken (c .before) .0, S .graph .within, S .pairs .len)
+
+head-at-requires : tie.Need-head-at-requires Inv-loop μ-loop
+head-at-requires c κs =
+    let after-take = c .before .before in
+    omega (
+      arith,
+      taken after-take .1,
       c .place .ensures,
-      ap (entry (start .args .mate .now)) (after-take .take-from .ensures .0),
-      tails-len (start .args .records .now),
+      tails-len (after-take .before .before .before .before .before .before .before .before .before .before .before .before .before .before .before
+          .before .before .before .before .before .before .before .before .before .before .before .before .before .before .before .before .before .before .before .before .before .before .before .before
+          .before .before .args .records .now),
     )
 
 loop-less : tie.Need-loop-less Inv-loop μ-loop

@@ -36,20 +36,22 @@ slice-write-pi c =
     let test = c .before .before .before .before in
     test .before .before .before .before .before .before .pre .2 (test .if1 .left) .near
 
+-- what a is matched to has a potential
+far-below : (c : tie.After-head-at) → c .head-at .result < length (c .before .before .before .before .before .before .before .before .before .args .pi .now)
+far-below c =
+    let test = c .before .before .before in
+    rw (c .head-at .ensures, c .before .place .ensures) (test .before .before .before .before .before .before .pre .2 (test .if1 .left) .far)
+
 mul-pi-3 : tie.Need-mul-pi-3
 mul-pi-3 c =
     let after = c .before in
-    let test = after .before .before .before in
-    let start = test .before .before .before .before .before .before in
-    let far : after .head-at .result < length (start .args .pi .now) = rw (after .head-at .ensures, after .before .place .ensures) (start .pre .2 (test .if1 .left) .far) in
+    let far = far-below after in
     search needs
 
 slice-read-pi-2 : tie.Need-slice-read-pi-2
 slice-read-pi-2 c =
     let after = c .before .before in
-    let test = after .before .before .before in
-    let start = test .before .before .before .before .before .before in
-    let far : after .head-at .result < length (start .args .pi .now) = rw (after .head-at .ensures, after .before .place .ensures) (start .pre .2 (test .if1 .left) .far) in
+    let far = far-below after in
     search needs
 
 add-pi-2 : tie.Need-add-pi-2
@@ -68,17 +70,13 @@ add-pi-2 c =
 mul-pi-4 : tie.Need-mul-pi-4
 mul-pi-4 c =
     let after = c .before .before in
-    let test = after .before .before .before in
-    let start = test .before .before .before .before .before .before in
-    let far : after .head-at .result < length (start .args .pi .now) = rw (after .head-at .ensures, after .before .place .ensures) (start .pre .2 (test .if1 .left) .far) in
+    let far = far-below after in
     search needs
 
 slice-write-pi-2 : tie.Need-slice-write-pi-2
 slice-write-pi-2 c =
     let after = c .before .before in
-    let test = after .before .before .before in
-    let start = test .before .before .before .before .before .before in
-    let far : after .head-at .result < length (start .args .pi .now) = rw (after .head-at .ensures, after .before .place .ensures) (start .pre .2 (test .if1 .left) .far) in
+    let far = far-below after in
     search needs
 
 returns-2 : tie.Need-returns-2
