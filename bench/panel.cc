@@ -8,13 +8,13 @@
 #include "measuring.h"
 #include "verifier.h"
 
-extern "C" uint64_t panel_judge(const uint8_t *net, size_t net_len, const uint8_t *ann, size_t ann_len, uint32_t point);
+extern "C" uint64_t panel_judge(const uint8_t *net, size_t net_len, const uint8_t *ann, size_t ann_len, uint32_t first, uint32_t second);
 extern "C" uint64_t panel_annotate(const uint8_t *net, size_t net_len, uint8_t *buffer, size_t buffer_len);
 
 typedef std::vector<uint8_t> File;
 struct Plan { File net, ann; };
 
-const uint32_t POINT = 1234567890;
+const struct pair POINT = {1234567890, 987654321};
 
 /* The places of the arc i in the two files, or of their ends. */
 static size_t in_network(size_t i) { return 11 + 4 * i; }
@@ -49,8 +49,10 @@ static Plan planned(const Instance &x) {
 /* A slice of no bytes too needs an address. */
 static const uint8_t *bytes(const File &file) { return file.empty() ? (const uint8_t *)"" : file.data(); }
 
-static uint64_t ours(const Plan &p, uint32_t point) { return panel_judge(bytes(p.net), p.net.size(), bytes(p.ann), p.ann.size(), point); }
-static uint64_t in_c(const Plan &p, uint32_t point) { return judge_files(bytes(p.net), p.net.size(), bytes(p.ann), p.ann.size(), point); }
+static uint64_t ours(const Plan &p, struct pair point) {
+    return panel_judge(bytes(p.net), p.net.size(), bytes(p.ann), p.ann.size(), point.first, point.second);
+}
+static uint64_t in_c(const Plan &p, struct pair point) { return judge_files(bytes(p.net), p.net.size(), bytes(p.ann), p.ann.size(), point); }
 
 static std::string shown(uint64_t outcome) {
     if (outcome < NO_VALUE) return "value " + std::to_string(outcome);
@@ -90,18 +92,18 @@ static void print_bytes(const char *name, const File &file) {
     std::printf("\n");
 }
 
-static void attempt(const Plan &p, uint32_t point = POINT) {
+static void attempt(const Plan &p, struct pair point = POINT) {
     uint64_t first = ours(p, point), second = in_c(p, point);
     tried++;
     seen[first < NO_VALUE ? 0 : first]++;
     if (first == second || ++differing > 10) return; /* ten are printed */
-    std::printf("!!! MISMATCH !!! at the point %u: ours %s, C %s\n", point, shown(first).c_str(), shown(second).c_str());
+    std::printf("!!! MISMATCH !!! at the points %u and %u: ours %s, C %s\n", point.first, point.second, shown(first).c_str(), shown(second).c_str());
     print_bytes("network", p.net);
     print_bytes("annotation", p.ann);
 }
 
 /* Each byte changed to each other value. */
-static void change_bytes(Plan p, uint32_t point) {
+static void change_bytes(Plan p, struct pair point) {
     for (File *file : {&p.net, &p.ann})
         for (uint8_t &b : *file) {
             for (int k = 1; k < 256; k++) b++, attempt(p, point);
@@ -184,12 +186,13 @@ static void change_count(const Instance &x, const Plan &p) {
 
 static uint32_t key(const Record &e) { return (uint32_t)e.a * 8388608u + (uint32_t)e.b * 32768u + (uint32_t)e.w; }
 
-/* Points at both ends of the range and beyond. */
+/* Pairs of points at both ends of the range and beyond. */
 static void change_point(const Plan &p) {
-    for (uint32_t point : {0u, 1u, PRIME - 1, PRIME, PRIME + 1, 4294967295u}) attempt(p, point);
+    for (uint32_t first : {0u, 1u, PRIME - 1, PRIME, PRIME + 1, 4294967295u})
+        for (uint32_t second : {0u, 1u, PRIME - 1, PRIME, PRIME + 1, 4294967295u}) attempt(p, {first, second});
 }
 
-/* So many random bytes of both files changed at once, at a random point; as often as told. */
+/* So many random bytes of both files changed at once, at a random pair of points; as often as told. */
 static void change_randomly(const Plan &p, int count, int times) {
     while (times-- > 0) {
         Plan q = p;
@@ -197,7 +200,7 @@ static void change_randomly(const Plan &p, int count, int times) {
             size_t i = (size_t)below((int)(q.net.size() + q.ann.size())), size = q.net.size();
             (i < size ? q.net[i] : q.ann[i - size]) ^= (uint8_t)between(1, 255);
         }
-        attempt(q, (uint32_t)below((int)PRIME));
+        attempt(q, {(uint32_t)below((int)PRIME), (uint32_t)below((int)PRIME)});
     }
 }
 
@@ -251,7 +254,10 @@ static void damage_small() {
     for (const Instance &x : small_instances()) {
         Plan p = planned(x);
         change_bytes(p, POINT);
-        change_bytes(p, key(x.arcs.back())); /* where both fingerprints are 0 while that arc stands in both files */
+        uint32_t r = key(x.arcs.back()); /* a point where both products are 0 while that arc stands in both files */
+        change_bytes(p, {r, r});
+        change_bytes(p, {r, POINT.second});
+        change_bytes(p, {POINT.first, r});
         change_arcs(x, p);
         change_fields(x, p);
         move_numbers(x, p);

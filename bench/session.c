@@ -11,7 +11,7 @@ static uint32_t head(uint32_t i) { return 254 - i % 128; }
 static uint32_t weight(uint32_t i) { return i % 4681 * 7; }
 
 static uint64_t one(struct session *x, int all) {
-    open_session(x, 2, 255, 0, 254, 5);
+    open_session(x, 2, 255, 0, 254, (struct pair){5, 6});
     for (uint32_t i = 0; i < 4096; i++) read_channel(x, tail(i), head(i), weight(i));
     end_reading(x);
     if (!all) return finish(x);

@@ -16,13 +16,16 @@ static const uint32_t PRIME = 2147483647;
 static const uint64_t NO_VALUE = 4294967296;
 static inline uint64_t refusal(int why) { return NO_VALUE + (uint64_t)why; }
 
-/* A list of arcs: how many they are, and their fingerprint at the point. */
-struct stream { uint32_t count, fingerprint; };
+/* Two points, or the products at them. */
+struct pair { uint32_t first, second; };
+
+/* A list of arcs: how many they are, and their products at the two points. */
+struct stream { uint32_t count; struct pair print; };
 
 /* phase: 1 reading is under way, 2 reading has just ended, 3 a claim stands, 0 void or ended. */
 struct session {
     uint8_t phase, question, n, s, t, claim, given;
-    uint32_t point;
+    struct pair point;
     struct stream read, repeated;
     int32_t potentials[255];
     uint64_t marks[4];
@@ -37,11 +40,11 @@ static inline int ends_ok(uint32_t question, uint32_t n, uint32_t s, uint32_t t)
 }
 
 /* A check or a step gives 0, or the number of the refusal. */
-static inline int opening_check(uint32_t question, uint32_t n, uint32_t s, uint32_t t, uint32_t point) {
+static inline int opening_check(uint32_t question, uint32_t n, uint32_t s, uint32_t t, struct pair point) {
     if (question < 1 || question > 4) return 1;
     if (n < 2 || n > 255) return 2;
     if (!ends_ok(question, n, s, t)) return 3;
-    return point >= PRIME ? 4 : 0;
+    return point.first >= PRIME || point.second >= PRIME ? 4 : 0;
 }
 
 static inline int arc_check(const struct session *x, uint32_t a, uint32_t b, uint32_t w) {
@@ -50,10 +53,15 @@ static inline int arc_check(const struct session *x, uint32_t a, uint32_t b, uin
     return w > 32767 ? 8 : 0;
 }
 
-static inline void extend(struct stream *m, uint32_t point, uint32_t a, uint32_t b, uint32_t w) {
-    uint32_t key = a * 8388608u + b * 32768u + w;
+static inline uint32_t extended(uint32_t point, uint32_t product, uint32_t key) {
     uint64_t factor = ((uint64_t)point + (PRIME - key)) % PRIME;
-    m->fingerprint = (uint32_t)(factor * m->fingerprint % PRIME);
+    return (uint32_t)(factor * product % PRIME);
+}
+
+static inline void extend(struct stream *m, struct pair point, uint32_t a, uint32_t b, uint32_t w) {
+    uint32_t key = a * 8388608u + b * 32768u + w;
+    m->print.first = extended(point.first, m->print.first, key);
+    m->print.second = extended(point.second, m->print.second, key);
     m->count++;
 }
 
@@ -103,7 +111,7 @@ static inline int sums_ok(const struct session *x) {
 
 static inline int finishing_check(const struct session *x) {
     if (x->repeated.count < x->read.count) return 13;
-    if (x->repeated.fingerprint != x->read.fingerprint) return 14;
+    if (x->repeated.print.first != x->read.print.first || x->repeated.print.second != x->read.print.second) return 14;
     if (!balances_ok(x)) return 15;
     return sums_ok(x) ? 0 : 16;
 }
@@ -114,7 +122,7 @@ static inline int refuse(struct session *x, int why) {
     return why;
 }
 
-STEP int open_session(struct session *x, uint32_t question, uint32_t n, uint32_t s, uint32_t t, uint32_t point) {
+STEP int open_session(struct session *x, uint32_t question, uint32_t n, uint32_t s, uint32_t t, struct pair point) {
     memset(x, 0, sizeof *x);
     int why = opening_check(question, n, s, t, point);
     if (why) return why;
@@ -124,7 +132,7 @@ STEP int open_session(struct session *x, uint32_t question, uint32_t n, uint32_t
     x->s = (uint8_t)s;
     x->t = (uint8_t)t;
     x->point = point;
-    x->read.fingerprint = x->repeated.fingerprint = 1;
+    x->read.print.first = x->read.print.second = x->repeated.print.first = x->repeated.print.second = 1;
     return 0;
 }
 
@@ -211,7 +219,7 @@ static inline int layout_check(const uint8_t *file, size_t size, char letter, si
     return size != header + numbers + record * number16(file + header - 2) ? 19 : 0;
 }
 
-static inline int network_steps(struct session *x, const uint8_t *file, size_t size, uint32_t point) {
+static inline int network_steps(struct session *x, const uint8_t *file, size_t size, struct pair point) {
     int why = layout_check(file, size, 'N', 11, 0, 4);
     if (!why) why = open_session(x, file[5], file[6], file[7], file[8], point);
     for (size_t i = 11; !why && i < size; i += 4) why = read_channel(x, file[i], file[i + 1], number16(file + i + 2));
@@ -229,8 +237,8 @@ static inline int annotation_steps(struct session *x, const uint8_t *file, size_
     return why;
 }
 
-/* The answer of two files at a point, as one number. */
-static inline uint64_t judge_files(const uint8_t *net, size_t net_size, const uint8_t *ann, size_t ann_size, uint32_t point) {
+/* The answer of two files at a pair of points, as one number. */
+static inline uint64_t judge_files(const uint8_t *net, size_t net_size, const uint8_t *ann, size_t ann_size, struct pair point) {
     struct session x;
     int why = network_steps(&x, net, net_size, point);
     if (!why) why = annotation_steps(&x, ann, ann_size);

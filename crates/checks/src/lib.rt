@@ -10,7 +10,7 @@ use rows::question_of;
 
 pub mod rows;
 
-// What opening is handed but for the point: the question's number, how many vertices there are, the source and the sink.
+// What opening is handed but for the points: the question's number, how many vertices there are, the source and the sink.
 pub struct Opening {
     pub question: u32,
     pub n: u32,

@@ -98,7 +98,7 @@ loads-fit st f o h b =
     })
     f (every-image (λ l. l .arc) (Allowed st) f h) b
 
--- ---- judged at every point
+-- ---- judged at every pair of points
 
 pub annotation-judged : (net ann : List ℕ) → AcceptedFile net → Annotation net ann → JudgedTruly net ann
 annotation-judged net ann h A = record {

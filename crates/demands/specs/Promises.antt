@@ -1,4 +1,4 @@
--- The second half of demand 3 (PANEL 12): what the helper writes is judged truly at every point, self-loops change nothing of it, and so it is for the file of a minute; proofs/Promises.antt keeps it. With FewWrong (runs) and FewJudgedWrong (judging) demand 3 is whole.
+-- The second half of demand 3 (PANEL 12): what the helper writes is judged truly at every pair of points, self-loops change nothing of it, and so it is for the file of a minute; proofs/Promises.antt keeps it. With FewWrong (runs) and FewJudgedWrong (judging) demand 3 is whole.
 use mathlib.Core.Path.{_≡_}
 use mathlib.Core.List.{List}
 use Prim.Native.Nat.{ℕ, _≤_}
@@ -21,7 +21,7 @@ use Rattle.tide_windows.specs.Windows.{Window}
 use Rattle.calendar_records.specs.MinuteNetwork.{openAlone, arcsAt}
 use Rattle.calendar.specs.Schedule.{fileAt, scheduleReply, bufferAfter}
 
--- At every point the file and the annotation come out as the true answer, by judging and by the steps of a session.
+-- At every pair of points the file and the annotation come out as the true answer, by judging and by the steps of a session.
 pub record JudgedTruly (net ann : List ℕ) : Type 0 where
   pub answer : Answer
   pub is-true : TrueAnswer (settingIn net) (arcsIn net) answer
@@ -47,7 +47,7 @@ HelperServes =
 abbrev pub fileWithout : List ℕ → List ℕ
 fileWithout net = networkFile (settingIn net) (withoutSelfLoops (arcsIn net))
 
--- The panel accepts the file without self-loops too, and at every point the two files come out as the same, each with any annotation that meets every rule.
+-- The panel accepts the file without self-loops too, and at every pair of points the two files come out as the same, each with any annotation that meets every rule.
 pub record JudgedAlike (net : List ℕ) : Type 0 where
   pub accepted : AcceptedFile (fileWithout net)
   pub alike : (ann other : List ℕ) → Annotation net ann → Annotation (fileWithout net) other
@@ -59,7 +59,7 @@ SelfLoopsServed = (net : List ℕ) → AcceptedFile net → PathOrFlow (asks (se
 
 -- ---- the file of a minute (PANEL 14)
 
--- At every point a file of a minute and an annotation come out as the true answer of the network of that minute, which is that of the open arcs alone; by judging and by the steps of a session.
+-- At every pair of points a file of a minute and an annotation come out as the true answer of the network of that minute, which is that of the open arcs alone; by judging and by the steps of a session.
 pub record ScheduledTruly (net : List ℕ) (ws : List Window) (t : ℕ) (file ann : List ℕ) : Type 0 where
   pub answer : Answer
   pub is-true : TrueAnswer (settingIn net) (arcsAt net ws t) answer
@@ -76,7 +76,7 @@ ScheduleServes =
     → sizeFor file ≤ length before → reply ≡ annotated file (length before) → BufferAfter reply file before after
     → ScheduledTruly net ws t file (take (sizeFor file) after)
 
--- Judging the file of a minute with any annotation gives a wrong answer for the network of that minute at m - 1 points at most, at none for m 0 or 1, where that network has m arcs.
+-- Judging the file of a minute with any annotation gives a wrong answer for the network of that minute at (m - 1) × (m - 1) pairs of points at most, at none for m 0 or 1, where that network has m arcs.
 abbrev pub FewScheduledWrong : Type 0
 FewScheduledWrong =
     (net : List ℕ) (ws : List Window) (t : ℕ) (ann : List ℕ) → AcceptedFile net

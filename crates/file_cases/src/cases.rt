@@ -8,6 +8,7 @@ use super::schedules::schedule;
 use super::sweeps::sweep;
 use super::windows::add;
 use file_fields::bytes::byte;
+use points::Point;
 use test_calls::scheduled_files::Windows;
 use testing::answers::NONE;
 use testing::changes::change;
@@ -19,6 +20,7 @@ use testing::numbers::plus;
 use testing::print;
 use testing::script::decimal;
 use testing::script::find;
+use testing::script::listed;
 use testing::script::starts_line;
 use testing::script::write_hex;
 
@@ -58,11 +60,19 @@ fn vary(script: &[u8], at: usize, how: u8, f: &mut Files, s: Sizes) {
     sweep(how, kind, end, f, s);
 }
 
+// The two points that the word at a place says.
+fn said_points(script: &[u8], at: usize) -> Point {
+    Point {
+        first: listed(script, at, 0),
+        second: listed(script, at, 1),
+    }
+}
+
 // Shows the result that the word before a place asks for; the length of the annotation then, 0 where the calendar wrote over it.
 fn result(script: &[u8], at: usize, c: u8, f: &mut Files, windows: &Windows, s: Sizes) -> usize {
     print::before(s.shown);
     if c == b'@' {
-        print::answer(judged_at(f, s, decimal(script, at)));
+        print::answer(judged_at(f, s, said_points(script, at)));
         return s.ann;
     }
     if c == b'h' {

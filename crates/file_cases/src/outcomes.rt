@@ -1,15 +1,17 @@
 // Calls of judging and of the helper on the two files, and what comes of each as one number.
 use super::files::Sizes;
+use points::Point;
 use test_calls::judged_files::annotated;
 use test_calls::judged_files::judged;
+use test_calls::judged_files::pair;
 use testing::answers::ACCEPTED;
 use testing::answers::NONE;
 use testing::files::Files;
 use testing::files::fill;
 use testing::files::rest_kept;
 
-// What comes of judging at a point.
-pub fn judged_at(f: &Files, s: Sizes, point: usize) -> usize {
+// What comes of judging at a pair of points.
+pub fn judged_at(f: &Files, s: Sizes, point: Point) -> usize {
     judged(f, s.net, s.ann, point)
 }
 
@@ -31,10 +33,10 @@ fn helper_outcome(f: &mut Files, size: usize) -> usize {
     code
 }
 
-// What comes of the helper, or of judging at the point 9.
+// What comes of the helper, or of judging at the points 9 and 8.
 pub fn outcome(kind: u8, f: &mut Files, s: Sizes) -> usize {
     if kind == b'h' {
         return helper_outcome(f, s.net);
     }
-    judged_at(f, s, 9)
+    judged_at(f, s, pair(9, 8))
 }

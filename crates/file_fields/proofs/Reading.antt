@@ -1,19 +1,21 @@
--- What reading gives past the end, and the bits of a signed number as the machine has them.
+-- What reading gives past the end and in a part of a file, and the bits of a signed number as the machine has them.
 use mathlib.Core.Path.{_≡_, refl, sym, ap, ap₂, _∙_}
 use mathlib.Core.Bool.{Bool, true, false, false≢true}
 use mathlib.Core.List.{List}
 use Prim.Native.Nat.{ℕ, suc, _+_, _-_, _^_, _≤_, _<_}
+use native.Mathlib.Nat.{add-assoc}
 use native.Mathlib.Omega.{arith}
 use lib.Dec.{T, ltb}
 use lib.IntN.{ℤ, pos, negsuc, natAbs}
-use lib.ListN.{length, List·getD-eq-default}
+use lib.ListN.{length, take, drop, List·getD-eq-default}
+use lib.Seq.{getD-take, getD-drop}
 use lib.Signed.{mag, ltZ, nonNeg}
 use mir.Syntax.{w32}
 use mir.Val.{Fits, SFits, toZ, ofZ, sel}
 use mir.Facts.{toZ-pos, toZ-ofZ, ofZ-toZ}
 use borrow.Author.Tests.{ltb-true}
 use Rattle.prelude.specs.Choice.{pick}
-use Rattle.file_fields.specs.Bytes.{byteAt, joined32, read16, read32, patternOf, signedOf, readSigned}
+use Rattle.file_fields.specs.Bytes.{byteAt, joined16, joined32, read16, read32, patternOf, signedOf, readSigned}
 
 -- ---- past the end
 
@@ -29,6 +31,17 @@ read32-past file i h = ap₂ joined32 (read16-past file i h) (read16-past file (
 pub signed-past : (file : List ℕ) (i : ℕ) → length file ≤ i → readSigned file i ≡ pos 0
 unfolding signedOf
 signed-past file i h = ap signedOf (read32-past file i h)
+
+-- ---- in a part
+
+pub read32-front : (file : List ℕ) (n i : ℕ) → i + 4 ≤ n → read32 (take n file) i ≡ read32 file i
+read32-front file n i h =
+    ap₂ joined32
+    (ap₂ joined16 (getD-take n file i 0 (omega arith)) (getD-take n file (i + 1) 0 (omega arith)))
+    (ap₂ joined16 (getD-take n file (i + 2) 0 (omega arith)) (getD-take n file (i + 2 + 1) 0 (omega arith)))
+
+pub read32-rest : (file : List ℕ) (n i : ℕ) → read32 (drop n file) i ≡ read32 file (n + i)
+read32-rest file n i = simp (getD-drop, add-assoc)
 
 -- ---- signed numbers
 

@@ -3,7 +3,7 @@ use plan_files::answer_line;
 use program_io::front;
 
 fn main() {
-    let mut point = [0u8; 4];
+    let mut point = [0u8; 8];
     let mut net = front::room();
     let mut ann = front::room();
     let mut text = [0u8; 32];

@@ -19,17 +19,18 @@ use Rattle.network.specs.Tests.{openingChecks, readingChecks, readingAll, claim
 use Rattle.network.proofs.Promises.{certificates-sound}
 use Rattle.points.specs.Points.{misleadingPoints}
 use Rattle.points.specs.declared.Point.{Point}
+use Rattle.points.proofs.Prints.{at-most→points}
 use Rattle.format.specs.Files.{settingIn, nIn, arcsIn, claimIn, numbersIn, loadsIn, annotationFile, networkLayout, annotationLayout}
 use Rattle.format.specs.Promises.{Byte}
 use Rattle.format.proofs.Promises.{annotation-round-trip}
 use Rattle.state.specs.Answers.{Said, accepted, gives, refused, said}
 use Rattle.state.specs.State.{openChecks}
-use Rattle.runs.specs.Run.{Step, read, end, claim, number, repeat, finish, step, run, sessionAfter, runFrom, listFrom, listRead, Wrong, WrongAt}
+use Rattle.runs.specs.Run.{Step, read, end, claim, number, repeat, finish, step, run, sessionAfter, runFrom, listFrom, listRead, Wrong, WrongAt, isOther}
 use Rattle.runs.specs.AcceptedLists.{sumsAt}
 use Rattle.runs.specs.Exchange.{exchange, outcome, annotationRules, finalRules, Readable}
 use Rattle.runs.proofs.FirstAndLast.{no-answer}
 use Rattle.runs.proofs.Meets.{gives-held}
-use Rattle.runs.proofs.WrongAnswers.{wrong-held}
+use Rattle.runs.proofs.WrongAnswers.{wrong-held, other-wrong}
 use Rattle.runs.proofs.Promises.{opening-answers, first-broken, certificates-pass, few-wrong}
 use Rattle.runs.proofs.Verdict.{reading-broken}
 use Rattle.session.specs.Steps.{opening}
@@ -38,7 +39,7 @@ use Rattle.judging_runs.specs.FileSteps.{stepsOfNetwork, stepsIn}
 use Rattle.judging.specs.Judging.{numbersFor, loadsFor, networkChecks, annotationChecks, judged, andThen, JudgedWrong}
 use Rattle.acceptance.proofs.AcceptedFiles.{layout-held, opening-held, reading-held, file-opened, file-allowed, file-few}
 use Rattle.runs.proofs.Openings.{opens-rule, opens-held, without-point}
-use Rattle.judging.specs.Promises.{JudgedBySteps, FewJudgedWrong, OnlyAccepted, CertificatesJudged}
+use Rattle.judging.specs.Promises.{JudgedBySteps, FewJudgedWrong, FewJudgedWrongCounted, OnlyAccepted, CertificatesJudged}
 
 -- ---- the list read of an exchange
 
@@ -210,6 +211,11 @@ few-judged-wrong net ann [] d w = omega arith
 few-judged-wrong net ann (r ∷ rs) d w =
     subst (λ (l : List Arc). length (r ∷ rs) ≤ misleadingPoints (length l)) (wrong-run net ann r (w .0) .0)
     (few-wrong (settingIn net) (exchanged net ann) (r ∷ rs) d (every-map (λ q h. wrong-run net ann q h .1) (r ∷ rs) w))
+
+pub few-judged-wrong-counted : FewJudgedWrongCounted
+few-judged-wrong-counted net ann a h =
+    at-most→points (JudgedWrong net ann) (λ r. isOther a (judged net ann r)) _
+    (λ r w t. (w, other-wrong (settingIn net) (arcsIn net) a h (judged net ann r) t)) (few-judged-wrong net ann)
 
 -- ---- certificates
 

@@ -1,4 +1,4 @@
--- Judging two files at a point: by the checks in their order, and by the steps of a session (PANEL 8).
+-- Judging two files at a pair of points: by the checks in their order, and by the steps of a session (PANEL 8).
 use mathlib.Core.List.{List, _∷_, _++_}
 use Prim.Native.Nat.{ℕ}
 use lib.IntN.{ℤ}
@@ -26,7 +26,7 @@ numbersFor net ann = numbersIn (nIn net) ann
 abbrev pub loadsFor : List ℕ → List ℕ → List Load
 loadsFor net ann = loadsIn (nIn net) ann
 
--- The network file comes first: its layout, checks 17, 18, 19; opening with its header at the point, checks 1 to 4; its records in file order, checks 6, 7, 8 for each.
+-- The network file comes first: its layout, checks 17, 18, 19; opening with its header at the points, checks 1 to 4; its records in file order, checks 6, 7, 8 for each.
 abbrev pub networkChecks : List ℕ → Point → List Check
 networkChecks net r =
     networkLayout net
@@ -54,7 +54,7 @@ andThen accepted b = b
 andThen (gives a) b = gives a
 andThen (refused k) b = refused k
 
--- The two files through a session: the layout of the network file; opening at the point, and the records read; the layout of the annotation file; its steps. The first refusal is given.
+-- The two files through a session: the layout of the network file; opening at the points, and the records read; the layout of the annotation file; its steps. The first refusal is given.
 abbrev pub judgedBySteps : List ℕ → List ℕ → Point → Said
 judgedBySteps net ann r =
     let o = opening (settingIn net) r in
@@ -65,6 +65,6 @@ judgedBySteps net ann r =
 
 -- ---- what demand 3 counts
 
--- A point counts where judging gives an answer there that is not the true one of the network file (PANEL 12, demand 3).
+-- A pair of points counts where judging gives an answer there that is not the true one of the network file (PANEL 12, demand 3).
 abbrev pub JudgedWrong : List ℕ → List ℕ → Point → Type 0
 JudgedWrong net ann r = IsPoint r × Wrong (settingIn net) (arcsIn net) (judged net ann r)

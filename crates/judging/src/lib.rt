@@ -1,4 +1,4 @@
-// Judging two files at a point.
+// Judging two files at a pair of points.
 ghost use mathlib.Core.Path.{_≡_};
 ghost use Rattle.state.specs.Answers.{said};
 ghost use Rattle.judging.specs.Judging.{judged};
@@ -12,7 +12,7 @@ use points::Point;
 use state::Response;
 use state::State;
 
-// What the two files come out as at the point: a value, none, or the first refusal.
+// What the two files come out as at the pair of points: a value, none, or the first refusal.
 pub fn judge(net: &[u8], ann: &[u8], point: Point) -> Response
     ensures { λ r. ⌜ said r ≡ judged (now (net .entry)) (now (ann .entry)) point ⌝ }
 {

@@ -27,7 +27,7 @@ pub data Question : Type 0 where
 abbrev pub questionOf : ℕ → Question
 questionOf k = pick (eqb k 1) shortestPath (pick (eqb k 2) maximumFlow (pick (eqb k 3) assignment (pick (eqb k 4) acyclicity unasked)))
 
--- What opening is handed but for the point: the question's number, the number n of vertices 0 to n - 1, the source s and the sink t; for pairing s is the number of pumps.
+-- What opening is handed but for the points: the question's number, the number n of vertices 0 to n - 1, the source s and the sink t; for pairing s is the number of pumps.
 pub record Setting : Type 0 where
   pub question : ℕ
   pub n : ℕ

@@ -52,7 +52,7 @@ endsFor unasked st = false
 abbrev pub endsOk : Setting → Bool
 endsOk st = endsFor (asks st) st
 
--- The checks of opening but for that of the point (PANEL 6, checks 1 to 3).
+-- The checks of opening but for that of the points (PANEL 6, checks 1 to 3).
 abbrev pub openingChecks : Setting → List Check
 openingChecks st = 1 unless isAsked (asks st) ∷ 2 unless sizeOk st ∷ 3 unless endsOk st ∷ []
 

@@ -1,6 +1,7 @@
 // Judging and the helper for callers in C: each slice is a pointer and a count, each reply one number. The pointer of an empty slice is not null either.
 ghost use mathlib.Core.Path.{_≡_};
 ghost use lib.ListN.{length};
+ghost use Rattle.points.specs.Points.{pair};
 ghost use Rattle.state.specs.Answers.{said};
 ghost use Rattle.judging.specs.Judging.{judged};
 ghost use Rattle.format.specs.Replies.{writerSaid};
@@ -33,10 +34,14 @@ fn written_code(written: Written) -> u64
 }
 
 #[no_mangle]
-pub extern "C" fn panel_judge(net: &[u8], ann: &[u8], point: u32) -> u64
-    ensures { λ r. ⌜ r ≡ saidCode (judged (now (net .entry)) (now (ann .entry)) (record { r = point })) ⌝ }
+pub extern "C" fn panel_judge(net: &[u8], ann: &[u8], first: u32, second: u32) -> u64
+    ensures { λ r. ⌜ r ≡ saidCode (judged (now (net .entry)) (now (ann .entry)) (pair first second)) ⌝ }
 {
-    answer_code(judging::judge(net, ann, Point { r: point }))
+    let point = Point {
+        first: first,
+        second: second,
+    };
+    answer_code(judging::judge(net, ann, point))
 }
 
 #[no_mangle]

@@ -28,7 +28,7 @@ settled-not cs a e =
 
 pub never-accepted : NeverAccepted
 unfolding programAnswer
-never-accepted point net ann = go (leb 4 (length point))
+never-accepted point net ann = go (leb 8 (length point))
   where
     go : (whole : Bool) → pick whole (judged (counted net) (counted ann) (pointIn point)) (refused 4) ≡ accepted → ⊥
     go true e = settled-not (networkChecks (counted net) (pointIn point) ++ annotationChecks (counted net) (counted ann) (pointIn point)) _ e

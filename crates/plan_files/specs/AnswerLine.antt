@@ -5,6 +5,7 @@ use lib.Dec.{leb}
 use lib.ListN.{length, take}
 use Rattle.prelude.specs.Choice.{pick}
 use Rattle.network.specs.Question.{value, none}
+use Rattle.points.specs.Points.{pair}
 use Rattle.points.specs.declared.Point.{Point}
 use Rattle.state.specs.Answers.{Said, accepted, gives, refused}
 use Rattle.file_fields.specs.Bytes.{read32}
@@ -14,13 +15,13 @@ use Rattle.program_io.specs.Line.{numberLine, refusedLine, LineIn}
 use Rattle.program_io.specs.Counted.{counted}
 use Rattle.plan_files.specs.declared.answer_line.Judged.{Judged}
 
--- The point in the first four bytes, most significant first.
+-- The pair of points in the first eight bytes: four each, the first point before the second, most significant byte first.
 abbrev pub pointIn : List ℕ → Point
-pointIn point = record { r = read32 (take 4 point) 0 }
+pointIn point = pair (read32 (take 8 point) 0) (read32 (take 8 point) 4)
 
--- The answer: refusal 4 where the point has fewer than four bytes, whatever the other two files hold; else that of judging what counts of them, at the point.
+-- The answer: refusal 4 where fewer than eight bytes hold the points, whatever the other two files hold; else that of judging what counts of them, at the points.
 unfoldable pub programAnswer : List ℕ → List ℕ → List ℕ → Said
-programAnswer point net ann = pick (leb 4 (length point)) (judged (counted net) (counted ann) (pointIn point)) (refused 4)
+programAnswer point net ann = pick (leb 8 (length point)) (judged (counted net) (counted ann) (pointIn point)) (refused 4)
 
 -- The line of an answer: `value` and the number, `none`, or `refused` and the number. An acceptance has none.
 abbrev pub answerLine : Said → List ℕ

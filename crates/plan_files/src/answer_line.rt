@@ -1,4 +1,4 @@
-// The line of the judging program: what the bytes of a point, a network and an annotation come out as.
+// The line of the judging program: what the bytes of two points, a network and an annotation come out as.
 ghost use mathlib.Core.Path.{_≡_};
 ghost use Rattle.io.specs.Counts.{Counts};
 ghost use Rattle.program_io.specs.Line.{LineIn};
@@ -12,12 +12,13 @@ use program_io::front::read_if;
 use program_io::line;
 use state::Response;
 
-// The point in the first four bytes.
+// The pair of points in the first eight bytes.
 fn point_in(point: &[u8]) -> Point
     ensures { λ r. ⌜ r ≡ pointIn (now (point .entry)) ⌝ }
 {
     Point {
-        r: bits32(point, 0),
+        first: bits32(point, 0),
+        second: bits32(point, 4),
     }
 }
 
@@ -25,7 +26,7 @@ fn point_in(point: &[u8]) -> Point
 fn answer(point: &[u8], net: &[u8], ann: &[u8]) -> Response
     ensures { λ r. ⌜ said r ≡ programAnswer (now (point .entry)) (now (net .entry)) (now (ann .entry)) ⌝ }
 {
-    if point.len() < 4 {
+    if point.len() < 8 {
         return Response::Refused(4);
     }
     let n = counted(net);
@@ -62,8 +63,8 @@ pub struct Judged {
     pub line: usize,
 }
 
-// Reads the three named files into the buffers and makes the line for what was read. The other two files are not opened where the point
-// has fewer than four bytes.
+// Reads the three named files into the buffers and makes the line for what was read. The other two files are not opened where
+// fewer than eight bytes hold the points.
 fn judge_read(
     point_name: &[u8],
     net_name: &[u8],
@@ -76,7 +77,7 @@ fn judge_read(
     ensures { λ r. ⌜ JudgedFiles (now (point .exit)) (now (net .exit)) (now (ann .exit)) (now (text .entry)) r (now (text .exit)) ⌝ }
 {
     let p = read_front(point_name, point);
-    let is_whole = 4 <= p;
+    let is_whole = 8 <= p;
     let n = read_if(is_whole, net_name, net);
     let m = read_if(is_whole, ann_name, ann);
     let k = judge_line(&point[..p], &net[..n], &ann[..m], text);
@@ -93,7 +94,7 @@ pub fn judge_files(
     point_name: &[u8],
     net_name: &[u8],
     ann_name: &[u8],
-    point: &mut [u8; 4],
+    point: &mut [u8; 8],
     net: &mut [u8; 32768],
     ann: &mut [u8; 32768],
     text: &mut [u8; 32],

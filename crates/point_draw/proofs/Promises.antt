@@ -1,20 +1,24 @@
--- What is promised of a drawn point is kept.
+-- What is promised of a drawn point and of a drawn pair is kept.
 use mathlib.Core.Path.{_≡_, refl, sym, ap, ap₂, _∙_}
-use mathlib.Core.Bool.{Bool, true, false}
+use mathlib.Core.Bool.{Bool, true, false, _&&_, and-false}
 use mathlib.Core.List.{List, [], _∷_}
-use Prim.Native.Nat.{ℕ, zero, suc, _+_, _*_, _<_}
+use Prim.Native.Nat.{ℕ, zero, suc, _+_, _*_, _/_, _<_}
+use native.Mathlib.Nat.{zero-add, suc-add}
 use native.Mathlib.Decide.{ℕ-discrete}
 use native.Mathlib.Omega.{arith}
 use borrow.Author.Tests.{lt-ltb, ltb-true, eq-eqb, ne-eqb}
 use lib.Dec.{ltb, eqb}
+use lib.ListN.{length, take, drop}
 use Rattle.prelude.specs.Choice.{pick, indicator}
 use Rattle.prelude.specs.Sums.{sumTo}
 use Rattle.prelude.proofs.Sums.{sumTo-ext, sumTo-add, sumTo-none, sumTo-split}
 use Rattle.field.specs.Field.{p}
 use Rattle.file_fields.specs.Bytes.{read32, bytes32}
+use Rattle.point_draw.specs.declared.Drawn.{Drawn}
 use Rattle.point_draw.specs.declared.Drawn.the-variants.{Point, Nothing}
-use Rattle.point_draw.specs.Draw.{low31, orElse, firstPoint, wordsIn}
-use Rattle.point_draw.specs.Promises.{DrawsPoints, isDrawn, words, countLists, TwoWordsEach, NoOther, EquallyLikely}
+use Rattle.point_draw.specs.declared.DrawnPair.the-variants.{Points}
+use Rattle.point_draw.specs.Draw.{low31, orElse, firstPoint, wordsIn, paired, firstPair}
+use Rattle.point_draw.specs.Promises.{DrawsPoints, isDrawn, words, countLists, TwoWordsEach, NoOther, EquallyLikely, DrawsPairs, isDrawnPair, PairsEquallyLikely}
 
 -- ---- what is drawn is a point
 
@@ -121,3 +125,54 @@ pub equally-likely : EquallyLikely
 unfolding countLists
 equally-likely zero r s h g = refl
 equally-likely (suc k) r s h g = longer k r h ∙ ap (λ (n : ℕ). 2 * lists k + dropped n) (equally-likely k r s h g) ∙ sym (longer k s g)
+
+-- ---- how many lists of words draw a pair
+
+countLists-ext : (k : ℕ) (f g : List ℕ → Bool) → ((ws : List ℕ) → f ws ≡ g ws) → countLists k f ≡ countLists k g
+unfolding countLists
+countLists-ext zero f g e = ap indicator (e [])
+countLists-ext (suc k) f g e = sumTo-ext words _ _ (λ w b. countLists-ext k (λ ws. f (w ∷ ws)) (λ ws. g (w ∷ ws)) (λ ws. e (w ∷ ws)))
+
+-- a test that does not look at the words, and one that may
+one-test-and : (k : ℕ) (b : Bool) (g : List ℕ → Bool) → countLists k (λ ws. b && g ws) ≡ indicator b * countLists k g
+one-test-and k true g = omega arith
+one-test-and k false g = no-lists k ∙ omega arith
+
+-- a test of the first j words and one of the others
+parts-counted : (j k : ℕ) (f g : List ℕ → Bool) → countLists (j + k) (λ ws. f (take j ws) && g (drop j ws)) ≡ countLists j f * countLists k g
+unfolding countLists
+parts-counted zero k f g = rw zero-add (one-test-and k (f []) g)
+parts-counted (suc j) k f g =
+    rw suc-add
+    (sumTo-ext words _ (λ w. countLists j (λ ws. f (w ∷ ws)) * countLists k g) (λ w b. parts-counted j k (λ ws. f (w ∷ ws)) g)
+    ∙ sumTo-scale words (λ w. countLists j (λ ws. f (w ∷ ws))) (countLists k g))
+
+paired-drawn : (r q : ℕ) (a b : Drawn) → isDrawnPair r q (paired a b) ≡ (isDrawn r a && isDrawn q b)
+paired-drawn r q (Point k) (Point l) = refl
+paired-drawn r q (Point k) Nothing = sym (and-false (eqb k r))
+paired-drawn r q Nothing b = refl
+
+pairs-counted : (j k r q : ℕ) → countLists (j + k) (λ ws. isDrawnPair r q (firstPair j ws)) ≡ draws j r * draws k q
+pairs-counted j k r q =
+    countLists-ext (j + k) _ _ (λ ws. paired-drawn r q (firstPoint (take j ws)) (firstPoint (drop j ws)))
+    ∙ parts-counted j k (λ ws. isDrawn r (firstPoint ws)) (λ ws. isDrawn q (firstPoint ws))
+
+pub pairs-equally-likely : PairsEquallyLikely
+pairs-equally-likely j k r q s t hr hq hs ht =
+    pairs-counted j k r q ∙ ap₂ _*_ (equally-likely j r s hr hs) (equally-likely k q t hq ht) ∙ sym (pairs-counted j k s t)
+
+-- ---- what is drawn is a pair of points
+
+-- a pair is drawn where both of its points are
+paired-are : (a b : Drawn) (r q : ℕ) → paired a b ≡ Points r q → (a ≡ Point r) × (b ≡ Point q)
+paired-are (Point k) (Point l) r q e = (cc, cc)
+paired-are (Point k) Nothing r q e = let z : _≡_ {A = ℕ} 0 1 = cc in absurd (omega arith)
+paired-are Nothing b r q e = let z : _≡_ {A = ℕ} 0 1 = cc in absurd (omega arith)
+
+pub draws-pairs : DrawsPairs
+draws-pairs random r q e =
+    let k = length random / 8 in
+    let first = take k (wordsIn random) in
+    let second = drop k (wordsIn random) in
+    let w = paired-are (firstPoint first) (firstPoint second) r q e in
+    (below first r (w .0), below second q (w .1), read-back r, read-back q)

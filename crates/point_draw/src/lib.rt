@@ -1,9 +1,9 @@
-// A point drawn from the system's entropy, every one equally likely, and the file that holds it.
+// Two points drawn from the system's entropy, every pair equally likely, and the file that holds them.
 ghost use mathlib.Core.Path.{_≡_};
 ghost use lib.ListN.{take};
 ghost use Rattle.io.specs.Counts.{Counts};
 ghost use Rattle.program_io.specs.Line.{LineIn};
-ghost use Rattle.point_draw.specs.Draw.{low31, drawn, pointFile, pointLine};
+ghost use Rattle.point_draw.specs.Draw.{low31, drawn, paired, drawnPair, pointFile, pointLine};
 use file_fields::bytes::bits32;
 use file_fields::bytes::put_bits32;
 use program_io::line;
@@ -12,6 +12,12 @@ use program_io::saving;
 // What is drawn from random bytes: a point below p, or nothing where no word of them gives one.
 pub enum Drawn {
     Point(u32),
+    Nothing,
+}
+
+// What is drawn for a session: a pair of points below p, or nothing.
+pub enum DrawnPair {
+    Points(u32, u32),
     Nothing,
 }
 
@@ -39,24 +45,50 @@ pub fn draw(random: &[u8]) -> Drawn
     Drawn::Nothing
 }
 
-// Puts the point's four bytes into its file's buffer, which stays as it is where nothing was drawn.
-pub fn write_point(drawn: Drawn, file: &mut [u8; 4])
+// Two points make a pair; where either is missing, nothing is drawn.
+fn paired(first: Drawn, second: Drawn) -> DrawnPair
+    ensures { λ r. ⌜ r ≡ paired first second ⌝ }
+{
+    let Drawn::Point(r) = first else {
+        return DrawnPair::Nothing;
+    };
+    let Drawn::Point(q) = second else {
+        return DrawnPair::Nothing;
+    };
+    DrawnPair::Points(r, q)
+}
+
+// Draws two points, each from words of its own: the first half of the random bytes is for the first point, the rest for the second.
+pub fn draw_pair(random: &[u8]) -> DrawnPair
+    ensures { λ r. ⌜ r ≡ drawnPair (now (random .entry)) ⌝ }
+{
+    let h = random.len() / 8 * 4;
+    let first = draw(&random[..h]);
+    let second = draw(&random[h..]);
+    paired(first, second)
+}
+
+// Puts the eight bytes of the points into their file's buffer, which stays as it is where nothing was drawn.
+pub fn write_point(drawn: DrawnPair, file: &mut [u8; 8])
     ensures { λ _. ⌜ now (file .exit) ≡ pointFile drawn (now (file .entry)) ⌝ }
 {
     match drawn {
-        Drawn::Point(r) => put_bits32(file, 0, r),
-        Drawn::Nothing => {}
+        DrawnPair::Points(r, q) => {
+            put_bits32(file, 0, r);
+            put_bits32(file, 4, q);
+        }
+        DrawnPair::Nothing => {}
     }
 }
 
 // The line for what was drawn, saved or not, and how long it is.
-pub fn line_for(drawn: Drawn, done: bool, text: &mut [u8; 32]) -> usize
+pub fn line_for(drawn: DrawnPair, done: bool, text: &mut [u8; 32]) -> usize
     ensures { λ r. ⌜ Counts r (now (text .exit)) ⌝ }
     ensures { λ r. ⌜ LineIn (pointLine drawn done) (now (text .entry)) r (now (text .exit)) ⌝ }
 {
     match drawn {
-        Drawn::Point(_) => line::saved(4, done, text),
-        Drawn::Nothing => line::plain(b"no entropy\n", text),
+        DrawnPair::Points(_, _) => line::saved(8, done, text),
+        DrawnPair::Nothing => line::plain(b"no entropy\n", text),
     }
 }
 
@@ -70,30 +102,30 @@ fn entropy(random: &mut [u8]) -> usize
     random.len()
 }
 
-// Saves the file of the point that was drawn, for its owner alone, and answers whether it is there.
-fn save_drawn(name: &[u8], drawn: Drawn, file: &[u8]) -> bool {
+// Saves the file of the points that were drawn, for its owner alone, and answers whether it is there.
+fn save_drawn(name: &[u8], drawn: DrawnPair, file: &[u8]) -> bool {
     match drawn {
-        Drawn::Point(_) => saving::save(name, file, 0o600),
-        Drawn::Nothing => false,
+        DrawnPair::Points(_, _) => saving::save(name, file, 0o600),
+        DrawnPair::Nothing => false,
     }
 }
 
-// How many random bytes count, whether the point is in its file, and how long the line is.
+// How many random bytes count, whether the points are in their file, and how long the line is.
 pub struct Made {
     pub random: usize,
     pub saved: bool,
     pub line: usize,
 }
 
-// Draws a point from random bytes of the system in a lent buffer, puts its bytes into the other, saves them in the named file and makes the line.
-pub fn make_point(name: &[u8], random: &mut [u8], file: &mut [u8; 4], text: &mut [u8; 32]) -> Made
+// Draws two points from random bytes of the system in a lent buffer, puts their bytes into the other, saves them in the named file and makes the line.
+pub fn make_point(name: &[u8], random: &mut [u8], file: &mut [u8; 8], text: &mut [u8; 32]) -> Made
     ensures { λ r. ⌜ Counts (r .line) (now (text .exit)) ⌝ }
     ensures { λ r. ⌜ Counts (r .random) (now (random .exit)) ⌝ }
-    ensures { λ r. ⌜ now (file .exit) ≡ pointFile (drawn (take (r .random) (now (random .exit)))) (now (file .entry)) ⌝ }
-    ensures { λ r. ⌜ LineIn (pointLine (drawn (take (r .random) (now (random .exit)))) (r .saved)) (now (text .entry)) (r .line) (now (text .exit)) ⌝ }
+    ensures { λ r. ⌜ now (file .exit) ≡ pointFile (drawnPair (take (r .random) (now (random .exit)))) (now (file .entry)) ⌝ }
+    ensures { λ r. ⌜ LineIn (pointLine (drawnPair (take (r .random) (now (random .exit)))) (r .saved)) (now (text .entry)) (r .line) (now (text .exit)) ⌝ }
 {
     let n = entropy(random);
-    let drawn = draw(&random[..n]);
+    let drawn = draw_pair(&random[..n]);
     write_point(drawn, file);
     let saved = save_drawn(name, drawn, file);
     let k = line_for(drawn, saved, text);

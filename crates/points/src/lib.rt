@@ -1,4 +1,4 @@
-// The secret point of a session and the fingerprint taken at it (PANEL 4). Nothing else knows how many points there are.
+// The pair of secret points of a session and the fingerprint taken at it (PANEL 4). Nothing else knows how many points there are.
 ghost use mathlib.Core.Path.{_≡_};
 ghost use mathlib.Core.List.{[], _∷_};
 ghost use lib.Dec.{leb};
@@ -8,41 +8,52 @@ ghost use Rattle.network.specs.Network.{key};
 ghost use Rattle.points.specs.Points.{noPoint, pointOk, emptyPrint, extendPrint, samePrint};
 use arc_records::Record;
 
-// The point: a number below p.
+// The pair of points of a session: numbers below p, which may be equal.
 pub struct Point {
-    pub r: u32,
+    pub first: u32,
+    pub second: u32,
 }
 
-// What a list of arcs has at a point: the product, reduced.
+// What a list of arcs has at a pair: the product at each of its points, reduced.
 pub struct Print {
-    pub residue: u32,
+    pub first: u32,
+    pub second: u32,
 }
 
-// A list of arcs as the panel keeps it: how many they are, and their fingerprint at the point.
+// A list of arcs as the panel keeps it: how many they are, and their fingerprint at the pair.
 pub struct Stream {
     pub count: u32,
     pub print: Print,
 }
 
-// The point that a session holds while it is void.
+// The pair that a session holds while it is void.
 pub fn no_point() -> Point
     ensures { λ r. ⌜ r ≡ noPoint ⌝ }
 {
-    Point { r: 0 }
+    Point {
+        first: 0,
+        second: 0,
+    }
 }
 
-// 4: is it a point?
+// 4: are both points below p?
 pub fn is_point(point: Point) -> bool
     ensures { λ r. ⌜ r ≡ pointOk point ⌝ }
 {
-    field::is_residue(point.r)
+    if !field::is_residue(point.first) {
+        return false;
+    }
+    field::is_residue(point.second)
 }
 
 // The fingerprint of no arc.
 pub fn no_arcs() -> Print
     ensures { λ r. ⌜ r ≡ emptyPrint ⌝ }
 {
-    Print { residue: 1 }
+    Print {
+        first: 1,
+        second: 1,
+    }
 }
 
 // The key of an arc. In 64 bits no sum is too large.
@@ -58,15 +69,19 @@ pub fn with_arc(point: Point, print: Print, arc: Record) -> Print
 {
     let key = key_of(arc);
     Print {
-        residue: field::extend(point.r, print.residue, key),
+        first: field::extend(point.first, print.first, key),
+        second: field::extend(point.second, print.second, key),
     }
 }
 
-// 14: do the two fingerprints agree?
-fn is_same(first: Print, second: Print) -> bool
-    ensures { λ r. ⌜ r ≡ samePrint first second ⌝ }
+// 14: do the two fingerprints agree, in both products?
+fn is_same(read: Print, repeated: Print) -> bool
+    ensures { λ r. ⌜ r ≡ samePrint read repeated ⌝ }
 {
-    first.residue == second.residue
+    if read.first == repeated.first {
+        return read.second == repeated.second;
+    }
+    false
 }
 
 // The two lists of arcs at finishing: 0, or the number of the first check that refuses them, 13 or 14.

@@ -1,6 +1,7 @@
 -- Tests taken apart and put together.
 use mathlib.Core.Path.{_≡_, refl}
-use mathlib.Core.Bool.{Bool, true, false, not, _&&_, false≢true}
+use mathlib.Core.Logic.{_⊎_, inl, inr}
+use mathlib.Core.Bool.{Bool, true, false, not, _&&_, _||_, false≢true}
 use lib.Dec.{T}
 use Rattle.prelude.specs.Choice.{implies, indicator}
 use Prim.Native.Nat.{_≤_}
@@ -17,6 +18,15 @@ and-right false b t = absurd t
 pub both : (a b : Bool) → T a → T b → T (a && b)
 both true b p q = q
 both false b p q = p
+
+pub either : (a b : Bool) → T (a || b) → T a ⊎ T b
+either true b t = inl t
+either false b t = inr t
+
+pub in-either : (a b : Bool) → T a ⊎ T b → T (a || b)
+in-either true b h = tt
+in-either false b (inl t) = absurd t
+in-either false b (inr t) = t
 
 pub implied : (a b : Bool) → T (implies a b) → a ≡ true → T b
 implied true b t e = t

@@ -1,6 +1,6 @@
 -- What holds of every element of a list or of one, a list of different elements without one of them, and lists of what is numbered from 0 on.
 use mathlib.Core.Path.{_≡_, refl, sym, _∙_, ap, ap₂, subst}
-use mathlib.Core.Logic.{inl, inr}
+use mathlib.Core.Logic.{inl, inr, ⊎-map}
 use mathlib.Core.Bool.{Bool}
 use mathlib.Core.List.{List, [], _∷_, _++_, map, append-assoc, append-nil}
 use Prim.Native.Nat.{ℕ, zero, suc, _≤_, _<_, suc-le-suc}
@@ -10,8 +10,8 @@ use native.Mathlib.Omega.{arith}
 use lib.Dec.{T}
 use lib.ListN.{length, getD, take, length-append}
 use lib.Seq.{take-suc}
-use Rattle.prelude.specs.Lists.{Every, Member, Distinct, all, listTo}
-use Rattle.prelude.proofs.Booleans.{and-left, and-right, both}
+use Rattle.prelude.specs.Lists.{Every, Some, Member, Distinct, all, any, listTo}
+use Rattle.prelude.proofs.Booleans.{and-left, and-right, both, either, in-either}
 
 pub every-map : {A : Type 0} {P Q : A → Type 0} → ((a : A) → P a → Q a) → (l : List A) → Every P l → Every Q l
 every-map k [] e = tt
@@ -45,6 +45,16 @@ all→every p k (a ∷ l) t = (k a (and-left (p a) (all p l) t), all→every p k
 pub every→all : {A : Type 0} {P : A → Type 0} (p : A → Bool) → ((a : A) → P a → T (p a)) → (l : List A) → Every P l → T (all p l)
 every→all p k [] e = tt
 every→all p k (a ∷ l) e = both (p a) (all p l) (k a (e .0)) (every→all p k l (e .1))
+
+-- a test of some element
+module _ {A : Type 0} {P : A → Type 0} (p : A → Bool) where
+  pub any→some : ((a : A) → T (p a) → P a) → (l : List A) → T (any p l) → Some P l
+  any→some k [] t = t
+  any→some k (a ∷ l) t = ⊎-map (k a) (any→some k l) (either (p a) (any p l) t)
+
+  pub some→any : ((a : A) → P a → T (p a)) → (l : List A) → Some P l → T (any p l)
+  some→any k [] h = h
+  some→any k (a ∷ l) h = in-either (p a) (any p l) (⊎-map (k a) (some→any k l) h)
 
 -- a list of different elements without k: it lacks k, and is shorter by one at most
 pub record Without {A : Type 0} (k : A) (l : List A) : Type 1 where

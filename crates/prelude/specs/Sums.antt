@@ -18,6 +18,10 @@ sumToℤ (suc n) g = sumToℤ n g +ℤ g n
 abbrev pub count : (ℕ → Bool) → ℕ → ℕ
 count p n = sumTo n (λ i. indicator (p i))
 
+-- How many pairs of numbers below n pass the test, pairs of equal numbers among them.
+abbrev pub countPairs : (ℕ → ℕ → Bool) → ℕ → ℕ
+countPairs p n = sumTo n (λ i. count (p i) n)
+
 -- The test holds of every number below n.
 unfoldable pub allTo : ℕ → (ℕ → Bool) → Bool
 allTo zero p = true

@@ -11,7 +11,7 @@ use testing::script::find;
 use testing::script::starts_line;
 
 fn print_judged(point_name: &[u8], net_name: &[u8], ann_name: &[u8]) {
-    let mut point = [0u8; 4];
+    let mut point = [0u8; 8];
     let mut net = front::room();
     let mut ann = front::room();
     let mut text = [0u8; 32];
@@ -44,8 +44,8 @@ fn print_annotated(net_name: &[u8], ann_name: &[u8]) {
 }
 
 fn print_drawn(name: &[u8]) {
-    let mut random = [0u8; 64];
-    let mut file = [0u8; 4];
+    let mut random = [0u8; 128];
+    let mut file = [0u8; 8];
     let mut text = [0u8; 32];
     let made = point_draw::make_point(name, &mut random, &mut file, &mut text);
     let n = made.line;

@@ -1,6 +1,7 @@
-// Has the helper annotate random networks, judges its annotations at several points, in another order and twisted, and compares every answer
+// Has the helper annotate random networks, judges its annotations at several pairs of points, in another order and twisted, and compares every answer
 // with another implementation. A network is wrong that gets any answer but the true one.
 mod annotations;
+mod collisions;
 mod other_pumps;
 mod places;
 mod self_loops;

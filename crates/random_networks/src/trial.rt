@@ -2,12 +2,13 @@
 use super::annotations::exchange;
 use super::annotations::number_at;
 use super::annotations::record_at;
+use super::collisions;
 use super::places::Case;
 use super::places::annotation_size;
-use super::places::any_point;
+use super::places::any_pair;
 use super::places::judged_with;
 use super::places::known;
-use super::places::point;
+use super::places::pair_at;
 use super::self_loops;
 use super::tally;
 use super::twists::EITHER;
@@ -30,6 +31,7 @@ use reference::rows::weight;
 use reference::truth;
 use test_calls::judged_files::LONGEST;
 use test_calls::judged_files::annotated;
+use test_calls::judged_files::pair;
 use testing::answers::NONE;
 use testing::files::Files;
 use testing::files::number;
@@ -46,12 +48,15 @@ const TWISTED_NETWORKS: usize = 640;
 
 const TWISTS: usize = 24;
 
-// Judges at five points: how many answers are not the true one.
+// How many pairs of points every annotation is judged at.
+const PAIRS: usize = 6;
+
+// Judges at each pair: how many answers are not the true one.
 fn everywhere(c: Case, f: &Files) -> usize {
     let mut wrong: usize = 0;
     let mut i: usize = 0;
-    while i < 5 {
-        let said = judged_with(c, f, c.m, point(c, i));
+    while i < PAIRS {
+        let said = judged_with(c, f, c.m, pair_at(c, i));
         wrong = plus(wrong, different(said, c.answer));
         i += 1;
     }
@@ -69,20 +74,28 @@ fn shuffle(c: Case, f: &mut Files) {
     }
 }
 
-// Judges at five points, and in another order of the records: how many answers are not the true one.
+// Judges at each pair, and in another order of the records: how many answers are not the true one.
 fn wrong_answers(c: Case, f: &mut Files) -> usize {
     let wrong = everywhere(c, f);
     shuffle(c, f);
-    let said = judged_with(c, f, c.m, any_point(c.seed, 7));
+    let said = judged_with(c, f, c.m, any_pair(c.seed, 7));
     plus(wrong, different(said, c.answer))
 }
 
-// What judging says of a twisted annotation: with a record left out at the key of one, where the fingerprints may agree; else anywhere.
+// How many records a twisted annotation has.
+fn records(c: Case, t: usize) -> usize {
+    if t % 8 == LEFT_OUT {
+        return minus(c.m, 1);
+    }
+    c.m
+}
+
+// What judging says of a twisted annotation: with a record left out at the key of one twice, where the products may agree; else anywhere.
 fn said_of(c: Case, f: &Files, t: usize) -> usize {
     if t % 8 == LEFT_OUT {
-        return judged_with(c, f, minus(c.m, 1), c.key);
+        return judged_with(c, f, records(c, t), pair(c.key, c.key));
     }
-    judged_with(c, f, c.m, any_point(c.seed, plus(t, 8)))
+    judged_with(c, f, c.m, any_pair(c.seed, plus(t, 8)))
 }
 
 // What was said of a twisted annotation: REFUSED, RIGHT, or 2 for another answer.
@@ -93,11 +106,9 @@ fn weighed(said: usize, answer: usize) -> usize {
     plus(RIGHT, different(said, answer))
 }
 
-// What came of twist number t, and 2 for what ought not to come of it.
-fn twisted(c: Case, f: &Files, t: usize) -> usize {
-    let mut other = *f;
-    let due = twist(t % 8, t / 8, c, &mut other);
-    let k = weighed(said_of(c, &other, t), c.answer);
+// What was said of it, and 2 for what ought not to come of it.
+fn came(due: usize, said: usize, answer: usize) -> usize {
+    let k = weighed(said, answer);
     if due == EITHER || due == k {
         return k;
     }
@@ -106,24 +117,33 @@ fn twisted(c: Case, f: &Files, t: usize) -> usize {
 
 // Twists the annotation once.
 fn twist_once(c: Case, f: &Files, t: usize, tally: &mut Tally) {
+    let mut other = *f;
+    let due = twist(t % 8, t / 8, c, &mut other);
+    let said = said_of(c, &other, t);
+    let k = came(due, said, c.answer);
+    grow(tally, plus(tally::TWISTED + 3 * (t % 8), k), 1);
+    grow(tally, tally::WRONG, k / 2);
+    collisions::judge(c, &other, records(c, t), plus(t, 32), said, tally);
+}
+
+// Twists it if there is anything to change.
+fn twist_if(c: Case, f: &Files, t: usize, tally: &mut Tally) {
     if applies(t % 8, c, f) {
-        let k = twisted(c, f, t);
-        grow(tally, plus(tally::TWISTED + 3 * (t % 8), k), 1);
-        grow(tally, tally::WRONG, k / 2);
+        twist_once(c, f, t, tally);
     }
 }
 
 fn twist_all(c: Case, f: &Files, tally: &mut Tally) {
     let mut t: usize = 0;
     while t < TWISTS {
-        twist_once(c, f, t, tally);
+        twist_if(c, f, t, tally);
         t += 1;
     }
 }
 
 // All that is done with an annotation.
 fn try_all(c: Case, f: &mut Files, tally: &mut Tally) {
-    grow(tally, tally::JUDGED, 6);
+    grow(tally, tally::JUDGED, PAIRS + 1);
     grow(tally, tally::WRONG, wrong_answers(c, f));
     if c.seed < TWISTED_NETWORKS {
         twist_all(c, f, tally);

@@ -12,11 +12,13 @@ use reference::truth;
 use test_calls::judged_files::LONGEST;
 use test_calls::judged_files::annotated;
 use test_calls::judged_files::judged;
+use test_calls::judged_files::pair;
 use test_calls::scheduled_files::scheduled;
 use testing::files::FILLING;
 use testing::files::Files;
 use testing::files::START;
 use testing::files::get;
+use testing::files::number;
 use testing::files::put;
 use testing::numbers::different;
 use testing::numbers::minus;
@@ -101,13 +103,26 @@ fn to_front(f: &mut Files) {
     }
 }
 
-// Has the helper annotate the file that was written, and judges at two points: how many answers are not the true one.
+// The key of the first record of the network at the front; a number below p also where there is no record.
+fn first_key(f: &Files) -> usize {
+    let r = number(f, 11, 4);
+    r / 65536 % 65535 * 32768 + r % 32768
+}
+
+// Has the helper annotate the file that was written, and judges at two points that look random, and at the key of a record, where the
+// products are 0, with one of them and twice: how many answers are not the true one.
 fn wrong_answers(seed: usize, answer: usize, f: &mut Files, size: usize) -> usize {
     to_front(f);
     let ann = annotated(f, size, LONGEST);
-    let said = judged(f, size, ann, below(2147483647, seed, 0, 5));
-    let again = judged(f, size, ann, below(2147483647, seed, 1, 5));
-    plus(different(said, answer), different(again, answer))
+    let any = below(2147483647, seed, 0, 5);
+    let key = first_key(f);
+    let said = judged(f, size, ann, pair(any, below(2147483647, seed, 1, 5)));
+    let at_one = judged(f, size, ann, pair(key, any));
+    let at_both = judged(f, size, ann, pair(key, key));
+    plus(
+        different(said, answer),
+        plus(different(at_one, answer), different(at_both, answer)),
+    )
 }
 
 // Makes the network and its file.

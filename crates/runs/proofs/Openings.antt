@@ -1,4 +1,4 @@
--- The checks of opening at a point hold exactly where opening accepts the setting and the point.
+-- The checks of opening at a pair of points hold exactly where opening accepts the setting and the points.
 use mathlib.Core.List.{[], _∷_}
 use Rattle.prelude.specs.Checks.{_unless_, Hold}
 use Rattle.prelude.proofs.Settle.{hold-append, hold-left, hold-right}
@@ -18,11 +18,11 @@ module _ (st : Setting) (r : Point) where
     point = point-rule r (hold-right (openingChecks st) (4 unless pointOk r ∷ []) h .0);
   }
 
-  -- checks 1 to 3 hold, and the point is one
+  -- checks 1 to 3 hold, and the points are points
   pub opens-held : Hold (openingChecks st) → IsPoint r → Hold (openChecks st r)
   opens-held h p = hold-append (openingChecks st) (4 unless pointOk r ∷ []) h (point-test r p, tt)
 
-  -- the checks of opening but for that of the point
+  -- the checks of opening but for that of the points
   pub without-point : Hold (openChecks st r) → Hold (openingChecks st)
   without-point h = hold-left (openingChecks st) (4 unless pointOk r ∷ []) h
 

@@ -1,7 +1,7 @@
 -- The promises of specs/Promises.antt, kept.
 use Rattle.runs.specs.Promises.{VoidIsOver, OverForEver, RefusalLeaves, FiveChangesNothing, FinishEnds, RefusedOpeningVoid, OnlyRefusals}
 use Rattle.runs.specs.Promises.{OpeningAnswers, AnswersOfLists, HoldsAccepted, PointUnseen, ReadAsListed, ClaimsListed, AnswersExactly, TrueWhereSame}
-use Rattle.runs.specs.Promises.{FirstBroken, ExchangeGives, ExchangeFinishes, ExchangeTrue, CertificatesPass, FewWrong}
+use Rattle.runs.specs.Promises.{FirstBroken, ExchangeGives, ExchangeFinishes, ExchangeTrue, CertificatesPass, FewWrong, FewWrongCounted}
 use Rattle.runs.proofs.Meets as meets
 use Rattle.runs.proofs.Refusals as refusals
 use Rattle.runs.proofs.RunsAgree as runs
@@ -78,3 +78,6 @@ certificates-pass = meets.certificates-pass
 
 pub few-wrong : FewWrong
 few-wrong = wrong.few-wrong
+
+pub few-wrong-counted : FewWrongCounted
+few-wrong-counted = wrong.few-wrong-counted

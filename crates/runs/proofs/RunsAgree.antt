@@ -1,5 +1,5 @@
 -- A run of a session is the run of the lists that it has accepted, for every opening: what its steps answer, the session that they hand back, and the list that was read.
--- What is accepted does not depend on the point.
+-- What is accepted does not depend on the points.
 use mathlib.Core.Path.{_≡_, refl, sym, _∙_, ap, ap₂, subst}
 use mathlib.Core.Bool.{Bool, true, false}
 use mathlib.Core.List.{List, [], _∷_, _++_}
@@ -129,7 +129,7 @@ accepts-none st r o = settled (λ why. over) (openChecks st r) (reading []) (ope
 pub runs-agree : (st : Setting) (r : Point) → Opens st r → (steps : List Step) → runFrom st r steps ≡ replies (agreeAt r) st (reading []) steps
 runs-agree st r o steps = answers-of-lists st r steps ∙ ap (λ (x : AcceptedLists). replies (agreeAt r) st x steps) (accepts-none st r o)
 
--- ---- the point
+-- ---- the points
 
 -- finishing ends the lists unless it gave 5, whether the fingerprints agree or not
 ended-blindly : (x : AcceptedLists) (a b c d e : Bool) → settle (λ why. pick (eqb why 5) x over) (5 unless a ∷ 13 unless b ∷ 14 unless c ∷ 15 unless d ∷ 16 unless e ∷ []) over ≡ pick a over x
@@ -162,7 +162,7 @@ module _ (agree other : List Arc → List Arc → Bool) (st : Setting) where
   blind-after [] x = refl
   blind-after (a ∷ steps) x = ap (λ (y : AcceptedLists). acceptedAfter agree st y steps) (blind-next x a) ∙ blind-after steps (next other st x a)
 
--- opening at a point accepts by the checks of the setting alone
+-- opening at a pair of points accepts by the checks of the setting alone
 opened-alike : (st : Setting) (r : Point) → IsPoint r → openedLists st r ≡ settle (λ why. over) (openingChecks st) (reading [])
 opened-alike st r h =
     settle-append (λ why. over) (openingChecks st) (4 unless pointOk r ∷ []) (reading [])

@@ -75,7 +75,7 @@ module _ (st : Setting) (l : List Arc) (k : ℕ) (ys : List ℤ) (f : List Load)
     pub true-answer : Opened st → Perm l (arcs f) → TrueAnswer st l (answerOf st (claimOf k) (sumsAt st ys f))
     true-answer o m = certificates-sound st l (at ys) f (answerOf st (claimOf k) (sumsAt st ys f)) o (g .list .allowed) (perm-sym m) certifies
 
-  -- at a point where the fingerprints agree
+  -- at a pair where the fingerprints agree
   pub meets : (r : Point) → Hold (finalRules st r l k ys f) → Meets st r l k ys f (answerOf st (claimOf k) (sumsAt st ys f))
   meets r h =
       let named = leb 1 k && leb k 2 in

@@ -1,31 +1,32 @@
--- Demand 3 for lists of steps: a fixed list gives a wrong answer at m - 1 points at most.
+-- Demand 3 for lists of steps: a fixed list gives a wrong answer at few pairs of points.
 use mathlib.Core.Path.{_≡_, refl, sym, _∙_, ap, subst}
 use mathlib.Core.Logic.{_⊎_, inl, inr}
-use mathlib.Core.Bool.{Bool, true, false}
+use mathlib.Core.Bool.{Bool, true, false, not}
 use mathlib.Core.List.{List, [], _∷_, tail}
 use Prim.Native.Nat.{ℕ}
 use native.Mathlib.Omega.{arith}
 use native.Mathlib.Decide.{ℕ-discrete}
-use lib.Dec.{T, eqb}
+use lib.Dec.{T, eqb, eqb-refl}
 use lib.IntN.{ℤ}
 use lib.ListN.{length, length-map}
 use Rattle.prelude.specs.Checks.{Check, _unless_, settle, firstBroken, Hold}
 use Rattle.prelude.specs.Choice.{pick}
-use Rattle.prelude.specs.Lists.{Every, Some, Perm, AtMost}
-use Rattle.prelude.proofs.Lists.{every-map}
+use Rattle.prelude.specs.Lists.{Every, Some, Perm, AtMost, any}
+use Rattle.prelude.proofs.Lists.{every-map, any→some}
 use Rattle.prelude.proofs.Settle.{settled, none-broken}
 use Rattle.arc_records.specs.Arcs.{Arc}
 use Rattle.network.specs.Network.{Load, arcs}
-use Rattle.network.specs.Question.{Setting, Opened, Allowed, Answer, TrueAnswer}
+use Rattle.network.specs.Question.{Setting, Opened, Allowed, Answer, value, none, TrueAnswer}
 use Rattle.network.specs.Tests.{openingChecks, claimOf, finishingChecks, answerOf}
 use Rattle.network.proofs.Allowed.{opening-rule, opening-test}
+use Rattle.network.proofs.Promises.{one-answer}
 use Rattle.points.specs.Points.{IsPoint, printOf, misleadingPoints}
 use Rattle.points.specs.declared.Point.{Point}
-use Rattle.points.proofs.Prints.{same-print}
+use Rattle.points.proofs.Prints.{same-print, at-most→points}
 use Rattle.points.proofs.Promises.{few-mislead}
 use Rattle.state.specs.Answers.{Said, accepted, gives, refused}
-use Rattle.runs.specs.Run.{Step, read, end, claim, number, repeat, finish, listRead, Wrong, WrongAt}
-use Rattle.runs.specs.Promises.{FewWrong}
+use Rattle.runs.specs.Run.{Step, read, end, claim, number, repeat, finish, runFrom, listRead, Wrong, WrongAt, sameAnswer, isOther}
+use Rattle.runs.specs.Promises.{FewWrong, FewWrongCounted}
 use Rattle.runs.specs.AcceptedLists.{AcceptedLists, over, reading, hasRead, claimed, numbersOf, sumsAt, agreeAt, stepChecks, next, reply, replies, openedLists}
 use Rattle.runs.proofs.Invariant.{AnnotationPassed, Invariant, settle-keeps, invariant-next}
 use Rattle.runs.proofs.RunsAgree.{by-opening, over-stays, runs-agree, answers-of-lists, finish-leaves, WillRead, will-read-next}
@@ -33,7 +34,7 @@ use Rattle.runs.proofs.TrueAnswers.{again, same-size, true-answer}
 
 -- ---- whose fault a wrong answer is
 
--- Nobody's, at no point; or that of two lists of `size` arcs that reading accepts, which are no permutations and agree at the point. The points may be of any type.
+-- Nobody's, at no point; or that of two lists of `size` arcs that reading accepts, which are no permutations and agree at the point. Points may be of any type: here they are pairs.
 data Blame {P : Type 0} (agrees : P → List Arc → List Arc → Bool) (st : Setting) (size : ℕ) (Bad : P → Type 0) : Type 0 where
   nobody : ((r : P) → Bad r → ⊥) → Blame agrees st size Bad
   lists : (l m : List Arc) → Opened st → Every (Allowed st) l → Every (Allowed st) m → length l ≡ size → length m ≡ size
@@ -100,7 +101,7 @@ module _ {P : Type 0} (agrees : P → List Arc → List Arc → Bool) (st : Sett
       first r (inl w) = let h = wrong-held st net a (cs r) w in ((tt, h .0), h .1)
       first r (inr w) = absurd (never st net (replies (agrees r) st over steps) (over-refuses (agrees r) st steps) w)
 
-  -- the rules of finishing at the point r
+  -- the rules of finishing at the pair r
   abbrev finishRules : List Arc → ℕ → List ℤ → List Load → P → List Check
   finishRules l k ys f r = finishingChecks st (numbersOf (claimOf k) ys) (length l) (length f) (agrees r l (arcs f)) (sumsAt st ys f)
 
@@ -179,3 +180,24 @@ few-blamed st size Bad point (lists l m o hl hm e e′ h) (r ∷ rs) d a =
 
 pub few-wrong : FewWrong
 few-wrong st steps = few-blamed st (length (listRead st steps)) (WrongAt st steps) (λ r w. w .0) (blamed st steps)
+
+-- ---- the test of a wrong answer
+
+no-other : (a : Answer) → T (not (sameAnswer a a)) → ⊥
+no-other (value v) t = no-test (eqb v v) (eqb-refl v) t
+  where
+    no-test : (b : Bool) → T b → T (not b) → ⊥
+    no-test true h k = k
+    no-test false h k = h
+no-other none t = t
+
+-- where a is the true answer, another is wrong
+pub other-wrong : (st : Setting) (net : List Arc) (a : Answer) → TrueAnswer st net a → (b : Said) → T (isOther a b) → Wrong st net b
+other-wrong st net a true-one accepted t = t
+other-wrong st net a true-one (gives b) t = λ too. no-other a (subst (λ (c : Answer). T (not (sameAnswer c a))) (one-answer st net b a too true-one) t)
+other-wrong st net a true-one (refused k) t = t
+
+pub few-wrong-counted : FewWrongCounted
+few-wrong-counted st steps a h =
+    at-most→points (WrongAt st steps) (λ r. any (isOther a) (runFrom st r steps)) _
+    (λ r w t. (w, any→some (isOther a) (other-wrong st (listRead st steps) a h) (runFrom st r steps) t)) (few-wrong st steps)

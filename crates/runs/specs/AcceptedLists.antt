@@ -1,5 +1,5 @@
 -- What a session has accepted, as lists: the checks of each step, what an accepted step adds, what a refusal leaves, and what is answered (PANEL 6).
--- No array, no word of marks and no point is here: the point enters only where two lists are compared at it, check 14.
+-- No array, no word of marks and no point is here: the points enter only where two lists are compared at them, check 14.
 use mathlib.Core.Path.{_≡_}
 use mathlib.Core.Bool.{Bool, true, false}
 use mathlib.Core.List.{List, [], _∷_, _++_}
@@ -94,7 +94,7 @@ numbersAccepted x = numbersOf (claimOf (claimedIn x)) (numberedIn x)
 abbrev pub sumsAccepted : Setting → AcceptedLists → Sums
 sumsAccepted st x = sumsAt st (numberedIn x) (repeatedIn x)
 
--- Do two lists of arcs have equal fingerprints at the point (check 14)?
+-- Do two lists of arcs have equal fingerprints at the pair of points (check 14)?
 abbrev pub agreeAt : Point → List Arc → List Arc → Bool
 agreeAt r l m = samePrint (printOf r l) (printOf r m)
 
@@ -155,7 +155,7 @@ acceptedAfter agree st x (a ∷ steps) = acceptedAfter agree st (next agree st x
 abbrev pub openedLists : Setting → Point → AcceptedLists
 openedLists st r = settle (λ why. over) (openChecks st r) (reading [])
 
--- What is accepted once a session was opened at a point and has run through a list of steps.
+-- What is accepted once a session was opened at a pair of points and has run through a list of steps.
 abbrev pub acceptedBy : Setting → Point → List Step → AcceptedLists
 acceptedBy st r steps = acceptedAfter (agreeAt r) st (openedLists st r) steps
 

@@ -65,7 +65,7 @@ verdict st r net k ys f =
 
 -- ---- the same rules, as the certificate states them
 
--- Opening accepts the setting and the point.
+-- Opening accepts the setting and the pair of points.
 pub record Opens (st : Setting) (r : Point) : Type 0 where
   pub opened : Opened st
   pub point : IsPoint r

@@ -1,4 +1,4 @@
--- How a session holds what it has accepted at its point: of the lists of arcs their lengths and fingerprints, of the node numbers an array and words of marks, of the repeated arcs
+-- How a session holds what it has accepted at its pair of points: of the lists of arcs their lengths and fingerprints, of the node numbers an array and words of marks, of the repeated arcs
 -- balances and sums (PANEL 6).
 use mathlib.Core.List.{List, [], _∷_}
 use Prim.Native.Nat.{ℕ, suc}
@@ -37,7 +37,7 @@ marksOf ys = marksFrom 0 (replicate 4 0) ys
 abbrev pub arraysAt : List ℤ → List Load → Arrays
 arraysAt ys f = arraysOf (listTo mostVertices (at ys)) (listTo mostVertices (λ v. balance v f))
 
--- The session that holds what is accepted in a setting at a point.
+-- The session that holds what is accepted in a setting at a pair of points.
 abbrev pub sessionOf : Setting → Point → AcceptedLists → Session
 sessionOf st r over = void
 sessionOf st r (reading l) = holding phaseReading (held st) r (streamOf r l)

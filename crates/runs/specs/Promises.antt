@@ -3,18 +3,18 @@ use mathlib.Core.Path.{_≡_}
 use mathlib.Core.Logic.{_↔_}
 use mathlib.Core.Bool.{false}
 use mathlib.Core.List.{List}
-use Prim.Native.Nat.{ℕ}
+use Prim.Native.Nat.{ℕ, _≤_}
 use lib.IntN.{ℤ}
 use lib.ListN.{length}
 use Rattle.prelude.specs.Checks.{settle}
-use Rattle.prelude.specs.Lists.{Every, Member, Perm, AtMost, at}
+use Rattle.prelude.specs.Lists.{Every, Member, Perm, AtMost, any, at}
 use Rattle.arc_records.specs.Arcs.{Arc}
 use Rattle.network.specs.Network.{Load, arcs}
 use Rattle.network.specs.Question.{Setting, Answer, TrueAnswer}
 use Rattle.network.specs.Certificate.{claimFor, Certified}
 use Rattle.network.specs.Tests.{claimNumber}
 use Rattle.ranges.specs.Promises.{pairs}
-use Rattle.points.specs.Points.{IsPoint, misleadingPoints}
+use Rattle.points.specs.Points.{IsPoint, countPoints, misleadingPoints}
 use Rattle.points.specs.declared.Point.{Point}
 use Rattle.state.specs.Answers.{accepted, gives, refused, said}
 use Rattle.state.specs.State.{isReading, hasRead, isClaimed, openChecks}
@@ -22,7 +22,7 @@ use Rattle.state.specs.declared.Response.the-variants.{Refused}
 use Rattle.session.specs.Session.{void, leaves}
 use Rattle.session.specs.Steps.{opening, finishStep}
 use Rattle.session.specs.declared.Session.{Session}
-use Rattle.runs.specs.Run.{Step, finish, step, run, sessionAfter, runFrom, answerTo, listRead, WrongAt}
+use Rattle.runs.specs.Run.{Step, finish, step, run, sessionAfter, runFrom, answerTo, listRead, WrongAt, isOther}
 use Rattle.runs.specs.AcceptedLists.{claimed, agreeAt, replies, openedLists, acceptedBy, repeatedIn, ReadIs}
 use Rattle.runs.specs.HeldAtPoint.{sessionOf}
 use Rattle.runs.specs.Exchange.{exchange, outcome, last, verdict, Opens, Readable, Meets, MeetsAll}
@@ -75,11 +75,11 @@ OpeningAnswers = (st : Setting) (r : Point) → said (opening st r .answer) ≡ 
 abbrev pub AnswersOfLists : Type 0
 AnswersOfLists = (st : Setting) (r : Point) (steps : List Step) → runFrom st r steps ≡ replies (agreeAt r) st (openedLists st r) steps
 
--- The session handed back is the one that holds what is accepted at the point.
+-- The session handed back is the one that holds what is accepted at the pair of points.
 abbrev pub HoldsAccepted : Type 0
 HoldsAccepted = (st : Setting) (r : Point) (steps : List Step) → sessionAfter (opening st r .session) steps ≡ sessionOf st r (acceptedBy st r steps)
 
--- What is accepted does not depend on the point: nothing but the answer of finishing, by check 14, does.
+-- What is accepted does not depend on the points: nothing but the answer of finishing, by check 14, does.
 abbrev pub PointUnseen : Type 0
 PointUnseen = (st : Setting) (r q : Point) (steps : List Step) → IsPoint r → IsPoint q → acceptedBy st r steps ≡ acceptedBy st q steps
 
@@ -135,7 +135,7 @@ ExchangeTrue =
     → Opens st r → Readable st net → Perm (arcs f) net
     → last (runFrom st r (exchange net k ys f)) ≡ gives a → TrueAnswer st net a
 
--- A certificate over the arcs that were read, in any order, is answered at every point.
+-- A certificate over the arcs that were read, in any order, is answered at every pair of points.
 abbrev pub CertificatesPass : Type 0
 CertificatesPass =
     (st : Setting) (r : Point) (net : List Arc) (ys : List ℤ) (f : List Load) (a : Answer)
@@ -144,6 +144,12 @@ CertificatesPass =
 
 -- ---- demand 3
 
--- For every list of steps a wrong answer comes out at m - 1 points at most, at none for m 0 or 1.
+-- For every list of steps a wrong answer comes out at (m - 1) × (m - 1) pairs of points at most, at none for m 0 or 1.
 abbrev pub FewWrong : Type 0
 FewWrong = (st : Setting) (steps : List Step) → AtMost (misleadingPoints (length (listRead st steps))) (WrongAt st steps)
+
+-- The same as a count: a being the true answer, of the p × p pairs those at which some step gives another answer are (m - 1) × (m - 1) at most.
+abbrev pub FewWrongCounted : Type 0
+FewWrongCounted =
+    (st : Setting) (steps : List Step) (a : Answer) → TrueAnswer st (listRead st steps) a
+    → countPoints (λ r. any (isOther a) (runFrom st r steps)) ≤ misleadingPoints (length (listRead st steps))

@@ -1,13 +1,15 @@
 -- Lists of session steps, and what demand 3 counts (PANEL 12).
+use mathlib.Core.Bool.{Bool, true, false, not}
 use mathlib.Core.List.{List, [], _∷_, _++_}
 use Prim.Native.Nat.{ℕ}
+use lib.Dec.{eqb}
 use lib.IntN.{ℤ}
 use lib.ListN.{length}
 use Rattle.prelude.specs.Checks.{settle}
 use Rattle.prelude.specs.Lists.{Some}
 use Rattle.arc_records.specs.Arcs.{Arc}
 use Rattle.network.specs.Network.{Load}
-use Rattle.network.specs.Question.{Setting, TrueAnswer}
+use Rattle.network.specs.Question.{Setting, Answer, value, none, TrueAnswer}
 use Rattle.network.specs.Tests.{readingChecks}
 use Rattle.points.specs.Points.{IsPoint}
 use Rattle.points.specs.declared.Point.{Point}
@@ -44,7 +46,7 @@ unfoldable pub sessionAfter : Session → List Step → Session
 sessionAfter x [] = x
 sessionAfter x (a ∷ steps) = sessionAfter ((step x a) .session) steps
 
--- The same from a fresh opening, for a setting and a point.
+-- The same from a fresh opening, for a setting and a pair of points.
 abbrev pub runFrom : Setting → Point → List Step → List Said
 runFrom st r steps = run (opening st r .session) steps
 
@@ -78,6 +80,19 @@ Wrong st net accepted = ⊥
 Wrong st net (gives a) = ¬ (TrueAnswer st net a)
 Wrong st net (refused k) = ⊥
 
--- The points that are counted: some step answers wrongly there.
+-- The pairs of points that are counted: some step answers wrongly there.
 abbrev pub WrongAt : Setting → List Step → Point → Type 0
 WrongAt st steps r = IsPoint r × Some (Wrong st (listRead st steps)) (runFrom st r steps)
+
+-- Are two answers the same?
+abbrev pub sameAnswer : Answer → Answer → Bool
+sameAnswer (value v) (value w) = eqb v w
+sameAnswer (value v) none = false
+sameAnswer none (value w) = false
+sameAnswer none none = true
+
+-- Is an answer given that is not a? Where a is the true one this is the test of a wrong answer.
+abbrev pub isOther : Answer → Said → Bool
+isOther a accepted = false
+isOther a (gives b) = not (sameAnswer b a)
+isOther a (refused k) = false

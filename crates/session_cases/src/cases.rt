@@ -30,6 +30,7 @@ fn numbers(script: &[u8], at: usize) -> Arguments {
         c: listed(script, at, 2),
         d: listed(script, at, 3),
         e: listed(script, at, 4),
+        f: listed(script, at, 5),
     }
 }
 

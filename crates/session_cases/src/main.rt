@@ -6,7 +6,7 @@ mod runs;
 mod steps;
 
 fn main() {
-    let mut input = io::large_buffer();
+    let mut input = [0u8; 131072];
     let n = io::read_full(0, &mut input);
     cases::run(&input[..n]);
 }

@@ -13,22 +13,27 @@ pub struct Arguments {
     pub c: u32,
     pub d: u32,
     pub e: u32,
+    pub f: u32,
 }
 
 // Opening.
-fn opened(question: u32, n: u32, s: u32, t: u32, r: u32) -> Reply {
+fn opened(question: u32, n: u32, s: u32, t: u32, first: u32, second: u32) -> Reply {
     let o = Opening {
         question: question,
         n: n,
         s: s,
         t: t,
     };
-    Session::open(o, Point { r: r })
+    let point = Point {
+        first: first,
+        second: second,
+    };
+    Session::open(o, point)
 }
 
 // The session that a case starts with: void.
 pub fn void() -> Session {
-    let r = opened(0, 0, 0, 0, 0);
+    let r = opened(0, 0, 0, 0, 0, 0);
     r.session
 }
 
@@ -43,7 +48,7 @@ fn extended(x: Session, point: u32, fingerprint: u32, key: u32) -> Reply {
 // The step that a letter stands for.
 pub fn step(x: Session, letter: u8, v: Arguments) -> Reply {
     match letter {
-        b'O' => opened(v.a, v.b, v.c, v.d, v.e),
+        b'O' => opened(v.a, v.b, v.c, v.d, v.e, v.f),
         b'R' => x.read_channel(v.a, v.b, v.c),
         b'E' => x.end_reading(),
         b'C' => x.claim(v.a),

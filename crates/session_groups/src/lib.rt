@@ -14,7 +14,7 @@ use words::signed::increase;
 
 pub mod refusals;
 
-// Every group fills whole words: a gap would be copied in pieces at each step.
+// No group has a gap between its fields: it would be copied in pieces at each step. The half word that is left over stands at the end of the last group.
 
 // What opening and reading fix.
 pub struct Reading {
@@ -30,11 +30,11 @@ pub struct Numbering {
     pub marks: [u64; 4],
 }
 
-// The arcs that are repeated: their list, their cost, and the capacity of the cut that the marks make.
+// The arcs that are repeated: their cost, the capacity of the cut that the marks make, and their list.
 pub struct Repeating {
-    pub list: Stream,
     pub cost: i64,
     pub cut: i64,
+    pub list: Stream,
 }
 
 // The phases of a session (PANEL 6); one with any other number is over, too.

@@ -19,14 +19,14 @@ fn weight(i: u32) -> u32 {
 }
 
 // All channels read.
-fn read(point: u32) -> Session {
+fn read(point: Point) -> Session {
     let o = Opening {
         question: 2,
         n: 255,
         s: 0,
         t: 254,
     };
-    let r = Session::open(o, Point { r: point });
+    let r = Session::open(o, point);
     let mut x = r.session;
     let mut i: u32 = 0;
     while i < 4096 {
@@ -65,7 +65,7 @@ fn repeated(from: Session) -> Session {
 }
 
 // The number of the refusal that one session ends in, 0 for none.
-fn one(byte: u8, point: u32) -> u64 {
+fn one(byte: u8, point: Point) -> u64 {
     let x = read(point);
     if byte == b'r' {
         let f = x.finish();
@@ -92,10 +92,10 @@ fn print(n: u64) {
 }
 
 // One session a byte.
-fn rounds(bytes: &[u8]) {
+fn rounds(bytes: &[u8], point: Point) {
     let mut i = 0;
     while i < bytes.len() {
-        print(one(bytes[i], 5));
+        print(one(bytes[i], point));
         i += 1;
     }
 }
@@ -104,5 +104,9 @@ fn main() {
     let mut input = io::large_buffer();
     let got = libc::read(0, &mut input);
     let n = io::count(got, &input);
-    rounds(&input[..n]);
+    let point = Point {
+        first: 5,
+        second: 6,
+    };
+    rounds(&input[..n], point);
 }

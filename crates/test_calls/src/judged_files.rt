@@ -11,17 +11,25 @@ use testing::numbers::low_word;
 // How long an annotation can be.
 pub const LONGEST: usize = 25604;
 
-fn judged_parts(f: &[u8], net: usize, ann: usize, point: usize) -> usize {
+// The pair of two points.
+pub fn pair(first: usize, second: usize) -> Point {
+    Point {
+        first: low_word(first),
+        second: low_word(second),
+    }
+}
+
+fn judged_parts(f: &[u8], net: usize, ann: usize, point: Point) -> usize {
     let a = net % START;
     let b = START + ann % START;
     if f.len() < 2 * START {
         return NONE;
     }
-    code(judging::judge(&f[0..a], &f[START..b], Point { r: low_word(point) }))
+    code(judging::judge(&f[0..a], &f[START..b], point))
 }
 
-// What comes of judging the two files, of so many bytes, at a point.
-pub fn judged(f: &Files, net: usize, ann: usize, point: usize) -> usize {
+// What comes of judging the two files, of so many bytes, at a pair of points.
+pub fn judged(f: &Files, net: usize, ann: usize, point: Point) -> usize {
     judged_parts(f, net, ann, point)
 }
 

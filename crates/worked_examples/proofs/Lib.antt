@@ -1,4 +1,5 @@
 pub mod Routes
 pub mod Plans
 pub mod Meetings
+pub mod Forgeries
 pub mod Promises

@@ -8,11 +8,12 @@ use Rattle.arc_records.specs.Arcs.{delta}
 use Rattle.network.specs.Network.{sumOf, sumAcross, loadsOf}
 use Rattle.network.specs.Tests.{readingAll}
 use Rattle.format.specs.Files.{networkFile}
-use Rattle.worked_examples.specs.Table.{R1, R2, R3, R4, R5, R6, L1, L2, P1, P2}
+use Rattle.worked_examples.specs.Table.{R1, R2, R3, R4, R5, R6, L1, L2, P1, P2, T1}
 use Rattle.worked_examples.specs.Promises.{WorkedExamples}
-use Rattle.worked_examples.proofs.Routes.{r1-lengths, r4-lengths}
+use Rattle.worked_examples.proofs.Routes.{r1-lengths, r4-lengths, t1-lengths}
 use Rattle.worked_examples.proofs.Plans.{plan-yields}
 use Rattle.worked_examples.proofs.Meetings.{r8-yields, r9-yields}
+use Rattle.worked_examples.proofs.Forgeries.{t1-yields}
 
 infixr 5 _and_
 _and_ : {A B : Type 0} → A → B → A × B
@@ -36,4 +37,5 @@ worked-examples =
     and plan-yields L2 refl refl refl refl refl refl tt tt tt
     and plan-yields P1 refl refl refl refl refl refl tt tt tt
     and plan-yields P2 refl refl refl refl refl refl tt tt tt
+    and t1-yields (plan-yields (T1 .plan) refl refl refl refl refl refl tt tt t1-lengths)
     and tt

@@ -1,5 +1,5 @@
--- The node numbers of R1 and R4 are those of a helper's annotation: least lengths, and marks where a walk leads.
-use mathlib.Core.Path.{_≡_, refl, sym, _∙_, ap}
+-- The node numbers of R1, R4 and T1 are those of a helper's annotation: least lengths, and marks where a walk leads.
+use mathlib.Core.Path.{_≡_, refl, sym, _∙_, ap, subst}
 use mathlib.Core.Logic.{inl, inr}
 use mathlib.Core.Bool.{false}
 use mathlib.Core.List.{List, [], _∷_}
@@ -13,13 +13,13 @@ use Rattle.prelude.specs.Integers.{natural}
 use Rattle.prelude.specs.Lists.{Every, Member, at}
 use Rattle.arc_records.specs.Arcs.{Arc, arcOf}
 use Rattle.network.specs.Network.{total}
-use Rattle.network.specs.Question.{Question, shortestPath, maximumFlow, assignment, acyclicity, unasked, Setting, Walk, ShortestPath, value, none}
+use Rattle.network.specs.Question.{Question, shortestPath, maximumFlow, assignment, acyclicity, unasked, Setting, asks, Walk, ShortestPath, value, none, TrueFor}
 use Rattle.network.specs.Certificate.{Claim, ofValue, ofNone, marked}
 use Rattle.network.proofs.Paths.{walk-above, no-walk}
 use Rattle.network.proofs.Promises.{one-answer}
 use Rattle.cert_instances.specs.Instance.{toward}
 use Rattle.cert_instances.specs.Certify.{toldBy, Told, LengthsFor}
-use Rattle.worked_examples.specs.Table.{SameNumbers, R1, R4}
+use Rattle.worked_examples.specs.Table.{Plan, SameNumbers, R1, R4, T1}
 
 -- ---- the numbers of a route are determined
 
@@ -34,7 +34,7 @@ numbers-alike assignment st net c ys zs ny nz hy hz = tt
 numbers-alike acyclicity st net c ys zs ny nz hy hz = tt
 numbers-alike unasked st net c ys zs ny nz hy hz = tt
 
--- ---- the two rows
+-- ---- the rows
 
 below-four : (P : ℕ → Type 0) → P 0 → P 1 → P 2 → P 3 → (v : ℕ) → v < 4 → P v
 below-four P a b c d zero h = a
@@ -54,18 +54,24 @@ shortest st net y rule start es w long = record {
   least = λ fs v. omega (arith, start, walk-above y net rule fs (st .s) (st .t) (v .over) (v .leads));
 }
 
--- the least length to v in R1
-abbrev length-to : ℕ → ℕ
-length-to v = natural (at (R1 .numbers) v)
+-- the least length to v, by the node numbers of a route
+abbrev length-to : Plan → ℕ → ℕ
+length-to w v = natural (at (w .numbers) v)
 
-r1-told :
-    (v : ℕ) (es : List Arc) → Walk (toward (R1 .setting) v) (R1 .net) es → total es ≡ length-to v → at (R1 .numbers) v ≡ pos (length-to v)
-    → Told (R1 .setting) (R1 .net) ofValue (at (R1 .numbers)) v
-r1-told v es w long e = record {
-  answer = value (length-to v);
-  is-true = shortest (toward (R1 .setting) v) (R1 .net) length-to (lit≤ tt, (lit≤ tt, (lit≤ tt, (lit≤ tt, (lit≤ tt, tt))))) refl es w long;
+route-told :
+    (w : Plan) → shortestPath ≡ asks (w .setting) → Every (λ e. length-to w (e .head) ≤ length-to w (e .tail) + e .weight) (w .net) → length-to w (w .setting .s) ≡ 0
+    → (v : ℕ) (es : List Arc) → Walk (toward (w .setting) v) (w .net) es → total es ≡ length-to w v → at (w .numbers) v ≡ pos (length-to w v)
+    → Told (w .setting) (w .net) ofValue (at (w .numbers)) v
+route-told w route rule start v es walk long e = record {
+  answer = value (length-to w v);
+  is-true = subst (λ (q : Question). TrueFor q (toward (w .setting) v) (w .net) (value (length-to w v))) route (shortest (toward (w .setting) v) (w .net) (length-to w) rule start es walk long);
   told = e;
 }
+
+r1-told :
+    (v : ℕ) (es : List Arc) → Walk (toward (R1 .setting) v) (R1 .net) es → total es ≡ length-to R1 v → at (R1 .numbers) v ≡ pos (length-to R1 v)
+    → Told (R1 .setting) (R1 .net) ofValue (at (R1 .numbers)) v
+r1-told = route-told R1 refl (lit≤ tt, (lit≤ tt, (lit≤ tt, (lit≤ tt, (lit≤ tt, tt))))) refl
 
 pub r1-lengths : (v : ℕ) → v < 4 → Told (R1 .setting) (R1 .net) ofValue (at (R1 .numbers)) v
 unfolding total
@@ -95,3 +101,9 @@ r4-lengths =
   where
     unreached : (v : ℕ) → marked (at (R4 .numbers)) v ≡ false → at (R4 .numbers) v ≡ pos 0 → Told (R4 .setting) (R4 .net) ofNone (at (R4 .numbers)) v
     unreached v m e = record { answer = none; is-true = no-walk (toward (R4 .setting) v) (marked (at (R4 .numbers))) [] refl m tt; told = e }
+
+pub t1-lengths : (v : ℕ) → v < 2 → Told (T1 .plan .setting) (T1 .plan .net) ofValue (at (T1 .plan .numbers)) v
+unfolding total
+t1-lengths zero h = route-told (T1 .plan) refl (lit≤ tt, (lit≤ tt, tt)) refl 0 [] (record { over = tt; leads = refl }) refl refl
+t1-lengths (suc zero) h = route-told (T1 .plan) refl (lit≤ tt, (lit≤ tt, tt)) refl 1 (arcOf 0 1 2 ∷ []) (record { over = (inl refl, tt); leads = (refl, refl) }) refl refl
+t1-lengths (suc (suc v)) h = absurd (omega arith)

@@ -1,20 +1,20 @@
--- The worked examples R1 to R10, L1, L2, P1 and P2 (PANEL 13), one table, and what it means that the definitions yield the outcomes of an example.
+-- The worked examples R1 to R10, L1, L2, P1, P2 and T1 (PANEL 13), one table, and what it means that the definitions yield the outcomes of an example.
 use mathlib.Core.Path.{_≡_}
+use mathlib.Core.Logic.{_⊎_}
 use mathlib.Core.List.{List, [], _∷_, map}
 use Prim.Native.Nat.{ℕ}
 use lib.IntN.{ℤ, pos}
 use lib.ListN.{length}
 use Rattle.prelude.specs.Lists.{Every, Member, at}
-use Rattle.field.specs.Field.{Agree}
+use Rattle.field.specs.Field.{fingerprint, Agree}
 use Rattle.arc_records.specs.Arcs.{Arc, arcOf}
-use Rattle.network.specs.Network.{key, Load, arcs, loadsOf}
+use Rattle.network.specs.Network.{key, Load, loadOf, arcs, loadsOf}
 use Rattle.network.specs.Question.{Question, shortestPath, maximumFlow, assignment, acyclicity, unasked, Setting, asks, Answer, value, none, TrueAnswer}
 use Rattle.network.specs.Certificate.{claimFor, Certified}
 use Rattle.network.specs.Tests.{claimNumber}
-use Rattle.points.specs.Points.{IsPoint, printOf}
+use Rattle.points.specs.Points.{pair, IsPoint}
 use Rattle.points.specs.declared.Point.{Point}
-use Rattle.points.specs.declared.Print.{Print}
-use Rattle.state.specs.Answers.{gives}
+use Rattle.state.specs.Answers.{Said, gives, refused}
 use Rattle.format.specs.Files.{settingIn, networkFile, annotationFile, arcsIn}
 use Rattle.acceptance.specs.Acceptance.{AcceptedFile}
 use Rattle.judging.specs.Judging.{judged}
@@ -31,15 +31,15 @@ pub record Plan : Type 0 where
   pub numbers : List ℤ
   pub amounts : List ℕ
 
--- A fingerprint, and the point that it is taken at.
+-- A fingerprint, and the one point that it is taken at.
 pub record Taken : Type 0 where
-  pub print : Print
-  pub point : Point
+  pub residue : ℕ
+  pub point : ℕ
 
 infix 68 _at-point_
 -- The fingerprint f, taken at the point r.
 abbrev pub _at-point_ : ℕ → ℕ → Taken
-_at-point_ f r = record { print = record { residue = f }; point = record { r = r } }
+_at-point_ f r = record { residue = f; point = r }
 
 -- An arc, its key, and fingerprints of the list that holds the arc alone.
 pub record Product : Type 0 where
@@ -53,11 +53,21 @@ pub record Meeting : Type 0 where
   pub repeated : List Arc
   pub points : List ℕ
 
--- R1 to R6, L1, L2, P1 and P2 are plans, R7 and R10 products, R8 and R9 meetings.
+-- An annotation of a plan's network about other arcs than were read: its node numbers, its arcs with their amounts, and the answer that it is to give; all pairs of points at both of which the fingerprints agree, and some pairs of which they agree at one.
+pub record Forgery : Type 0 where
+  pub plan : Plan
+  pub numbers : List ℤ
+  pub loads : List Load
+  pub answer : Answer
+  pub at-both : List Point
+  pub at-one : List Point
+
+-- R1 to R6, L1, L2, P1 and P2 are plans, R7 and R10 products, R8 and R9 meetings, T1 is a forgery.
 pub data Example : Type 0 where
   plan : Plan → Example
   product : Product → Example
   meeting : Meeting → Example
+  forgery : Forgery → Example
 
 -- ---- outcomes
 
@@ -77,13 +87,13 @@ SameNumbers assignment ys zs = Unit {0}
 SameNumbers acyclicity ys zs = Unit {0}
 SameNumbers unasked ys zs = Unit {0}
 
--- Any annotation that the helper may write has the example's answer, and is judged so at every point.
+-- Any annotation that the helper may write has the example's answer, and is judged so at every pair of points.
 pub record AnyAnnotation (w : Plan) (ann : List ℕ) (a : Annotation (w .file) ann) : Type 0 where
   pub same-answer : a .answer ≡ w .answer
   pub same-numbers : SameNumbers (asks (w .setting)) (a .numbers) (w .numbers)
   pub judged-so : (r : Point) → IsPoint r → judged (w .file) ann r ≡ gives (w .answer)
 
--- The file is the encoding of what is asked; the panel accepts it and reads that back; the answer is the true one; the certificate meets every rule for it; and judging the file with the certificate's annotation gives the answer at every point.
+-- The file is the encoding of what is asked; the panel accepts it and reads that back; the answer is the true one; the certificate meets every rule for it; and judging the file with the certificate's annotation gives the answer at every pair of points.
 pub record PlanYields (w : Plan) : Type 0 where
   pub encoded : w .file ≡ networkFile (w .setting) (w .net)
   pub accepted : AcceptedFile (w .file)
@@ -99,18 +109,37 @@ pub record PlanYields (w : Plan) : Type 0 where
 -- The key and the fingerprints are those of the definitions.
 pub record ProductYields (w : Product) : Type 0 where
   pub keyed : key (w .arc) ≡ w .key
-  pub taken : Every (λ f. printOf (f .point) (w .arc ∷ []) ≡ f .print) (w .prints)
+  pub taken : Every (λ f. fingerprint (f .point) (key (w .arc) ∷ []) ≡ f .residue) (w .prints)
 
 -- The fingerprints agree at these points and nowhere else.
 pub record MeetingYields (w : Meeting) : Type 0 where
   pub there : Every (Agree (map key (w .read)) (map key (w .repeated))) (w .points)
   pub nowhere-else : (r : ℕ) → Agree (map key (w .read)) (map key (w .repeated)) r → Member r (w .points)
 
+-- What judging says of the forgery at a pair of points.
+abbrev pub forgedAt : Forgery → Point → Said
+forgedAt w r = judged (w .plan .file) (annotationFile (claimNumber (claimFor (w .answer))) (w .numbers) (w .loads)) r
+
+-- The fingerprints agree at one of the two points and differ at the other.
+abbrev pub AtOne : Forgery → Point → Type 0
+AtOne w r =
+    let agree = Agree (map key (w .plan .net)) (map key (arcs (w .loads))) in
+    (agree (r .first) × ¬ (agree (r .second))) ⊎ (agree (r .second) × ¬ (agree (r .first)))
+
+-- The plan is right and the forgery's answer another; judging gives that where both points agree, and refusal 14 at all other pairs, also where one of the two agrees.
+pub record ForgeryYields (w : Forgery) : Type 0 where
+  pub truth : PlanYields (w .plan)
+  pub wrong : ¬ (w .answer ≡ w .plan .answer)
+  pub there : Every (λ r. IsPoint r × (forgedAt w r ≡ gives (w .answer))) (w .at-both)
+  pub elsewhere : (r : Point) → IsPoint r → ¬ (Member r (w .at-both)) → forgedAt w r ≡ refused 14
+  pub one-refused : Every (λ r. AtOne w r × (forgedAt w r ≡ refused 14)) (w .at-one)
+
 -- The definitions yield the outcomes of the example.
 abbrev pub Yields : Example → Type 0
 Yields (plan w) = PlanYields w
 Yields (product w) = ProductYields w
 Yields (meeting w) = MeetingYields w
+Yields (forgery w) = ForgeryYields w
 
 -- ---- the table
 
@@ -279,6 +308,27 @@ P2 = record {
   amounts = 0 ∷ 0 ∷ [];
 }
 
+-- T1: the channels of R8 as a route, whose length is 2, and a plan about those that R8 repeats, of length 3.
+abbrev pub T1 : Forgery
+T1 = record {
+  plan = record {
+    setting = record { question = 1; n = 2; s = 0; t = 1 };
+    net = R8 .read;
+    file =
+        0x44 ∷ 0x52 ∷ 0x4E ∷ 0x00 ∷ 0x01 ∷ 0x01 ∷ 0x02 ∷ 0x00 ∷ 0x01 ∷ 0x00 ∷ 0x02
+        ∷ 0x00 ∷ 0x01 ∷ 0x00 ∷ 0x02
+        ∷ 0x00 ∷ 0x01 ∷ 0x00 ∷ 0x05 ∷ [];
+    answer = value 2;
+    numbers = pos 0 ∷ pos 2 ∷ [];
+    amounts = 1 ∷ 0 ∷ [];
+  };
+  numbers = pos 0 ∷ pos 3 ∷ [];
+  loads = loadOf 0 1 3 1 ∷ loadOf 0 1 3 0 ∷ [];
+  answer = value 3;
+  at-both = pair 32769 32769 ∷ [];
+  at-one = pair 32769 0 ∷ pair 0 32769 ∷ [];
+}
+
 -- The table (PANEL 13).
 abbrev pub table : List Example
-table = plan R1 ∷ plan R2 ∷ plan R3 ∷ plan R4 ∷ plan R5 ∷ plan R6 ∷ product R7 ∷ meeting R8 ∷ meeting R9 ∷ product R10 ∷ plan L1 ∷ plan L2 ∷ plan P1 ∷ plan P2 ∷ []
+table = plan R1 ∷ plan R2 ∷ plan R3 ∷ plan R4 ∷ plan R5 ∷ plan R6 ∷ product R7 ∷ meeting R8 ∷ meeting R9 ∷ product R10 ∷ plan L1 ∷ plan L2 ∷ plan P1 ∷ plan P2 ∷ forgery T1 ∷ []

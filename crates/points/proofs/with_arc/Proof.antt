@@ -1,13 +1,9 @@
-use mathlib.Core.Path.{_∙_, ap}
+use mathlib.Core.Path.{_∙_, ap, ap₂}
 use borrow.Author.Needs.{needs}
-use Prim.Native.Nat.{ℕ}
 use Rattle.field.specs.Field.{extended}
-use Rattle.points.specs.declared.Print.{Print}
+use Rattle.points.proofs.Prints.{as-print}
 use Rattle.points.proofs.with_arc.Statement.{statement}
 use Rattle.points.proofs.with_arc.Tie as tie
-
-abbrev as-print : ℕ → Print
-as-print k = record { residue = k }
 
 pub with-arc-spec : {M : Type 1} → statement M
 with-arc-spec =
@@ -15,4 +11,10 @@ with-arc-spec =
     (tie.spec
     (λ c κs. search needs)
     (λ c κs. search needs)
-    (λ c. let a = c .before .before .args in ap as-print (c .extend .ensures ∙ ap (extended (a .point .r) (a .print .residue)) (c .before .key-of .ensures))))
+    (λ c κs. search needs)
+    (λ c.
+    let a = c .before .before .before .args in
+    let key = c .before .before .key-of .ensures in
+    ap₂ as-print
+    (c .before .extend .ensures ∙ ap (extended (a .point .first) (a .print .first)) key)
+    (c .extend2 .ensures ∙ ap (extended (a .point .second) (a .print .second)) key)))

@@ -6,10 +6,10 @@ use Rattle.session_speed.proofs.read.Statement.{statement}
 use Rattle.session_speed.proofs.read.Tie as tie
 
 abbrev Inv-loop : tie.InvT-loop
-Inv-loop point x₀ i₀ x i = i ≤ 4096
+Inv-loop x₀ i₀ x i = i ≤ 4096
 
 abbrev μ-loop : tie.MeasureT-loop
-μ-loop point x₀ i₀ x i = 4096 - i
+μ-loop x₀ i₀ x i = 4096 - i
 
 pub read-spec : {M : Type 1} → statement M
 read-spec =

@@ -7,10 +7,10 @@ use Rattle.session_speed.proofs.rounds.Statement.{statement}
 use Rattle.session_speed.proofs.rounds.Tie as tie
 
 abbrev Inv-loop : tie.InvT-loop
-Inv-loop bytes i₀ i = i ≤ length bytes
+Inv-loop bytes point i₀ i = i ≤ length bytes
 
 abbrev μ-loop : tie.MeasureT-loop
-μ-loop bytes i₀ i = length bytes - i
+μ-loop bytes point i₀ i = length bytes - i
 
 pub rounds-spec : {M : Type 1} → statement M
 rounds-spec =

@@ -12,7 +12,7 @@ use Rattle.plan_files.proofs.answer_line.answer.Tie as tie
 
 returns : tie.Need-returns
 unfolding programAnswer
-returns c = leb-off Said _ _ _ 4 (length (c .before .before .before .before .args .point .now)) (omega arith) refl
+returns c = leb-off Said _ _ _ 8 (length (c .before .before .before .before .args .point .now)) (omega arith) refl
 
 returns-2 : tie.Need-returns-2
 unfolding programAnswer
@@ -20,7 +20,7 @@ returns-2 c =
     let args = c .before .before .before .before .before .before .before .before .before .before .args in
     let net = c .before .before .before .before .before .counted .ensures .1 in
     let ann = c .before .before .before .before .counted2 .ensures .1 in
-    leb-on Said _ _ _ 4 (length (args .point .now)) (omega arith)
+    leb-on Said _ _ _ 8 (length (args .point .now)) (omega arith)
     (c .judge .ensures ∙ (λ i. judged (net i) (ann i) (c .before .point-in .ensures i)))
 
 pub answer-spec : {M : Type 1} → statement M

@@ -1,4 +1,4 @@
--- `random_networks::trial::everywhere` is safe and ends: it counts to 5.
+-- `random_networks::trial::everywhere` is safe and ends: it counts to 6.
 use Prim.Native.Nat.{_-_}
 use native.Mathlib.Omega.{arith}
 use borrow.Author.Needs.{needs}
@@ -9,7 +9,7 @@ abbrev Inv-loop : tie.InvT-loop
 Inv-loop c f wrong₀ i₀ wrong i = Unit {0}
 
 abbrev μ-loop : tie.MeasureT-loop
-μ-loop c f wrong₀ i₀ wrong i = 5 - i
+μ-loop c f wrong₀ i₀ wrong i = 6 - i
 
 pub everywhere-spec : {M : Type 1} → statement M
 everywhere-spec =
