@@ -1,6 +1,6 @@
 -- What is promised of a drawn point and of a drawn pair is kept.
 use mathlib.Core.Path.{_≡_, refl, sym, ap, ap₂, _∙_}
-use mathlib.Core.Bool.{Bool, true, false, _&&_, and-false}
+use mathlib.Core.Bool.{Bool, true, false, _&&_, and-true, and-false}
 use mathlib.Core.List.{List, [], _∷_}
 use Prim.Native.Nat.{ℕ, zero, suc, _+_, _*_, _/_, _<_}
 use native.Mathlib.Nat.{zero-add, suc-add}
@@ -100,9 +100,18 @@ unfolding countLists
 no-lists zero = refl
 no-lists (suc k) = sumTo-none words (λ w. countLists k (λ ws. false)) (λ w b. no-lists k)
 
+countLists-ext : (k : ℕ) (f g : List ℕ → Bool) → ((ws : List ℕ) → f ws ≡ g ws) → countLists k f ≡ countLists k g
+unfolding countLists
+countLists-ext zero f g e = ap indicator (e [])
+countLists-ext (suc k) f g e = sumTo-ext words _ _ (λ w b. countLists-ext k (λ ws. f (w ∷ ws)) (λ ws. g (w ∷ ws)) (λ ws. e (w ∷ ws)))
+
+-- a test that does not look at the words, with one that may and by itself
+one-test-and : (k : ℕ) (b : Bool) (g : List ℕ → Bool) → countLists k (λ ws. b && g ws) ≡ indicator b * countLists k g
+one-test-and k true g = omega arith
+one-test-and k false g = no-lists k ∙ omega arith
+
 one-test : (k : ℕ) (b : Bool) → countLists k (λ ws. b) ≡ indicator b * lists k
-one-test k true = omega arith
-one-test k false = no-lists k ∙ omega arith
+one-test k b = countLists-ext k _ _ (λ ws. sym (and-true b)) ∙ one-test-and k b (λ ws. true)
 
 -- the lists that begin with a word: all or none where it gives a point, and those whose rest draws r where it is dropped
 beginning : (k r w : ℕ) (b : Bool)
@@ -127,16 +136,6 @@ equally-likely zero r s h g = refl
 equally-likely (suc k) r s h g = longer k r h ∙ ap (λ (n : ℕ). 2 * lists k + dropped n) (equally-likely k r s h g) ∙ sym (longer k s g)
 
 -- ---- how many lists of words draw a pair
-
-countLists-ext : (k : ℕ) (f g : List ℕ → Bool) → ((ws : List ℕ) → f ws ≡ g ws) → countLists k f ≡ countLists k g
-unfolding countLists
-countLists-ext zero f g e = ap indicator (e [])
-countLists-ext (suc k) f g e = sumTo-ext words _ _ (λ w b. countLists-ext k (λ ws. f (w ∷ ws)) (λ ws. g (w ∷ ws)) (λ ws. e (w ∷ ws)))
-
--- a test that does not look at the words, and one that may
-one-test-and : (k : ℕ) (b : Bool) (g : List ℕ → Bool) → countLists k (λ ws. b && g ws) ≡ indicator b * countLists k g
-one-test-and k true g = omega arith
-one-test-and k false g = no-lists k ∙ omega arith
 
 -- a test of the first j words and one of the others
 parts-counted : (j k : ℕ) (f g : List ℕ → Bool) → countLists (j + k) (λ ws. f (take j ws) && g (drop j ws)) ≡ countLists j f * countLists k g

@@ -72,19 +72,19 @@ module _ {X : Type 0} (make : ℕ → ℕ → X) (f g : X → ℕ) (first-told :
       (every-append (λ y. ¬ (make i k ≡ y)) (map (make i) ks) l (row-distinct i (k ∷ ks) d .0) (every-map (λ x low q. let same : i ≡ f x = sym (first-told i k) ∙ ap f q in omega arith) l h), rows-distinct i ks l (d .1) e h)
 
   -- the things of pairs that pass, as a list: those whose first number is below b
-  record Rows (P : X → Type 0) (t : ℕ → ℕ → Bool) (n b : ℕ) : Type 0 where
+  record ListedPairs (P : X → Type 0) (t : ℕ → ℕ → Bool) (n b : ℕ) : Type 0 where
     things : List X
     different : Distinct things
     each : Every P things
     low : Every (λ x. f x < b) things
     counted : length things ≡ sumTo b (λ i. count (t i) n)
 
-  rows : (P : X → Type 0) (t : ℕ → ℕ → Bool) (n b : ℕ) → ((i j : ℕ) → i < b → Passes (t i) n j → P (make i j)) → Rows P t n b
+  listed-pairs : (P : X → Type 0) (t : ℕ → ℕ → Bool) (n b : ℕ) → ((i j : ℕ) → i < b → Passes (t i) n j → P (make i j)) → ListedPairs P t n b
   unfolding sumTo
-  rows P t n zero h = record { things = []; different = tt; each = tt; low = tt; counted = refl }
-  rows P t n (suc b) h = go (listed (t b) n) (rows P t n b (λ i j low. h i j (omega arith)))
+  listed-pairs P t n zero h = record { things = []; different = tt; each = tt; low = tt; counted = refl }
+  listed-pairs P t n (suc b) h = go (listed (t b) n) (listed-pairs P t n b (λ i j low. h i j (omega arith)))
     where
-      go : Listed (t b) n → Rows P t n b → Rows P t n (suc b)
+      go : Listed (t b) n → ListedPairs P t n b → ListedPairs P t n (suc b)
       go w v = record {
         things = map (make b) (w .numbers) ++ v .things;
         different = rows-distinct b (w .numbers) (v .things) (w .different) (v .different) (v .low);
@@ -97,5 +97,5 @@ module _ {X : Type 0} (make : ℕ → ℕ → X) (f g : X → ℕ) (first-told :
 
   pub at-most→pairs : (P : X → Type 0) (t : ℕ → ℕ → Bool) (n k : ℕ) → ((i j : ℕ) → i < n → Passes (t i) n j → P (make i j)) → AtMost k P → countPairs t n ≤ k
   at-most→pairs P t n k h few =
-      let w = rows P t n n h in
+      let w = listed-pairs P t n n h in
       subst (λ (m : ℕ). m ≤ k) (w .counted) (few (w .things) (w .different) (w .each))

@@ -17,13 +17,13 @@ use testing::tally::grow;
 const REFUSED_14: usize = NONE + 14;
 
 // The record that has a key.
-fn record_of(key: usize) -> usize {
+fn word_of(key: usize) -> usize {
     key / 32768 % 65536 * 65536 + key % 32768
 }
 
 // Does the record whose key is known stand among the first m of an annotation?
 fn stands(c: Case, f: &Files, m: usize) -> bool {
-    let wanted = record_of(c.key);
+    let wanted = word_of(c.key);
     let mut i: usize = 0;
     while i < m {
         if number(f, record_at(c.n, i), 4) == wanted {
@@ -51,7 +51,7 @@ fn wrong_at_one(c: Case, f: &Files, m: usize, any: usize, said: usize) -> usize 
 
 // Judges a twisted annotation of m records with the key as one of the points, where the same has to come as was said at another pair, and
 // with the key as both.
-pub fn judge(c: Case, f: &Files, m: usize, place: usize, said: usize, tally: &mut Tally) {
+pub fn judge_at_key(c: Case, f: &Files, m: usize, place: usize, said: usize, tally: &mut Tally) {
     if !stands(c, f, m) {
         return;
     }

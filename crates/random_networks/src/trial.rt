@@ -123,7 +123,7 @@ fn twist_once(c: Case, f: &Files, t: usize, tally: &mut Tally) {
     let k = came(due, said, c.answer);
     grow(tally, plus(tally::TWISTED + 3 * (t % 8), k), 1);
     grow(tally, tally::WRONG, k / 2);
-    collisions::judge(c, &other, records(c, t), plus(t, 32), said, tally);
+    collisions::judge_at_key(c, &other, records(c, t), plus(t, 32), said, tally);
 }
 
 // Twists it if there is anything to change.

@@ -104,7 +104,7 @@ fn to_front(f: &mut Files) {
 }
 
 // The key of the first record of the network at the front; a number below p also where there is no record.
-fn first_key(f: &Files) -> usize {
+fn key_of_first(f: &Files) -> usize {
     let r = number(f, 11, 4);
     r / 65536 % 65535 * 32768 + r % 32768
 }
@@ -115,7 +115,7 @@ fn wrong_answers(seed: usize, answer: usize, f: &mut Files, size: usize) -> usiz
     to_front(f);
     let ann = annotated(f, size, LONGEST);
     let any = below(2147483647, seed, 0, 5);
-    let key = first_key(f);
+    let key = key_of_first(f);
     let said = judged(f, size, ann, pair(any, below(2147483647, seed, 1, 5)));
     let at_one = judged(f, size, ann, pair(key, any));
     let at_both = judged(f, size, ann, pair(key, key));

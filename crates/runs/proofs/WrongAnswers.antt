@@ -183,18 +183,18 @@ few-wrong st steps = few-blamed st (length (listRead st steps)) (WrongAt st step
 
 -- ---- the test of a wrong answer
 
-no-other : (a : Answer) → T (not (sameAnswer a a)) → ⊥
-no-other (value v) t = no-test (eqb v v) (eqb-refl v) t
+same-itself : (a : Answer) → T (not (sameAnswer a a)) → ⊥
+same-itself (value v) t = no-test (eqb v v) (eqb-refl v) t
   where
     no-test : (b : Bool) → T b → T (not b) → ⊥
     no-test true h k = k
     no-test false h k = h
-no-other none t = t
+same-itself none t = t
 
 -- where a is the true answer, another is wrong
 pub other-wrong : (st : Setting) (net : List Arc) (a : Answer) → TrueAnswer st net a → (b : Said) → T (isOther a b) → Wrong st net b
 other-wrong st net a true-one accepted t = t
-other-wrong st net a true-one (gives b) t = λ too. no-other a (subst (λ (c : Answer). T (not (sameAnswer c a))) (one-answer st net b a too true-one) t)
+other-wrong st net a true-one (gives b) t = λ too. same-itself a (subst (λ (c : Answer). T (not (sameAnswer c a))) (one-answer st net b a too true-one) t)
 other-wrong st net a true-one (refused k) t = t
 
 pub few-wrong-counted : FewWrongCounted

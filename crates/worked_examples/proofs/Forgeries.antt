@@ -31,12 +31,12 @@ abbrev same : Point → Bool
 same r = samePrint (printOf r (T1 .plan .net)) (printOf r (arcs (T1 .loads)))
 
 -- every other check is computed
-outcome : (r : Point) → forgedAt T1 r ≡ pick (pointOk r) (pick (same r) (gives (value 3)) (refused 14)) (refused 4)
+forged-outcome : (r : Point) → forgedAt T1 r ≡ pick (pointOk r) (pick (same r) (gives (value 3)) (refused 14)) (refused 4)
 unfolding networkFile annotationFile patternOf signedOf flatMap listTo readingAll numberingAll repeatingAll loadsOf delta sumOf sumAcross allTo sumTo sumToℤ
-outcome r = refl
+forged-outcome r = refl
 
 by-prints : (r : Point) (b : Bool) → IsPoint r → same r ≡ b → forgedAt T1 r ≡ pick b (gives (value 3)) (refused 14)
-by-prints r b h e = outcome r ∙ ap₂ (λ (s t : Bool). pick s (pick t (gives (value 3)) (refused 14)) (refused 4)) (T→true (pointOk r) (point-test r h)) e
+by-prints r b h e = forged-outcome r ∙ ap₂ (λ (s t : Bool). pick s (pick t (gives (value 3)) (refused 14)) (refused 4)) (T→true (pointOk r) (point-test r h)) e
 
 -- ---- one point, and two
 
