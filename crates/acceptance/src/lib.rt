@@ -1,4 +1,6 @@
 // Network files: what the header asks, and the checks by which the panel accepts a file (PANEL 8).
+#![tactic(auto)]
+
 ghost use Rattle.std.specs.Prelude.{◌≡◌};
 ghost use Rattle.prelude.specs.Checks.{first_broken};
 ghost use Rattle.network.specs.Tests.{reading_all};

@@ -1,4 +1,6 @@
 // The annotating program: it reads plan.drn of the current folder, writes plan.dra for it, and prints one line.
+#![tactic(auto)]
+
 use plan_annotations::annotation_line;
 use program_io::front;
 

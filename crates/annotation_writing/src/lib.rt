@@ -1,4 +1,6 @@
 // An annotation's file, written into a lent buffer once it is found, and what comes before that: the checks, and the records gathered from the network file.
+#![tactic(auto)]
+
 ghost use Rattle.std.specs.Prelude.{◌≡◌, ◌+◌, ◌*◌, ◌≤◌, length};
 ghost use mathlib.Core.List.{flat_map, ◌++◌};
 ghost use Rattle.std.proofs.lemmas.List.Edits.{sets};

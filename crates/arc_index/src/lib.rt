@@ -1,5 +1,7 @@
 // An index of arcs by one of their ends: the first arc of the vertex v stands in links at v, the arc after e at 256 + e, and NO_ARC where there is none.
 // While it is built, last holds for each vertex the place in links where its next arc is noted; so chains are in file order.
+#![tactic(auto)]
+
 ghost use Rattle.std.specs.Prelude.{◌≡◌, ◌≤◌, length, replicate, set};
 ghost use Rattle.prelude.specs.Choice.{pick};
 ghost use Rattle.prelude.specs.Lists.{list_to};
@@ -14,7 +16,7 @@ pub mod packed;
 pub const NO_ARC: u16 = 4096;
 
 // The end of an arc by which it is indexed.
-#[derive(Drop)]
+#[derive(Clone, Copy)]
 pub enum End {
     Tail,
     Head,

@@ -1,9 +1,11 @@
 // What a channel record is in code, the limits, and arrays with one entry for each vertex.
+#![tactic(auto)]
+
 ghost use Rattle.std.specs.Prelude.{◌≡◌};
 ghost use Rattle.arc_records.specs.Arcs.{arc_held, word_arc};
 
 // An arc from its tail to its head with a weight, as it is read from a file or handed to a step: any numbers of 32 bits.
-#[derive(Drop)]
+#[derive(Clone, Copy)]
 pub struct Record {
     pub tail: u32,
     pub head: u32,

@@ -1,4 +1,6 @@
 // The calendar (PANEL 14): the network file of a minute, by the windows of a tide table, written into a lent buffer.
+#![tactic(auto)]
+
 ghost use Rattle.std.specs.Prelude.{◌≡◌, ◌≤◌, length};
 ghost use Rattle.std.proofs.lemmas.List.Edits.{sets};
 ghost use Rattle.prelude.specs.Checks.{first_broken};

@@ -1,4 +1,6 @@
 // What is left of the records of a network file at a minute, written one after the other.
+#![tactic(auto)]
+
 ghost use Rattle.std.specs.Prelude.{◌≡◌, map, ◌<◌};
 ghost use Rattle.arc_records.specs.Arcs.{arc_held};
 ghost use Rattle.network.specs.Question.{asks};
@@ -14,7 +16,7 @@ use format::network_file;
 use tide_windows::is_open;
 
 // What is left of a record: one record, or nothing.
-#[derive(Drop)]
+#[derive(Clone, Copy)]
 pub enum Left {
     One(Record),
     Nothing,

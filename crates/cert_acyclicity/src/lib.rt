@@ -1,4 +1,6 @@
 // Certificates for acyclicity: the ranks of a topological order, or the arcs of a cycle.
+#![tactic(auto)]
+
 ghost use Rattle.std.specs.Prelude.{◌≡◌, length};
 ghost use Rattle.arc_records.specs.Arcs.{word_arcs};
 ghost use Rattle.network.specs.Question.{acyclicity, asks, Admissible};

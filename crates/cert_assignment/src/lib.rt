@@ -1,4 +1,6 @@
 // Certificates for an assignment: a matching of least cost that saturates the sites, with its potentials, or marks that show that there is none.
+#![tactic(auto)]
+
 ghost use Rattle.std.specs.Prelude.{◌≡◌, length};
 ghost use Rattle.arc_records.specs.Arcs.{word_arcs};
 ghost use Rattle.network.specs.Question.{assignment, asks, Admissible};

@@ -1,4 +1,6 @@
 // A certificate for a flow: as much is sent as goes.
+#![tactic(auto)]
+
 ghost use Rattle.std.specs.Prelude.{◌≡◌, length};
 ghost use Rattle.arc_records.specs.Arcs.{word_arcs};
 ghost use Rattle.network.specs.Question.{maximum_flow, asks, Admissible};

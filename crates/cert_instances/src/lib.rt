@@ -1,9 +1,11 @@
 // parts
+#![tactic(auto)]
+
 pub mod records;
 pub mod vertices;
 
 // What a network is certified to have: a value, or none; or the input is not admissible.
-#[derive(Drop)]
+#[derive(Clone, Copy)]
 pub enum Finding {
     Value,
     None,

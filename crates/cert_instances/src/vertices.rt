@@ -31,7 +31,7 @@ pub fn stand(k: u8, list: &mut [u32])
 }
 
 // What is written for a vertex: whether its key is reached, the distance that its key holds, or its potential or rank as it stands.
-#[derive(Drop)]
+#[derive(Clone, Copy)]
 pub enum NumberKind {
     Mark,
     Distance,

@@ -1,4 +1,6 @@
 // A certificate for a path: one unit is sent along it.
+#![tactic(auto)]
+
 ghost use Rattle.std.specs.Prelude.{◌≡◌, length};
 ghost use Rattle.arc_records.specs.Arcs.{word_arcs};
 ghost use Rattle.network.specs.Question.{shortest_path, asks, Admissible};

@@ -1,4 +1,6 @@
 // The rows of rules (PANEL 5), and checks 1, 2 and 3 of opening (PANEL 6), each as a total function whose contract is the test of the network's definitions.
+#![tactic(auto)]
+
 ghost use Rattle.std.specs.Prelude.{◌≡◌};
 ghost use Rattle.prelude.specs.Checks.{first_broken};
 ghost use Rattle.network.specs.Question.{pumps};
@@ -11,7 +13,7 @@ use rows::{Question, question_of};
 pub mod rows;
 
 // What opening is handed but for the points: the question's number, how many vertices there are, the source and the sink.
-#[derive(Drop)]
+#[derive(Clone, Copy)]
 pub struct Opening {
     pub question: u32,
     pub n: u32,
@@ -20,7 +22,7 @@ pub struct Opening {
 }
 
 // The same once opening has accepted it: every number fits eight bits then.
-#[derive(Drop)]
+#[derive(Clone, Copy)]
 pub struct HeldSetting {
     pub question: u8,
     pub n: u8,

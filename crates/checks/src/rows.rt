@@ -9,7 +9,7 @@ ghost use Rattle.checks.specs.Held.{question_held, rules_held};
 use arc_records::Record;
 
 // The four questions, and no question.
-#[derive(Drop)]
+#[derive(Clone, Copy)]
 pub enum Question {
     Path,
     Flow,
@@ -19,7 +19,7 @@ pub enum Question {
 }
 
 // The seven certificates, and no certificate.
-#[derive(Drop)]
+#[derive(Clone, Copy)]
 pub enum Row {
     PathValue,
     FlowValue,

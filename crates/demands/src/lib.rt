@@ -1,1 +1,2 @@
 // Definitions and proofs alone: the helper and the panel together.
+#![tactic(auto)]

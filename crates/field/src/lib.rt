@@ -1,4 +1,6 @@
 // Numbers modulo the prime 2147483647: one more factor of a fingerprint.
+#![tactic(auto)]
+
 ghost use Rattle.std.specs.Prelude.{◌≡◌, ◌-◌, ltb};
 ghost use Rattle.field.specs.Field.{p, extended};
 

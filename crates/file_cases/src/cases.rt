@@ -15,7 +15,7 @@ use testing::print;
 use testing::script::{decimal, find, listed, starts_line, write_hex};
 
 // Where the two files that a case starts from stand in the script.
-#[derive(Drop)]
+#[derive(Clone, Copy)]
 struct Sources {
     net: usize,
     ann: usize,

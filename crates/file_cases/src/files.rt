@@ -1,7 +1,7 @@
 // The sizes of the two files and of the list of windows. A kind names a file as the script does: `n` the network, `a` the annotation, `h` the network for the helper.
 
 // How many bytes the network and the annotation have, how many windows there are, and how many results the line has shown.
-#[derive(Drop)]
+#[derive(Clone, Copy)]
 pub struct Sizes {
     pub net: usize,
     pub ann: usize,

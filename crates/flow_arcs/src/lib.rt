@@ -1,4 +1,6 @@
 // Links and residual arcs as the heuristic reads them: an arc after another at the same vertex, and an arc forward or back.
+#![tactic(auto)]
+
 ghost use Rattle.std.specs.Prelude.{◌≡◌, ◌+◌, ◌<◌, length};
 ghost use Rattle.prelude.specs.Choice.{pick};
 ghost use Rattle.packed_arcs.specs.Entries.{entry};

@@ -1,4 +1,6 @@
 // One vertex is discharged: what stands there moves on to vertices one label lower, and where something is left its label is raised.
+#![tactic(auto)]
+
 ghost use Rattle.std.specs.Prelude.{◌≡◌, ◌<◌, ◌≤◌, length};
 ghost use Rattle.flow_moves.specs.Preflow.{Links, Ready, Moves};
 

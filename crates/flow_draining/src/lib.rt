@@ -1,4 +1,6 @@
 // What stands at the vertices moves on towards the root of the labels, highest label first.
+#![tactic(auto)]
+
 ghost use Rattle.std.specs.Prelude.{◌<◌, ◌≤◌, length};
 ghost use Rattle.flow_moves.specs.Preflow.{Links, Ready, Moves};
 

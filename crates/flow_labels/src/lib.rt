@@ -1,5 +1,7 @@
 // Labels of the vertices: a breadth-first search back from a root over the residual arcs, the lowest label next to a vertex, and how many have a label.
 // No contract says what a label is: it is below 256, so it is an index by its type, and 255 stands for a vertex from which the root is not reached.
+#![tactic(auto)]
+
 ghost use Rattle.std.specs.Prelude.{◌≡◌, ◌<◌, ◌≤◌, length};
 ghost use Rattle.flow_moves.specs.Preflow.{Links};
 

@@ -1,5 +1,7 @@
 // A preflow, and successive shortest paths over the residual network after it, of a list of packed arcs.
 // What is not within the limits is refused, and then nothing is changed.
+#![tactic(auto)]
+
 ghost use Rattle.std.specs.Prelude.{◌≡◌, ◌+◌, length};
 ghost use Rattle.packed_arcs.specs.Entries.{zero_list};
 ghost use Rattle.packed_arcs.specs.PackedArcs.{tails_of, heads_of};

@@ -1,5 +1,7 @@
 // One step along a residual arc: what stands at the vertex that it comes from moves to its other end, as far as it fits.
 // Both vertices are read from the arc, so that a caller shows only that there is such an arc.
+#![tactic(auto)]
+
 ghost use Rattle.std.specs.Prelude.{◌≡◌, ◌<◌, ◌≤◌, length};
 ghost use Rattle.packed_arcs.specs.Entries.{entry, sum, zero_list};
 ghost use Rattle.flow_moves.specs.Preflow.{Ready, Moves, standing_at, transferred};

@@ -1,5 +1,7 @@
 // One search over the residual network of a list of packed arcs, and one push along a path of least cost.
 // What is not within the limits is refused, and then nothing is changed.
+#![tactic(auto)]
+
 ghost use Rattle.flow_path.specs.Sending.{SendOutcome};
 
 use packed_arcs::clearing::clear_amounts;
@@ -9,7 +11,7 @@ use sending::index_and_send;
 mod sending;
 
 // What came of a call of `send`: how much reached the vertex, that no path leads there, or a refusal.
-#[derive(Drop)]
+#[derive(Clone, Copy)]
 pub enum Sent {
     Reached(u32),
     Unreached,

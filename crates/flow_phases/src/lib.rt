@@ -1,4 +1,6 @@
 // Phases: a search, potentials raised by its distances, and a push to the nearest vertex with need, until none is reached.
+#![tactic(auto)]
+
 ghost use Rattle.std.specs.Prelude.{true, false, ◌≡◌, ℕ, ◌<◌, ◌≤◌, length};
 ghost use Rattle.packed_arcs.specs.Entries.{entry};
 ghost use Rattle.packed_arcs.specs.PackedArcs.{tails_of, heads_of};

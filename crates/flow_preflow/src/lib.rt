@@ -1,5 +1,7 @@
 // A push-relabel heuristic: supply moves over residual arcs as far as it goes to a sink, and what is left over back to the source.
 // Proved is that it ends and that what moves is conserved, and not how much arrives: labels, buckets and counts only guide it.
+#![tactic(auto)]
+
 ghost use Rattle.std.specs.Prelude.{◌<◌, length};
 ghost use Rattle.packed_arcs.specs.PackedArcs.{tails_of, heads_of};
 ghost use Rattle.arc_index.specs.Chains.{Chains};

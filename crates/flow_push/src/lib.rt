@@ -1,4 +1,6 @@
 // A push: an amount moves from a root of the search's tree to a vertex, along parent arcs.
+#![tactic(auto)]
+
 ghost use Rattle.std.specs.Prelude.{◌≡◌, ◌+◌, ◌-◌, ◌<◌, ◌≤◌, min, ltb, length, set};
 ghost use Rattle.prelude.specs.Choice.{pick};
 ghost use Rattle.packed_arcs.specs.Entries.{entry};

@@ -1,4 +1,6 @@
 // Pushing what stands at a vertex to vertices one label lower: forward along its arcs that have room, and back along those into it that carry something.
+#![tactic(auto)]
+
 ghost use Rattle.std.specs.Prelude.{◌<◌, length};
 ghost use Rattle.flow_moves.specs.Preflow.{Links, Ready, Moves};
 

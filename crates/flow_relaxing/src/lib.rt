@@ -1,5 +1,7 @@
 // One residual arc looked at in a search: where it leads to a lower key, the vertex at its end waits with that key.
 // A vertex's key is 256 × its reduced distance + the arcs on its path; the code of a residual arc is e for the arc e forward, 4096 + e back.
+#![tactic(auto)]
+
 ghost use Rattle.std.specs.Prelude.{◌≡◌, true, false, ◌<◌, length};
 ghost use Rattle.flow_residual.specs.PackedNetwork.{residual_of};
 ghost use Rattle.flow_relaxing.specs.Relaxing.{LowerOutcome, RelaxOutcome, SearchReady};

@@ -1,1 +1,2 @@
 // The residual network of packed arcs: definitions and laws alone.
+#![tactic(auto)]

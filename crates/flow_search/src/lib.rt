@@ -1,4 +1,6 @@
 // A search over the residual network, from every vertex with supply left: the vertex that waits with the least key is taken, and the residual arcs from it are looked at along the two indices.
+#![tactic(auto)]
+
 ghost use Rattle.std.specs.Prelude.{◌≡◌, true, false, ◌≤◌, length};
 ghost use Rattle.arc_index.specs.Chains.{Chains};
 ghost use Rattle.flow_residual.specs.PackedNetwork.{residual_of};

@@ -1,4 +1,6 @@
 // What phases start from, by what a preflow left: they go on from there where nothing is left over, and else from the start.
+#![tactic(auto)]
+
 ghost use Rattle.std.specs.Prelude.{◌≡◌, ◌<◌, ◌≤◌, length};
 ghost use Rattle.packed_arcs.specs.Entries.{entry, zero_list};
 ghost use Rattle.flow_moves.specs.Preflow.{PackedConserved, standing_at};

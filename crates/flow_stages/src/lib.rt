@@ -1,4 +1,6 @@
 // The two stages: from the source towards the sink, and what is left over back to the source. Where a stage takes long, labels are made exact again in between.
+#![tactic(auto)]
+
 ghost use Rattle.std.specs.Prelude.{◌<◌, length};
 ghost use Rattle.flow_moves.specs.Preflow.{Links, Ready, Moves};
 

@@ -15,7 +15,7 @@ use file_fields::bytes::{
 use file_fields::layout::{layout_check, write_mark};
 
 // An arc with an amount.
-#[derive(Drop)]
+#[derive(Clone, Copy)]
 pub struct Loaded {
     pub arc: Record,
     pub amount: u32,

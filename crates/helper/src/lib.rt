@@ -1,4 +1,6 @@
 // The helper (PANEL 9): an annotation for a network file, written into a lent buffer.
+#![tactic(auto)]
+
 ghost use Rattle.std.specs.Prelude.{◌≡◌, length};
 ghost use Rattle.format.specs.Replies.{writer_said};
 ghost use Rattle.helper.specs.Helper.{annotated, BufferAfter};

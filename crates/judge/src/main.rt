@@ -1,4 +1,6 @@
 // The judging program: it reads plan.drn, plan.dra and point.bin of the current folder, and prints one line.
+#![tactic(auto)]
+
 use plan_files::answer_line;
 use program_io::front;
 

@@ -1,4 +1,6 @@
 // The steps that a file holds, run in file order until one is refused. The node numbers and the balances stay in place.
+#![tactic(auto)]
+
 ghost use Rattle.std.specs.Prelude.{◌≡◌, map};
 ghost use Rattle.format.specs.Files.{arcs_in, numbers_in, loads_in};
 ghost use Rattle.state.specs.Answers.{said};

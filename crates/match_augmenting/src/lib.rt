@@ -1,4 +1,6 @@
 // What follows a search that reached an exposed left vertex: potentials rise, and the matching grows along the path that was found.
+#![tactic(auto)]
+
 ghost use Rattle.std.specs.Prelude.{length};
 ghost use Rattle.arc_index.specs.Columns.{record_tails, record_heads, record_weights};
 ghost use Rattle.match_state.specs.Matching.{State};

@@ -1,4 +1,6 @@
 // Bids, before the searches: an exposed right vertex takes its cheapest left vertex, and both their potentials rise as far as its second choice allows.
+#![tactic(auto)]
+
 ghost use Rattle.std.specs.Prelude.{◌<◌, ◌≤◌, length};
 ghost use Rattle.packed_arcs.specs.Entries.{entry};
 ghost use Rattle.arc_index.specs.Columns.{record_tails, record_heads, record_weights};

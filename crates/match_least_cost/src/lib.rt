@@ -1,5 +1,7 @@
 // A matching of least cost that saturates the right vertices of a bipartite network, by augmenting paths of least reduced cost; or marks that show that there is none.
 // Left vertices are those below h, and every arc leads from a left vertex to a right one. What is not within the limits is refused, and then nothing is changed.
+#![tactic(auto)]
+
 ghost use Rattle.std.specs.Prelude.{◌≡◌, ◌+◌, length, replicate};
 ghost use Rattle.packed_arcs.specs.Entries.{zero_list};
 ghost use Rattle.arc_index.specs.ArcIndex.{no_arc};
@@ -22,7 +24,7 @@ use packed_arcs::clearing::{clear_amounts, clear_potentials};
 mod limits;
 
 // What was found: a matching that saturates the right vertices, that there is none, or that the input is not within the limits.
-#[derive(Drop)]
+#[derive(Clone, Copy)]
 pub enum Match {
     Saturating,
     Deficient,

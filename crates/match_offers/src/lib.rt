@@ -1,4 +1,6 @@
 // The arcs to a right vertex by what they cost, and what is written where one of them is taken.
+#![tactic(auto)]
+
 ghost use Rattle.std.specs.Prelude.{◌≡◌, ◌⊎◌, ◌<◌, ◌≤◌, length};
 ghost use Rattle.packed_arcs.specs.Entries.{entry};
 ghost use Rattle.arc_index.specs.ArcIndex.{no_arc};
@@ -23,7 +25,7 @@ pub fn cost_of(e: usize, records: &[u32], pi: &[u32]) -> u32
 }
 
 // Of the arcs to a vertex that were looked at the cheapest, the vertex that it comes from and what it costs; and the cheapest that comes from another vertex, and what that costs.
-#[derive(Drop)]
+#[derive(Clone, Copy)]
 pub struct TwoArcs {
     pub tail: usize,
     pub first: usize,

@@ -1,4 +1,6 @@
 // What is written at the end: the amounts of a matching on the arcs, or marks of the vertices that a search did not reach.
+#![tactic(auto)]
+
 ghost use Rattle.std.specs.Prelude.{◌≡◌, ℕ, ◌<◌, length};
 ghost use Rattle.packed_arcs.specs.Entries.{entry};
 ghost use Rattle.arc_index.specs.Columns.{record_tails, record_heads, record_weights};

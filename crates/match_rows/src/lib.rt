@@ -1,4 +1,6 @@
 // The arcs to each vertex copied side by side: a scan of a row reads neighbours, where a chain jumps from record to record.
+#![tactic(auto)]
+
 ghost use Rattle.std.specs.Prelude.{◌≡◌, ◌+◌, ◌*◌, ◌<◌, ◌≤◌, length};
 ghost use Rattle.arc_index.specs.ArcIndex.{no_arc};
 ghost use Rattle.arc_index.specs.Chains.{Chains};

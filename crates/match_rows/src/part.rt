@@ -13,7 +13,7 @@ use match_state::{row_tail, row_weight};
 const TOO_HEAVY: u32 = 65536;
 
 // The position up to which arcs come from exposed vertices, that of the lightest of them, and that of the lightest of the others.
-#[derive(Drop)]
+#[derive(Clone, Copy)]
 struct Exposed {
     end: usize,
     at: usize,

@@ -1,4 +1,6 @@
 // A search back from an exposed right vertex, by reduced cost, until an exposed left vertex is reached.
+#![tactic(auto)]
+
 ghost use Rattle.std.specs.Prelude.{◌≡◌, true, false, ◌+◌, ◌<◌, ◌≤◌, min, ltb, length, replicate};
 ghost use Rattle.prelude.specs.Choice.{pick};
 ghost use Rattle.packed_arcs.specs.Entries.{entry, zero_list};

@@ -1,4 +1,6 @@
 // How much dearer every arc from an exposed left vertex is than what matched right vertices pay. The lightest arc from each left vertex is noted once, so that this is found vertex by vertex and not arc by arc.
+#![tactic(auto)]
+
 ghost use Rattle.std.specs.Prelude.{◌≡◌, ℕ, ◌<◌, ◌≤◌, max, length, replicate};
 ghost use Rattle.packed_arcs.specs.Entries.{entry};
 ghost use Rattle.arc_index.specs.ArcIndex.{no_arc};

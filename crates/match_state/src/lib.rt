@@ -1,4 +1,6 @@
 // The ends and the weight of the arc of a record, and what is known of an arc in a row.
+#![tactic(auto)]
+
 ghost use Rattle.std.specs.Prelude.{◌≡◌, ◌<◌, length};
 ghost use Rattle.packed_arcs.specs.Entries.{entry};
 ghost use Rattle.arc_index.specs.Columns.{record_tails, record_heads, record_weights};

@@ -1,4 +1,6 @@
 // The arcs to a right vertex in the tree of a search: they bring their left vertices nearer to the root.
+#![tactic(auto)]
+
 ghost use Rattle.std.specs.Prelude.{◌≡◌, ◌+◌, ◌-◌, ◌<◌, ◌≤◌, length};
 ghost use Rattle.packed_arcs.specs.Entries.{entry};
 ghost use Rattle.arc_index.specs.Columns.{record_tails, record_heads, record_weights};

@@ -1,4 +1,6 @@
 // A depth-first search over the arcs of records: a topological order of the vertices, or the arcs of a cycle. What is not within the limits is refused, and then nothing is changed.
+#![tactic(auto)]
+
 ghost use Rattle.std.specs.Prelude.{◌≡◌, ◌+◌, length};
 ghost use Rattle.packed_arcs.specs.Entries.{zero_list};
 ghost use Rattle.arc_index.specs.Columns.{record_tails, record_heads};

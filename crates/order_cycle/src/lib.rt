@@ -1,4 +1,6 @@
 // The arcs of a cycle, marked.
+#![tactic(auto)]
+
 ghost use Rattle.std.specs.Prelude.{◌≡◌, length};
 ghost use Rattle.packed_arcs.specs.Entries.{zero_list};
 ghost use Rattle.arc_index.specs.Columns.{record_tails, record_heads};

@@ -1,4 +1,6 @@
 // Ranks one after the other: the last vertex of the path gets the next one when no arc enters it from a vertex without.
+#![tactic(auto)]
+
 ghost use Rattle.std.specs.Prelude.{◌≡◌, ◌+◌, length, take};
 ghost use Rattle.packed_arcs.specs.Entries.{zero_list};
 ghost use Rattle.arc_index.specs.Columns.{record_tails, record_heads};

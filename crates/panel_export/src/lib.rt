@@ -1,4 +1,6 @@
 // Judging and the helper for callers in C: each slice is a pointer and a count, each reply one number. The pointer of an empty slice is not null either.
+#![tactic(auto)]
+
 ghost use Rattle.std.specs.Prelude.{◌≡◌, length};
 ghost use Rattle.points.specs.Points.{pair};
 ghost use Rattle.state.specs.Answers.{said};

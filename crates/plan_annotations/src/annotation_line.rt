@@ -20,7 +20,7 @@ fn annotation(net: &[u8], ann: &mut [u8]) -> Written
 }
 
 // How many bytes of the network file were read into its buffer, whether the annotation is in its file, and how long the line is.
-#[derive(Drop)]
+#[derive(Clone, Copy)]
 pub struct Annotated {
     pub net: usize,
     pub saved: bool,

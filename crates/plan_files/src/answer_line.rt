@@ -56,7 +56,7 @@ pub fn judge_line(point: &[u8], net: &[u8], ann: &[u8], text: &mut [u8; 32]) -> 
 }
 
 // How many bytes of each file were read into its buffer, and how long the line is.
-#[derive(Drop)]
+#[derive(Clone, Copy)]
 pub struct Judged {
     pub point: usize,
     pub net: usize,

@@ -25,7 +25,7 @@ fn minute_file(net: &[u8], windows: &[[u32; 3]], minute: u32, out: &mut [u8]) ->
 }
 
 // How many bytes of the network file were read into its buffer, whether the file of the minute is saved, and how long the line is.
-#[derive(Drop)]
+#[derive(Clone, Copy)]
 pub struct Done {
     pub net: usize,
     pub saved: bool,
@@ -122,7 +122,7 @@ fn schedule_front(
 }
 
 // Whether the tide table could be read, how many bytes of it were read into its buffer, and what was done.
-#[derive(Drop)]
+#[derive(Clone, Copy)]
 pub struct Scheduled {
     pub is_table: bool,
     pub table: usize,

@@ -1,5 +1,7 @@
 // The drawing program: it draws two points from the system's entropy, writes them to point.bin of the current folder, for its owner alone,
 // and prints one line, never a point.
+#![tactic(auto)]
+
 fn main() {
     let mut random = [0u8; 128];
     let mut file = [0u8; 8];

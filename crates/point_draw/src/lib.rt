@@ -1,4 +1,6 @@
 // Two points drawn from the system's entropy, every pair equally likely, and the file that holds them.
+#![tactic(auto)]
+
 ghost use Rattle.std.specs.Prelude.{◌≡◌, take};
 ghost use Rattle.io.specs.Counts.{IsPrefixLen};
 ghost use Rattle.program_io.specs.Line.{LineIn};
@@ -8,14 +10,14 @@ use file_fields::bytes::{bits32, put_bits32};
 use program_io::{line, saving};
 
 // What is drawn from random bytes: a point below p, or nothing where no word of them gives one.
-#[derive(Drop)]
+#[derive(Clone, Copy)]
 pub enum Drawn {
     Point(u32),
     Nothing,
 }
 
 // What is drawn for a session: a pair of points below p, or nothing.
-#[derive(Drop)]
+#[derive(Clone, Copy)]
 pub enum DrawnPair {
     Points(u32, u32),
     Nothing,
@@ -111,7 +113,7 @@ fn save_drawn(name: &[u8], drawn: DrawnPair, file: &[u8]) -> bool {
 }
 
 // How many random bytes count, whether the points are in their file, and how long the line is.
-#[derive(Drop)]
+#[derive(Clone, Copy)]
 pub struct Made {
     pub random: usize,
     pub saved: bool,

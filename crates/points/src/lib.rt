@@ -1,4 +1,6 @@
 // The pair of secret points of a session and the fingerprint taken at it (PANEL 4). Nothing else knows how many points there are.
+#![tactic(auto)]
+
 ghost use Rattle.std.specs.Prelude.{◌≡◌, [], ◌∷◌, leb};
 ghost use Rattle.prelude.specs.Checks.{◌unless◌, first_broken};
 ghost use Rattle.arc_records.specs.Arcs.{arc_held};
@@ -8,21 +10,21 @@ ghost use Rattle.points.specs.Points.{no_point, point_ok, empty_print, extend_pr
 use arc_records::Record;
 
 // The pair of points of a session: numbers below p, which may be equal.
-#[derive(Drop)]
+#[derive(Clone, Copy)]
 pub struct Point {
     pub first: u32,
     pub second: u32,
 }
 
 // What a list of arcs has at a pair: the product at each of its points, reduced.
-#[derive(Drop)]
+#[derive(Clone, Copy)]
 pub struct Print {
     pub first: u32,
     pub second: u32,
 }
 
 // A list of arcs as the panel keeps it: how many they are, and their fingerprint at the pair.
-#[derive(Drop)]
+#[derive(Clone, Copy)]
 pub struct Stream {
     pub count: u32,
     pub print: Print,

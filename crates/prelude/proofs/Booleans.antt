@@ -45,6 +45,7 @@ false→not b e = rw e tt
 
 pub T→true : (b : Bool) → T b → b ≡ true
 T→true true t = refl
+T→true false t = elim t [ ]
 
 pub true→T : (b : Bool) → b ≡ true → T b
 true→T b e = rw e tt
@@ -55,6 +56,7 @@ fails false h = refl
 
 pub indicator_on : (b : Bool) → T b → indicator b ≡ 1
 indicator_on true t = refl
+indicator_on false t = elim t [ ]
 
 pub indicator_off : (b : Bool) → (T b → ⊥) → indicator b ≡ 0
 indicator_off true h = absurd (h tt)

@@ -1,1 +1,2 @@
 // Nothing to run: the definitions and laws that every other crate uses.
+#![tactic(auto)]

@@ -1,5 +1,7 @@
 // The lines of the judging, the annotating, the drawing and the scheduling program, for files that are there, short, long, missing or no files.
 // The cases are lines of standard input, which says at its top how it is written.
+#![tactic(auto)]
+
 use file_fields::bytes::byte;
 use plan_annotations::annotation_line;
 use plan_files::answer_line;

@@ -10,7 +10,7 @@ pub fn room() -> [u8; 32768]
 }
 
 // What came of reading the front of a file: whether it could be read, and how many bytes came. Of a file that could not be read none count.
-#[derive(Drop)]
+#[derive(Clone, Copy)]
 pub struct Front {
     pub is_read: bool,
     pub size: usize,

@@ -1,5 +1,7 @@
 // Has the helper annotate random networks, judges its annotations at several pairs of points, in another order and twisted, and compares every answer
 // with another implementation. A network is wrong that gets any answer but the true one.
+#![tactic(auto)]
+
 mod annotations;
 mod collisions;
 mod other_pumps;

@@ -10,7 +10,7 @@ use testing::numbers::{minus, plus};
 
 // Its question, how many vertices it has, its source or the number of its pumps, how many records it has, its seed, the key of one of its
 // records, and its true answer.
-#[derive(Drop)]
+#[derive(Clone, Copy)]
 pub struct Case {
     pub question: usize,
     pub n: usize,

@@ -1,5 +1,7 @@
 // Has the calendar write the file of a minute for random networks and windows, compares it with what another writer makes of them, has the
 // helper annotate it and judges that. A network is wrong where a byte differs, or an answer from the true one of its open records.
+#![tactic(auto)]
+
 mod flags;
 mod tables;
 mod tally;

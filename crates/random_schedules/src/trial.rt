@@ -12,7 +12,7 @@ use testing::files::{FILLING, Files, START, get, number, put};
 use testing::numbers::{different, minus, plus};
 
 // How many records are open and closed, the true answer, and how many things are wrong.
-#[derive(Drop)]
+#[derive(Clone, Copy)]
 pub struct Outcome {
     pub open: usize,
     pub closed: usize,

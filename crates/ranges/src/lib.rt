@@ -1,9 +1,11 @@
 // The ranges of node numbers (PANEL 5, check 10): one table for all certificates, and the test of a number by it.
+#![tactic(auto)]
+
 ghost use Rattle.std.specs.Prelude.{◌≡◌, ◌<◌, length, get_or};
 ghost use Rattle.ranges.specs.Ranges.{node_ranges, no_range, range_held, covers, in_table};
 
 // A row of the table: the question, the claim, the lowest and the highest node number.
-#[derive(Drop)]
+#[derive(Clone, Copy)]
 struct Range(u8, u8, i32, i32);
 
 const ROWS: usize = 7;

@@ -1,4 +1,6 @@
 // Checks 6, 7 and 8 of an arc that is read or repeated (PANEL 6), each as a total function whose contract is the test of the network's definitions.
+#![tactic(auto)]
+
 ghost use Rattle.std.specs.Prelude.{◌≡◌};
 ghost use Rattle.prelude.specs.Checks.{first_broken};
 ghost use Rattle.arc_records.specs.Arcs.{arc_held};

@@ -4,7 +4,7 @@ use super::random::below;
 use testing::numbers::{minus, modulo, plus};
 
 // For a pairing s is the number of pumps.
-#[derive(Drop)]
+#[derive(Clone, Copy)]
 pub struct Net {
     pub question: usize,
     pub n: usize,

@@ -1,4 +1,6 @@
 // For test programs: another implementation of the four questions, and networks that look random to try it on.
+#![tactic(auto)]
+
 use instances::Net;
 use rows::Rows;
 

@@ -15,7 +15,7 @@ use checks::rows::{Row, row_of};
 use checks::{HeldSetting, pumps};
 
 // What the ends of an arc have: node numbers and marks.
-#[derive(Drop)]
+#[derive(Clone, Copy)]
 pub struct Ends {
     pub tail_number: i32,
     pub head_number: i32,

@@ -1,5 +1,7 @@
 // The scheduling program: it reads windows.txt and plan.drn of the current folder, writes open.drn, the network of the minute that it is called with,
 // and prints one line.
+#![tactic(auto)]
+
 ghost use Rattle.io.specs.Counts.{IsPrefixLen};
 
 use plan_schedules::schedule_line;

@@ -1,5 +1,7 @@
 // A checking session (PANEL 6): opening and the six steps, by value. A step consumes the session and gives the next one with what it says.
 // Each step is thin over a step of the session's state, so that a caller who keeps the two arrays in place copies only the state.
+#![tactic(auto)]
+
 ghost use Rattle.std.specs.Prelude.{◌≡◌, false, not, ◌&&◌, eqb, set};
 ghost use Rattle.prelude.specs.Choice.{pick};
 ghost use Rattle.arc_records.specs.Arcs.{arc_of};
@@ -18,20 +20,20 @@ use state::{Response, State, Turn, idle};
 use vertex_arrays::move_amount;
 
 // What a session holds of each vertex: its node number and its balance.
-#[derive(Drop)]
+#[derive(Clone, Copy)]
 pub struct Arrays {
     potentials: Potentials,
     balances: Balances,
 }
 
 // The state stands last: so a step that touches nothing else is compiled without a copy of the arrays.
-#[derive(Drop)]
+#[derive(Clone, Copy)]
 pub struct Session {
     arrays: Arrays,
     state: State,
 }
 
-#[derive(Drop)]
+#[derive(Clone, Copy)]
 pub struct Reply {
     pub session: Session,
     pub answer: Response,

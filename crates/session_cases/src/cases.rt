@@ -9,7 +9,7 @@ use testing::print;
 use testing::script::{find, listed, starts_line, times};
 
 // What a case has come to: its session, and the last answers.
-#[derive(Drop)]
+#[derive(Clone, Copy)]
 struct Trial {
     session: Session,
     run: Run,

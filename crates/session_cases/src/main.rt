@@ -1,5 +1,7 @@
 // Drives sessions step by step through every refusal of every step.
 // The cases are lines of standard input, which says at its top how it is written; a line is printed for each.
+#![tactic(auto)]
+
 mod answers;
 mod cases;
 mod runs;

@@ -3,7 +3,7 @@ use testing::numbers::plus;
 use testing::print;
 
 // The answer that came last, how often it came in a row, and how many others the line shows before it.
-#[derive(Drop)]
+#[derive(Clone, Copy)]
 pub struct Run {
     pub answer: usize,
     pub count: usize,

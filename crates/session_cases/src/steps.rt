@@ -6,7 +6,7 @@ use state::Response;
 use testing::numbers::as_signed;
 
 // The numbers of a step, as many as it takes.
-#[derive(Drop)]
+#[derive(Clone, Copy)]
 pub struct Arguments {
     pub a: u32,
     pub b: u32,

@@ -1,4 +1,6 @@
 // The groups of what a session knows, and what each step makes of a group.
+#![tactic(auto)]
+
 ghost use Rattle.std.specs.Prelude.{◌≡◌, not, ◌&&◌, ◌*◌, pos};
 ghost use Rattle.prelude.specs.Choice.{indicator};
 ghost use Rattle.words.specs.Bounded.{bounded_sum};
@@ -14,7 +16,7 @@ pub mod refusals;
 // No group has a gap between its fields: it would be copied in pieces at each step. The half word that is left over stands at the end of the last group.
 
 // What opening and reading fix.
-#[derive(Drop)]
+#[derive(Clone, Copy)]
 pub struct Reading {
     pub setting: HeldSetting,
     pub point: Point,
@@ -22,7 +24,7 @@ pub struct Reading {
 }
 
 // The claim, how many node numbers are given, and the marks.
-#[derive(Drop)]
+#[derive(Clone, Copy)]
 pub struct Numbering {
     pub claim: u32,
     pub given: u32,
@@ -30,7 +32,7 @@ pub struct Numbering {
 }
 
 // The arcs that are repeated: their cost, the capacity of the cut that the marks make, and their list.
-#[derive(Drop)]
+#[derive(Clone, Copy)]
 pub struct Repeating {
     pub cost: i64,
     pub cut: i64,

@@ -1,5 +1,7 @@
 // Whole sessions of 4096 channels, as many as there are bytes on standard input: an 'r' reads only, any other byte goes through to finishing.
 // For measuring; the gate runs it on two bytes.
+#![tactic(auto)]
+
 use checks::Opening;
 use points::Point;
 use session::Session;

@@ -1,4 +1,6 @@
 // Finds a certificate for every network that a session accepts.
+#![tactic(auto)]
+
 ghost use Rattle.std.specs.Prelude.{◌≡◌};
 ghost use Rattle.checks.specs.Held.{asked};
 ghost use Rattle.cert_instances.specs.Certify.{finding_number, CertifyOutcome};

@@ -1,4 +1,6 @@
 // The solver for callers in C: each slice is a pointer and a count. The pointer of an empty slice is not null either.
+#![tactic(auto)]
+
 ghost use Rattle.cert_instances.specs.Certify.{CertifyOutcome};
 
 use checks::HeldSetting;

@@ -1,4 +1,6 @@
 // What a session knows but for the node numbers and the balances of the vertices, and its steps on that alone: a caller who keeps the two arrays in place copies only this.
+#![tactic(auto)]
+
 ghost use Rattle.std.specs.Prelude.{◌≡◌, not, ◌&&◌, ◌≤◌, ◌<◌, eqb, set};
 ghost use Rattle.prelude.specs.Checks.{first_broken};
 ghost use Rattle.prelude.specs.Choice.{pick};
@@ -31,7 +33,7 @@ use words::signed::to_unsigned;
 mod additions;
 
 // What a step answers.
-#[derive(Drop)]
+#[derive(Clone, Copy)]
 pub enum Response {
     Accepted,
     Value(u64),
@@ -40,7 +42,7 @@ pub enum Response {
 }
 
 // What a session knows but for the two arrays: the phase, which fills a whole word as every group does, and the groups.
-#[derive(Drop)]
+#[derive(Clone, Copy)]
 pub struct State {
     phase: u64,
     reading: Reading,
@@ -49,7 +51,7 @@ pub struct State {
 }
 
 // What a step makes of a state: 0 and the next state, or the number of the refusal and the state as it was.
-#[derive(Drop)]
+#[derive(Clone, Copy)]
 pub struct Turn {
     pub state: State,
     pub why: u8,

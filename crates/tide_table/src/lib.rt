@@ -1,4 +1,6 @@
 // A tide table (PANEL 14): the windows that a text says, one a line.
+#![tactic(auto)]
+
 ghost use Rattle.tide_table.specs.TideTable.{TableRead};
 
 mod lines;
@@ -8,14 +10,14 @@ pub mod text;
 const MOST_BYTES: usize = 32768;
 
 // Is a word a decimal number, and which; 0 where it is none.
-#[derive(Drop)]
+#[derive(Clone, Copy)]
 pub struct Number {
     pub is_number: bool,
     pub value: u32,
 }
 
 // How many windows there are, and the number of the first line that is none, 0 where there is none.
-#[derive(Drop)]
+#[derive(Clone, Copy)]
 pub struct Found {
     pub count: usize,
     pub bad: usize,

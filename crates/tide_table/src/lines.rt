@@ -6,7 +6,7 @@ ghost use Rattle.tide_table.specs.Reading.{line_for, line_by, LineKept, LinesRea
 use crate::text::{Sought, Word, find, next_word};
 
 // What a line says: a window with its row, something that cannot be read, or, where it is neither, nothing that counts.
-#[derive(Drop)]
+#[derive(Clone, Copy)]
 pub(crate) struct Line {
     pub is_window: bool,
     pub is_unclear: bool,
@@ -102,7 +102,7 @@ fn keep(line: Line, k: usize, rows: &mut [[u32; 3]]) -> usize
 }
 
 // How many windows there are up to the first line that is unclear, its number, 0 where there is none, and the number of the last line that was read.
-#[derive(Drop)]
+#[derive(Clone, Copy)]
 pub(crate) struct Lines {
     pub count: usize,
     pub bad: usize,

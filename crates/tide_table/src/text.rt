@@ -6,7 +6,7 @@ ghost use Rattle.tide_table.specs.Reading.{is_sought, count_before, NumberRead, 
 use crate::Number;
 
 // What is looked for in a text: a line end, a blank, or a byte that is no blank.
-#[derive(Drop)]
+#[derive(Clone, Copy)]
 pub(crate) enum Sought {
     LineEnd,
     Blank,
@@ -100,7 +100,7 @@ pub fn number(word: &[u8]) -> Number
 }
 
 // The next word of a line: is there one, is it a number, which, and where it ends.
-#[derive(Drop)]
+#[derive(Clone, Copy)]
 pub(crate) struct Word {
     pub is_word: bool,
     pub is_number: bool,

@@ -1,4 +1,6 @@
 // Windows of a tide table, each a row of three numbers: position, first, end. When a record is open, and which windows may be handed over.
+#![tactic(auto)]
+
 ghost use Rattle.std.specs.Prelude.{◌≡◌, ◌&&◌};
 ghost use Rattle.prelude.specs.Checks.{first_broken};
 ghost use Rattle.prelude.specs.Lists.{all, any};

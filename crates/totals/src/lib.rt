@@ -1,4 +1,6 @@
 // The rules of finishing (PANEL 6) as functions: check 15, the balances, and check 16, the two sums, the sites and pumps without a mark, or whether an amount is set.
+#![tactic(auto)]
+
 ghost use Rattle.std.specs.Prelude.{◌≡◌, not, [], ◌∷◌, ◌+◌, ◌-◌, pos};
 ghost use Rattle.std.specs.Int.Signed.{lt_z};
 ghost use Rattle.prelude.specs.Checks.{◌unless◌, first_broken};

@@ -1,4 +1,6 @@
 // The node numbers and the balances of the vertices, lent: one entry read or changed, and nothing past the end.
+#![tactic(auto)]
+
 ghost use Rattle.std.specs.Prelude.{◌≡◌, set};
 ghost use Rattle.prelude.specs.Lists.{at};
 ghost use Rattle.words.specs.Marks.{is_marked};

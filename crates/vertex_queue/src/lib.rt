@@ -1,5 +1,7 @@
 // The vertices that wait in a search, each with a key, in blocks of 16: the vertex with the least key is found by two short scans.
 // `keys` has the key of each vertex, and `low` the least key of each block.
+#![tactic(auto)]
+
 ghost use Rattle.std.specs.Prelude.{◌≡◌, ◌+◌, ◌≤◌, ◌<◌, length};
 ghost use Rattle.packed_arcs.specs.Entries.{entry};
 ghost use Rattle.vertex_queue.specs.VertexQueue.{Holds, nobody, put_in, taken_out, least_block, least_vertex, least_entry, least_from};

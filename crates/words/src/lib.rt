@@ -1,3 +1,5 @@
 // The signed and bit operations that the other crates are built from.
+#![tactic(auto)]
+
 pub mod marks;
 pub mod signed;

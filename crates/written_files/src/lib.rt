@@ -1,4 +1,6 @@
 // What a program does with a file that was written into a buffer: it is saved, and the line that says so is made.
+#![tactic(auto)]
+
 ghost use Rattle.io.specs.Counts.{IsPrefixLen};
 ghost use Rattle.format.specs.Replies.{writer_said};
 ghost use Rattle.program_io.specs.Line.{LineIn};

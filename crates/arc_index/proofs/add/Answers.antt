@@ -1,0 +1,11 @@
+use borrow.Author.Rules.{rules}
+use Rattle.arc_index.specs.ArcIndex.{index_of}
+use Rattle.arc_index.proofs.Chains.{not_added, noted}
+use Rattle.arc_index.proofs.add.Goals as goal
+
+pub returns-then-e-ge-NO_ARC : goal.returns-then-e-ge-NO_ARC
+returns-then-e-ge-NO_ARC c = not_added c.args.e c.args.v (index_of c.args.links.now c.args.last.now) c.if-e-ge-NO_ARC.true
+
+pub returns : goal.returns
+returns c =
+    noted c.args.e c.args.v c.place-p.result c.args.links.now c.args.last.now _ c.if-e-ge-NO_ARC.false c.place-p.ensures c.note.ensures

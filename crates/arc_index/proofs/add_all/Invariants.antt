@@ -1,0 +1,15 @@
+-- The loop's invariant: the arcs below e are added.
+use mathlib.Core.Path.{sym, ◌∙◌}
+use Prim.Native.Nat.{◌-◌}
+use lib.ListN.{length}
+use borrow.Author.Rules.{rules}
+use Rattle.arc_index.specs.ArcIndex.{index_of, record_ends}
+use Rattle.arc_index.proofs.Building.{AddedTo, added_none, added_more, added_all, same_links}
+use Rattle.arc_index.proofs.Ends.{ends_len, end_at}
+use Rattle.arc_index.proofs.add_all.Given as goal
+
+abbrev pub invariant-loop-e : goal.invariant-loop-e
+invariant-loop-e l = AddedTo l.records (record_ends l.end l.records) (index_of l.initial.links l.initial.last) (index_of l.links l.last) l.e
+
+abbrev pub decreases-loop-e : goal.decreases-loop-e
+decreases-loop-e l = length l.records - l.e

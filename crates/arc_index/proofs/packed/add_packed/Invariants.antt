@@ -1,0 +1,15 @@
+-- The loop's invariant: the arcs below e are added.
+use mathlib.Core.Path.{sym, ◌∙◌}
+use Prim.Native.Nat.{◌-◌}
+use lib.ListN.{length}
+use borrow.Author.Rules.{rules}
+use Rattle.arc_index.specs.ArcIndex.{index_of, packed_ends}
+use Rattle.arc_index.proofs.Building.{AddedTo, added_none, added_more, added_all, same_links}
+use Rattle.arc_index.proofs.Ends.{packed_len, packed_at}
+use Rattle.arc_index.proofs.packed.add_packed.Given as goal
+
+abbrev pub invariant-loop-e : goal.invariant-loop-e
+invariant-loop-e l = AddedTo l.arcs (packed_ends l.end l.arcs) (index_of l.initial.links l.initial.last) (index_of l.links l.last) l.e
+
+abbrev pub decreases-loop-e : goal.decreases-loop-e
+decreases-loop-e l = length l.arcs - l.e

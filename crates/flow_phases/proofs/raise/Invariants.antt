@@ -1,0 +1,13 @@
+-- The loop's invariant: the potentials below v are raised, the others are as they were.
+use Prim.Native.Nat.{◌-◌}
+use native.Mathlib.Omega.{arith}
+use lib.ListN.{length}
+use borrow.Author.Rules.{rules}
+use Rattle.flow_residual.proofs.FallingKeys.{Raising, raise_turn}
+use Rattle.flow_phases.proofs.raise.Given as goal
+
+abbrev pub invariant-loop-v : goal.invariant-loop-v
+invariant-loop-v l = Raising l.d l.key l.initial.pi l.pi l.v
+
+abbrev pub decreases-loop-v : goal.decreases-loop-v
+decreases-loop-v l = length l.key - l.v

@@ -1,0 +1,51 @@
+use Prim.Native.Nat.{◌-◌}
+use native.Mathlib.Omega.{arith}
+use Rattle.flow_moves.specs.Preflow.{Moves}
+use Rattle.flow_moves.proofs.Conserving.{moves_none, moves_then, ready_then}
+use Rattle.flow_pushing.proofs.give_all.Goals as goal
+
+pub loop-e-init : goal.loop-e-init
+loop-e-init c = moves_none c.args.arcs.now c.args.x.now c.args.left.now
+
+pub give-requires : goal.give-requires
+give-requires c =
+    (c.loop-e-test.true, ready_then c.requires.1 c.loop-e.invariant)
+
+pub shape_of-x-then-give : goal.shape_of-x-then-give
+shape_of-x-then-give c =
+    (moves_then c.loop-e.invariant c.give.ensures).x_len
+
+pub shape_of-left-then-give : goal.shape_of-left-then-give
+shape_of-left-then-give c =
+    (moves_then c.loop-e.invariant c.give.ensures).left_len
+
+pub returns-then-give : goal.returns-then-give
+returns-then-give c =
+    moves_then c.loop-e.invariant c.give.ensures
+
+pub next_arc-e-requires : goal.next_arc-e-requires
+next_arc-e-requires c =
+    omega (arith, c.requires.0.len, c.loop-e-test.true)
+
+pub loop-e-smaller : goal.loop-e-smaller
+loop-e-smaller c =
+    omega (
+      arith,
+      c.requires.0.few,
+      c.requires.0.later c.loop-e.e c.loop-e-test.true,
+      c.next_is.ensures,
+      c.loop-e-test.true,
+    )
+
+pub loop-e-preserved : goal.loop-e-preserved
+loop-e-preserved c =
+    moves_then c.loop-e.invariant c.give.ensures
+
+pub shape_of-x : goal.shape_of-x
+shape_of-x c = c.loop-e.invariant.x_len
+
+pub shape_of-left : goal.shape_of-left
+shape_of-left c = c.loop-e.invariant.left_len
+
+pub returns : goal.returns
+returns c = c.loop-e.invariant

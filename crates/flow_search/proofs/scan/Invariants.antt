@@ -1,0 +1,17 @@
+use mathlib.Core.Path.{◌∙◌, sym}
+use Prim.Native.Nat.{◌-◌}
+use native.Mathlib.Omega.{arith}
+use borrow.Author.Rules.{rules}
+use Rattle.packed_arcs.proofs.ArcColumns.{columns}
+use Rattle.arc_index.proofs.ChainSteps.{in_links, shrinks}
+use Rattle.flow_residual.specs.PackedNetwork.{residual_of}
+use Rattle.flow_search.proofs.SearchLaws.{Scanning, scan_start, scan_step, scan_end, arc_inside, still_ready}
+use Rattle.flow_search.proofs.scan.Given as goal
+
+abbrev pub invariant-loop-e : goal.invariant-loop-e
+invariant-loop-e l =
+    Scanning (residual_of l.arcs l.x l.pi) l.back l.u l.k l.initial.key l.initial.par l.initial.keys l.initial.low l.key l.par l.keys l.low l.e
+
+abbrev pub decreases-loop-e : goal.decreases-loop-e
+decreases-loop-e l =
+    4096 - l.e

@@ -1,0 +1,9 @@
+use mathlib.Core.Path.{sym}
+use Prim.Native.Nat.{◌+◌, ◌*◌}
+use native.Mathlib.Omega.{arith}
+use borrow.Author.Rules.{rules}
+use Rattle.file_fields.proofs.Reading.{signed_past}
+use Rattle.format.proofs.annotation_file.number.Goals as goal
+
+pub returns-then-size-v : goal.returns-then-size-v
+returns-then-size-v c = sym (signed_past c.args.file.now (8 + 4 * c.args.v) (omega arith))

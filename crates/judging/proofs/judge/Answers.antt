@@ -1,0 +1,63 @@
+-- At each place where it ends, what it gives is what the definition gives.
+use mathlib.Core.Path.{◌∙◌}
+use Rattle.judging.proofs.JudgeReturns.{at_layout, at_opening, at_reading, at_annotation, at_steps}
+use Rattle.judging.proofs.judge.Goals as goal
+
+-- In each answer: x is where the arguments are, l where the layout is found, h the header, o the opening, r the reading, a the layout of the annotation.
+pub returns-then-layout-ne0 : goal.returns-then-layout-ne0
+returns-then-layout-ne0 c =
+    at_layout c.args.net.now c.args.ann.now c.args.point c.network_check-layout.result c.network_check-layout.ensures
+    c.if-layout-ne0.true
+
+pub returns-then-at_opening-ne0 : goal.returns-then-at_opening-ne0
+returns-then-at_opening-ne0 c =
+    at_opening c.args.net.now c.args.ann.now c.args.point c.network_check-layout.result c.network_check-layout.ensures
+    c.if-layout-ne0.false c.Opening-of.result (c.Opening-of.ensures ∙ c.setting.ensures) (goal.at.returns-then-at_opening-ne0 c).After-open-opened.«open».result (goal.at.returns-then-at_opening-ne0 c).After-open-opened.«open».ensures
+    c.if-at_opening-ne0.true
+
+pub returns-then-at_reading-ne0 : goal.returns-then-at_reading-ne0
+returns-then-at_reading-ne0 c =
+    at_reading c.args.net.now c.args.ann.now c.args.point c.network_check-layout.result c.network_check-layout.ensures
+    c.if-layout-ne0.false c.Opening-of.result (c.Opening-of.ensures ∙ c.setting.ensures) (goal.at.returns-then-at_reading-ne0 c).Else-at_opening-ne0.«open».result (goal.at.returns-then-at_reading-ne0 c).Else-at_opening-ne0.«open».ensures
+    c.if-at_opening-ne0.false c.read_all-turn.result.why _ c.read_all-turn.ensures
+    c.if-at_reading-ne0.true
+
+pub returns-then-why-ne0 : goal.returns-then-why-ne0
+returns-then-why-ne0 c =
+    at_annotation c.args.net.now c.args.ann.now c.args.point c.network_check-layout.result c.network_check-layout.ensures
+    c.if-layout-ne0.false c.Opening-of.result (c.Opening-of.ensures ∙ c.setting.ensures) (goal.at.returns-then-why-ne0 c).Else-at_opening-ne0.«open».result (goal.at.returns-then-why-ne0 c).Else-at_opening-ne0.«open».ensures
+    c.if-at_opening-ne0.false c.read_all-turn.result.why _ c.read_all-turn.ensures
+    c.if-at_reading-ne0.false c.annotation_check-why.result c.vertices-n.result c.vertices-n.ensures c.annotation_check-why.ensures
+    c.if-why-ne0.true
+
+pub returns : goal.returns
+returns c =
+    at_steps c.args.net.now c.args.ann.now c.args.point c.network_check-layout.result c.network_check-layout.ensures
+    c.if-layout-ne0.false c.Opening-of.result (c.Opening-of.ensures ∙ c.setting.ensures) (goal.at.returns c).After-read_all-arg-1.«open».result (goal.at.returns c).After-read_all-arg-1.«open».ensures
+    c.if-at_opening-ne0.false c.read_all-turn.result.why _ c.read_all-turn.ensures
+    c.if-at_reading-ne0.false c.annotation_check-why.result c.vertices-n.result c.vertices-n.ensures c.annotation_check-why.ensures
+    c.if-why-ne0.false _ c.annotation_steps.ensures
+
+pub network_check-layout-requires : goal.network_check-layout-requires
+network_check-layout-requires c = tt
+
+pub setting-requires : goal.setting-requires
+setting-requires c = tt
+
+pub opening_of-requires : goal.opening_of-requires
+opening_of-requires c = tt
+
+pub open-opened-requires : goal.open-opened-requires
+open-opened-requires c = tt
+
+pub read_all-turn-requires : goal.read_all-turn-requires
+read_all-turn-requires c = tt
+
+pub vertices-n-requires : goal.vertices-n-requires
+vertices-n-requires c = tt
+
+pub annotation_check-why-requires : goal.annotation_check-why-requires
+annotation_check-why-requires c = tt
+
+pub annotation_steps-requires : goal.annotation_steps-requires
+annotation_steps-requires c = tt

@@ -1,0 +1,17 @@
+-- The loop's invariant: the amounts below e are written.
+use mathlib.Core.Path.{◌≡◌, sym, ◌∙◌}
+use Prim.Native.Nat.{◌-◌}
+use native.Mathlib.Omega.{arith}
+use lib.ListN.{length}
+use borrow.Author.Rules.{rules}
+use Rattle.prelude.proofs.Filling.{Filling, fill_start, fill_turn, fill_end}
+use Rattle.arc_index.specs.Columns.{record_heads}
+use Rattle.match_state.specs.Amounts.{matched_amount}
+use Rattle.arc_index.proofs.Columns.{heads_len}
+use Rattle.match_results.proofs.write_amounts.Given as goal
+
+abbrev pub invariant-loop-e : goal.invariant-loop-e
+invariant-loop-e l = Filling (λ i k. k ≡ matched_amount (record_heads l.records) l.mate i) 0 l.initial.x l.x l.e
+
+abbrev pub decreases-loop-e : goal.decreases-loop-e
+decreases-loop-e l = length l.records - l.e

@@ -1,0 +1,15 @@
+-- The loop's invariant: the greatest weight stands below a.
+use mathlib.Core.Path.{◌≡◌, refl}
+use Prim.Native.Nat.{◌-◌}
+use native.Mathlib.Omega.{arith}
+use lib.ListN.{length, length-replicate, get_or-replicate}
+use borrow.Author.Rules.{rules}
+use Rattle.prelude.proofs.Filling.{Filling, fill_start, fill_turn}
+use Rattle.packed_arcs.proofs.ListLoops.{filled_as}
+use Rattle.match_slack.proofs.set_heaviest.Given as goal
+
+abbrev pub invariant-loop-a : goal.invariant-loop-a
+invariant-loop-a l = Filling (λ i x. x ≡ 32767) 0 l.initial.lightest l.lightest l.a
+
+abbrev pub decreases-loop-a : goal.decreases-loop-a
+decreases-loop-a l = length l.initial.lightest - l.a

@@ -1,0 +1,17 @@
+-- The loop's invariant: the greatest potential of the matched vertices from h on and below b.
+use Prim.Native.Nat.{◌-◌}
+use native.Mathlib.Omega.{arith}
+use lib.ListN.{length}
+use borrow.Author.Rules.{rules}
+use Rattle.match_slack.proofs.Extremes.{Top, top_turn}
+use Rattle.match_slack.proofs.top_of.Goals as goal
+
+pub loop-b-preserved : goal.loop-b-preserved
+loop-b-preserved c =
+    top_turn c.args.mate.now c.args.pi.now c.args.h c.loop-b.b c.loop-b.most _ _ c.matched_potential.ensures c.greater-most.ensures c.loop-b.invariant
+
+pub returns : goal.returns
+returns c b h = c.before.loop.invariant b (omega (arith, c.loop-test.false))
+
+pub loop-b-init : goal.loop-b-init
+loop-b-init c = absurd (omega arith)

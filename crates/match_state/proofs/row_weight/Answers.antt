@@ -1,0 +1,7 @@
+use mathlib.Core.Path.{ap}
+use borrow.Author.Rules.{rules}
+use Rattle.arc_records.specs.Arcs.{Arc}
+use Rattle.match_state.proofs.row_weight.Goals as goal
+
+pub returns : goal.returns
+returns c = ap (λ (arc : Arc). arc.weight) c.arc_in-record.ensures

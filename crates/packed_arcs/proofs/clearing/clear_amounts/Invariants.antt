@@ -1,0 +1,12 @@
+-- The loop's invariant: the amounts below e are 0.
+use Prim.Native.Nat.{◌-◌}
+use lib.ListN.{length}
+use borrow.Author.Rules.{rules}
+use Rattle.packed_arcs.proofs.ListLoops.{Clearing, clear_start, clear_turn, clear_end}
+use Rattle.packed_arcs.proofs.clearing.clear_amounts.Given as goal
+
+abbrev pub invariant-loop-e : goal.invariant-loop-e
+invariant-loop-e l = Clearing l.initial.amounts l.amounts l.e
+
+abbrev pub decreases-loop-e : goal.decreases-loop-e
+decreases-loop-e l = length l.initial.amounts - l.e

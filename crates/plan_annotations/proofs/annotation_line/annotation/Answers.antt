@@ -1,0 +1,17 @@
+use mathlib.Core.Path.{◌≡◌, subst}
+use mathlib.Core.List.{List}
+use Prim.Native.Nat.{ℕ}
+use borrow.Author.Rules.{rules}
+use lib.ListN.{length}
+use Rattle.format.specs.Replies.{writer_said}
+use Rattle.helper.specs.Helper.{annotated, BufferAfter}
+use Rattle.plan_annotations.specs.AnnotationLine.{file_reply}
+use Rattle.plan_annotations.proofs.annotation_line.annotation.Goals as goal
+
+pub returns : goal.returns
+unfolding file_reply
+returns c =
+    subst
+    (λ (net : List ℕ). (writer_said c.annotate.result ≡ annotated net (length c.args.ann.now)) × BufferAfter (writer_said c.annotate.result) net c.args.ann.now c.annotate.new.1.0)
+    c.counted-n.ensures.file_value
+    c.annotate.ensures

@@ -1,0 +1,23 @@
+use mathlib.Core.Path.{◌≡◌, subst}
+use mathlib.Core.List.{List}
+use Prim.Native.Nat.{ℕ}
+use borrow.Author.Rules.{rules}
+use lib.ListN.{length}
+use Rattle.format.specs.Replies.{writer_said}
+use Rattle.tide_windows.specs.Windows.{windows_in}
+use Rattle.calendar.specs.Schedule.{schedule_reply, buffer_after}
+use Rattle.plan_schedules.proofs.schedule_line.minute_file.Goals as goal
+
+pub returns : goal.returns
+returns c =
+    let ws = windows_in c.args.windows.now in
+    subst
+    (λ (net : List ℕ). (writer_said c.schedule.result ≡ schedule_reply net ws c.args.minute (length c.args.out.now)) × (c.schedule.new.1.1.1.0 ≡ buffer_after net ws c.args.minute c.args.out.now))
+    c.counted-n.ensures.file_value
+    c.schedule.ensures
+
+pub counted-n-requires : goal.counted-n-requires
+counted-n-requires c = tt
+
+pub schedule-requires : goal.schedule-requires
+schedule-requires c = tt

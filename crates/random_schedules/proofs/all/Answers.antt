@@ -1,0 +1,15 @@
+-- `random_schedules::all` is safe and ends: it counts to 640.
+use Rattle.std.proofs.Common.{◌-◌, arith, rules}
+use Rattle.random_schedules.proofs.all.Goals as goal
+
+pub loop-seed-init : goal.loop-seed-init
+loop-seed-init c = tt
+
+pub overflow_add-seed : goal.overflow_add-seed
+overflow_add-seed c = omega arith
+
+pub loop-seed-smaller : goal.loop-seed-smaller
+loop-seed-smaller c = omega arith
+
+pub loop-seed-preserved : goal.loop-seed-preserved
+loop-seed-preserved c = tt

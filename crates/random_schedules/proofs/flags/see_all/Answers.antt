@@ -1,0 +1,15 @@
+-- `random_schedules::flags::see_all` is safe and ends: it counts the windows.
+use Rattle.std.proofs.Common.{◌-◌, arith, rules}
+use Rattle.random_schedules.proofs.flags.see_all.Goals as goal
+
+pub loop-i-init : goal.loop-i-init
+loop-i-init c = tt
+
+pub overflow_add-i : goal.overflow_add-i
+overflow_add-i c = omega arith
+
+pub loop-i-smaller : goal.loop-i-smaller
+loop-i-smaller c = omega arith
+
+pub loop-i-preserved : goal.loop-i-preserved
+loop-i-preserved c = tt

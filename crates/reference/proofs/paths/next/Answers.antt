@@ -1,0 +1,17 @@
+-- `reference::paths::next` is safe and ends: it goes through the vertices.
+use Prim.Native.Nat.{◌-◌}
+use native.Mathlib.Omega.{arith}
+use borrow.Author.Rules.{rules}
+use Rattle.reference.proofs.paths.next.Goals as goal
+
+pub loop-v-init : goal.loop-v-init
+loop-v-init c = tt
+
+pub overflow_add-v : goal.overflow_add-v
+overflow_add-v c = omega arith
+
+pub loop-v-smaller : goal.loop-v-smaller
+loop-v-smaller c = omega arith
+
+pub loop-v-preserved : goal.loop-v-preserved
+loop-v-preserved c = tt

@@ -1,0 +1,5 @@
+use borrow.Author.Rules.{rules}
+use Rattle.rules.proofs.annotation.amount_ok.Goals as goal
+
+pub returns : goal.returns
+returns c = rw c.most.ensures

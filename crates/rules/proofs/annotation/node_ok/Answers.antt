@@ -1,0 +1,22 @@
+use mathlib.Core.Path.{◌≡◌, sym, ◌∙◌}
+use mir.Facts.{to_z-of_z}
+use borrow.Author.Rules.{rules}
+use Rattle.network.specs.Tests.{claim_number, claim_of}
+use Rattle.prelude.proofs.Tested.{passed, refused, first_off, and_on}
+use Rattle.checks.specs.Held.{asked}
+use Rattle.ranges.specs.Ranges.{in_table}
+use Rattle.ranges.proofs.Promises.{check_ten_same}
+use Rattle.rules.proofs.annotation.node_ok.Goals as goal
+use Rattle.rules.proofs.annotation.node_ok.Goals.{After-in_table}
+
+-- what the table says of the number
+in_range : (c : After-in_table) →
+    c.in_table.result ≡ in_table c.args.st.question (claim_number (claim_of c.args.claim)) c.args.z
+in_range c = rw c.claim_number.ensures at (simp (to_z-of_z c.fits.z) at c.in_table.ensures)
+
+pub returns-then-not-in_table : goal.returns-then-not-in_table
+returns-then-not-in_table c = sym (check_ten_same (asked c.args.st) (claim_of c.args.claim) c.args.v c.args.z ∙ first_off _ _ (refused _ _ c.if-not-in_table.true (in_range (goal.at.returns-then-not-in_table c).After-in_table)))
+
+pub returns : goal.returns
+returns c = let rule = rw c.row_of.ensures at (simp (to_z-of_z c.fits.z) at c.on_node.ensures) in
+    rw (check_ten_same (asked c.args.st) (claim_of c.args.claim) c.args.v c.args.z) (and_on _ _ _ (passed _ _ c.if-not-in_table.false (in_range (goal.at.returns c).After-in_table)) rule)

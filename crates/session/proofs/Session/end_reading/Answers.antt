@@ -1,0 +1,14 @@
+use mathlib.Core.Path.{◌∙◌}
+use Rattle.session.proofs.TurnsToSteps.{end_replies, by_state}
+use Rattle.session.proofs.Session.end_reading.Goals as goal
+
+-- u is the turn of the state, s where the arguments are
+pub returns : goal.returns
+returns c =
+    c.reply_to.ensures ∙ by_state (end_replies c.args.self c.end_reading-turn.result c.end_reading-turn.ensures)
+
+pub end_reading-turn-requires : goal.end_reading-turn-requires
+end_reading-turn-requires c = tt
+
+pub reply_to-requires : goal.reply_to-requires
+reply_to-requires c = tt

@@ -1,0 +1,6 @@
+use borrow.Author.Rules.{rules}
+use Rattle.cert_instances.proofs.CertifyCases.{by_number}
+use Rattle.solver_export.proofs.solver_certify.Goals as goal
+
+pub returns : goal.returns
+returns c = by_number c.claim_number.ensures c.certify.ensures

@@ -1,0 +1,15 @@
+-- `testing::files::fill` is safe and ends: it goes through the annotation's part.
+use Rattle.std.proofs.Common.{◌-◌, arith, rules}
+use Rattle.testing.proofs.files.fill.Goals as goal
+
+pub loop-i-init : goal.loop-i-init
+loop-i-init c = tt
+
+pub overflow_add-i : goal.overflow_add-i
+overflow_add-i c = omega arith
+
+pub loop-i-smaller : goal.loop-i-smaller
+loop-i-smaller c = omega arith
+
+pub loop-i-preserved : goal.loop-i-preserved
+loop-i-preserved c = tt

@@ -1,0 +1,18 @@
+-- `testing::script::find` is safe and ends: it goes through the script from a place on.
+use Rattle.std.proofs.Common.{◌-◌, length, arith, rules}
+use Rattle.testing.proofs.script.find.Goals as goal
+
+pub loop-i-init : goal.loop-i-init
+loop-i-init c = tt
+
+pub bounds-script-i : goal.bounds-script-i
+bounds-script-i c = omega arith
+
+pub overflow_add-i : goal.overflow_add-i
+overflow_add-i c = omega arith
+
+pub loop-i-smaller : goal.loop-i-smaller
+loop-i-smaller c = omega arith
+
+pub loop-i-preserved : goal.loop-i-preserved
+loop-i-preserved c = tt
