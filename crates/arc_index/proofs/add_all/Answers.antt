@@ -14,8 +14,8 @@ loop-e-init c = added_none c.args.records.now (record_ends c.args.end c.args.rec
 pub loop-e-preserved : goal.loop-e-preserved
 loop-e-preserved c =
     let rs = c.args.records.now in
-    added_more rs (record_ends c.args.end rs) (ends_len c.args.end rs) (index_of c.args.links.now c.args.last.now) (index_of c.loop-e.links c.loop-e.last) _ c.loop-e.e c.end_of_lem.result c.requires
-    c.loop-e-test.true (c.end_of_lem.ensures ∙ sym (end_at c.args.end rs c.loop-e.e)) c.add.ensures c.loop-e.invariant
+    added_more rs (record_ends c.args.end rs) (ends_len c.args.end rs) (index_of c.args.links.now c.args.last.now) (index_of c.loop-e.links c.loop-e.last) _ c.loop-e.e c.end_of-v.result c.requires
+    c.loop-e-test.true (c.end_of-v.ensures ∙ sym (end_at c.args.end rs c.loop-e.e)) c.add.ensures c.loop-e.invariant
 
 pub shape_of-links : goal.shape_of-links
 shape_of-links c =

@@ -9,9 +9,3 @@ overflow_cast-result c = record { fits = omega (arith, ap (λ (e : Arc). e.tail)
 
 pub overflow_cast-result-in-Head : goal.overflow_cast-result-in-Head
 overflow_cast-result-in-Head c = record { fits = omega (arith, ap (λ (e : Arc). e.tail) c.arc_in-arc.ensures, ap (λ (e : Arc). e.head) c.arc_in-arc.ensures) }
-
-pub returns-in-Tail : goal.returns-in-Tail
-returns-in-Tail c = rw c.enum_told-1.given.1 (ap (λ (e : Arc). e.tail) c.arc_in-arc.ensures)
-
-pub returns-in-Head : goal.returns-in-Head
-returns-in-Head c = rw c.enum_told-in-Head-1.given.1 (ap (λ (e : Arc). e.head) c.arc_in-arc.ensures)
