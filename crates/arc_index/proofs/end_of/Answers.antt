@@ -1,6 +1,5 @@
 use mathlib.Core.Path.{ap}
 use native.Mathlib.Omega.{arith}
-use borrow.Author.Rules.{rules}
 use Rattle.arc_records.specs.Arcs.{Arc}
 use Rattle.arc_index.proofs.end_of.Goals as goal
 
