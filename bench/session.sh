@@ -1,6 +1,6 @@
 #!/usr/bin/env bash
 # Nanoseconds for a read and for a repeated channel: the proved session against a verifier in C that does the same work in place.
-# Run by hand, after `rt check`. Both are release builds, measured in one run, in processor time.
+# Run by hand, after `rt run < stdin` in crates/session_speed. Both are release builds, measured in one run, in processor time.
 set -euo pipefail
 cd "$(dirname "$0")/.."
 rounds=${1:-2000}
@@ -11,7 +11,7 @@ head -c "$rounds" /dev/zero | tr '\0' r > "$work/reads"
 head -c "$rounds" /dev/zero > "$work/all"
 TIMEFORMAT=%U
 seconds() { { time "$@" > /dev/null; } 2>&1; }
-ours() { target/bin/session_speed < "$1"; }
+ours() { crates/session_speed/out/session_speed < "$1"; }
 for turn in 1 2 3; do
   a=$(seconds ours "$work/reads"); b=$(seconds ours "$work/all")
   c=$(seconds "$work/session" "$rounds" reads); d=$(seconds "$work/session" "$rounds" all)

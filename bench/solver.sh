@@ -1,6 +1,6 @@
 #!/usr/bin/env bash
 # The proved solver against LEMON and networkx: the same instances, one run, one table. Run by hand; ends with 1 if answers differ.
-# Usage: bench/solver.sh [ARCHIVE]. Without an archive or object file, that of `rt staticlib solver_export` is made and taken.
+# Usage: bench/solver.sh [ARCHIVE]. Without an archive or object file, that of `rt lib` in crates/solver_export is made and taken.
 set -euo pipefail
 here=$(dirname "$(realpath "$0")")
 work=$(mktemp -d)

@@ -4,11 +4,12 @@
 use plan_annotations::annotation_line;
 use program_io::front;
 
-fn main() {
+fn main(rt: HostRuntime) {
     let mut net = front::room();
     let mut ann = front::room();
     let mut text = [0u8; 32];
     let annotated = annotation_line::annotate_files(
+        &rt,
         b"plan.drn",
         b"plan.dra",
         &mut net,

@@ -4,12 +4,13 @@
 use plan_files::answer_line;
 use program_io::front;
 
-fn main() {
+fn main(rt: HostRuntime) {
     let mut point = [0u8; 8];
     let mut net = front::room();
     let mut ann = front::room();
     let mut text = [0u8; 32];
     let judged = answer_line::judge_files(
+        &rt,
         b"point.bin",
         b"plan.drn",
         b"plan.dra",

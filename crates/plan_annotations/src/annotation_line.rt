@@ -8,6 +8,7 @@ ghost use Rattle.plan_annotations.specs.AnnotationLine.{file_reply, AnnotatedFil
 use format::Written;
 use program_io::counted::counted;
 use program_io::front::read_front;
+use std::fs::Files;
 use written_files::{line_for, save_reply};
 
 // The annotation for what counts of a network file, in the buffer.
@@ -28,7 +29,8 @@ pub struct Annotated {
 }
 
 // Reads the named network file into a buffer, annotates what was read in the other, saves that and makes the line.
-fn annotate_read(
+fn annotate_read<R: Files>(
+    files: &R,
     net_name: &[u8],
     ann_name: &[u8],
     net: &mut [u8],
@@ -37,9 +39,9 @@ fn annotate_read(
 ) -> Annotated
     ensures { AnnotatedFiles (length ann.old) net.new ann.old ann.new text.old result text.new }
 {
-    let n = read_front(net_name, net);
+    let n = read_front(files, net_name, net);
     let reply = annotation(&net[..n], ann);
-    let saved = save_reply(ann_name, reply, ann);
+    let saved = save_reply(files, ann_name, reply, ann);
     let k = line_for(reply, saved, text);
     Annotated {
         net: n,
@@ -49,7 +51,8 @@ fn annotate_read(
 }
 
 // The same in buffers that hold as many bytes as count, which is enough for every annotation.
-pub fn annotate_files(
+pub fn annotate_files<R: Files>(
+    files: &R,
     net_name: &[u8],
     ann_name: &[u8],
     net: &mut [u8; 32768],
@@ -58,5 +61,5 @@ pub fn annotate_files(
 ) -> Annotated
     ensures { AnnotatedFiles 32768 net.new ann.old ann.new text.old result text.new }
 {
-    annotate_read(net_name, ann_name, net, ann, text)
+    annotate_read(files, net_name, ann_name, net, ann, text)
 }

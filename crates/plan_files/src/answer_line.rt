@@ -11,6 +11,7 @@ use program_io::counted::counted;
 use program_io::front::{read_front, read_if};
 use program_io::line;
 use state::Response;
+use std::fs::Files;
 
 // The pair of points in the first eight bytes.
 fn point_in(point: &[u8]) -> Point
@@ -66,7 +67,8 @@ pub struct Judged {
 
 // Reads the three named files into the buffers and makes the line for what was read. The other two files are not opened where
 // fewer than eight bytes hold the points.
-fn judge_read(
+fn judge_read<R: Files>(
+    files: &R,
     point_name: &[u8],
     net_name: &[u8],
     ann_name: &[u8],
@@ -77,10 +79,10 @@ fn judge_read(
 ) -> Judged
     ensures { JudgedFiles point.new net.new ann.new text.old result text.new }
 {
-    let p = read_front(point_name, point);
+    let p = read_front(files, point_name, point);
     let is_whole = 8 <= p;
-    let n = read_if(is_whole, net_name, net);
-    let m = read_if(is_whole, ann_name, ann);
+    let n = read_if(files, is_whole, net_name, net);
+    let m = read_if(files, is_whole, ann_name, ann);
     let k = judge_line(&point[..p], &net[..n], &ann[..m], text);
     Judged {
         point: p,
@@ -91,7 +93,8 @@ fn judge_read(
 }
 
 // The same in buffers that hold as many bytes as count.
-pub fn judge_files(
+pub fn judge_files<R: Files>(
+    files: &R,
     point_name: &[u8],
     net_name: &[u8],
     ann_name: &[u8],
@@ -102,5 +105,5 @@ pub fn judge_files(
 ) -> Judged
     ensures { JudgedFiles point.new net.new ann.new text.old result text.new }
 {
-    judge_read(point_name, net_name, ann_name, point, net, ann, text)
+    judge_read(files, point_name, net_name, ann_name, point, net, ann, text)
 }

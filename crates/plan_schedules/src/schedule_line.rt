@@ -12,6 +12,7 @@ use format::Written;
 use program_io::counted::counted;
 use program_io::front::{Front, read_file, read_front};
 use program_io::line;
+use std::fs::Files;
 use tide_table::read_table;
 use tide_table::text::number;
 use written_files::{line_for, save_reply};
@@ -44,7 +45,8 @@ fn undone(line: usize) -> Done
 }
 
 // Reads the named network file, writes and saves that of the minute by the windows, and makes the line.
-fn schedule_by(
+fn schedule_by<R: Files>(
+    files: &R,
     windows: &[[u32; 3]],
     minute: u32,
     net_name: &[u8],
@@ -55,9 +57,9 @@ fn schedule_by(
 ) -> Done
     ensures { DoneAs (windows_outcome (windows_in windows.now) minute (length out.old)) (windows_buffer (windows_in windows.now) minute out.old) net.new out.new text.old result text.new }
 {
-    let n = read_front(net_name, net);
+    let n = read_front(files, net_name, net);
     let reply = minute_file(&net[..n], windows, minute, out);
-    let saved = save_reply(out_name, reply, out);
+    let saved = save_reply(files, out_name, reply, out);
     let k = line_for(reply, saved, text);
     Done {
         net: n,
@@ -77,7 +79,8 @@ fn rows_kept(count: usize) -> usize
 }
 
 // The same by the bytes of a tide table. The network file is not opened where a line is no window.
-fn schedule_for(
+fn schedule_for<R: Files>(
+    files: &R,
     table: &[u8],
     minute: u32,
     net_name: &[u8],
@@ -95,11 +98,12 @@ fn schedule_for(
         return undone(line::numbered(b"bad line ", bad as u64, text));
     }
     let n = rows_kept(found.count);
-    schedule_by(&rows[..n], minute, net_name, out_name, net, out, text)
+    schedule_by(files, &rows[..n], minute, net_name, out_name, net, out, text)
 }
 
 // The same by what came of reading a tide table into a buffer.
-fn schedule_front(
+fn schedule_front<R: Files>(
+    files: &R,
     front: Front,
     table: &[u8],
     minute: u32,
@@ -118,7 +122,7 @@ fn schedule_front(
         return undone(line::plain(b"no windows\n", text));
     }
     let n = front.size;
-    schedule_for(&table[..n], minute, net_name, out_name, net, out, text)
+    schedule_for(files, &table[..n], minute, net_name, out_name, net, out, text)
 }
 
 // Whether the tide table could be read, how many bytes of it were read into its buffer, and what was done.
@@ -130,7 +134,8 @@ pub struct Scheduled {
 }
 
 // Reads the named tide table, and goes on by it at the minute that the argument says. No file is opened for an argument that is no number.
-fn schedule_read(
+fn schedule_read<R: Files>(
+    files: &R,
     argument: &[u8],
     table_name: &[u8],
     net_name: &[u8],
@@ -151,8 +156,9 @@ fn schedule_read(
             done: done,
         };
     }
-    let front = read_file(table_name, table);
+    let front = read_file(files, table_name, table);
     let done = schedule_front(
+        files,
         front,
         table,
         minute.value,
@@ -170,7 +176,8 @@ fn schedule_read(
 }
 
 // The same in buffers that hold as many bytes as count, of the table one more, which tells that it is too long.
-pub fn schedule_files(
+pub fn schedule_files<R: Files>(
+    files: &R,
     argument: &[u8],
     table_name: &[u8],
     net_name: &[u8],
@@ -183,6 +190,6 @@ pub fn schedule_files(
     ensures { ScheduledFiles 32768 argument.now table.new net.new out.old out.new text.old result text.new }
 {
     schedule_read(
-        argument, table_name, net_name, out_name, table, net, out, text,
+        files, argument, table_name, net_name, out_name, table, net, out, text,
     )
 }

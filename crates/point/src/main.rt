@@ -2,11 +2,11 @@
 // and prints one line, never a point.
 #![tactic(auto)]
 
-fn main() {
+fn main(rt: HostRuntime) {
     let mut random = [0u8; 128];
     let mut file = [0u8; 8];
     let mut text = [0u8; 32];
-    let made = point_draw::make_point(b"point.bin", &mut random, &mut file, &mut text);
+    let made = point_draw::make_point(&rt, b"point.bin", &mut random, &mut file, &mut text);
     let n = made.line;
     io::write_all(1, &text[..n]);
 }

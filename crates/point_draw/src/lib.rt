@@ -8,6 +8,8 @@ ghost use Rattle.point_draw.specs.Draw.{low31, drawn, paired, drawn_pair, point_
 
 use file_fields::bytes::{bits32, put_bits32};
 use program_io::{line, saving};
+use std::fs::Files;
+use std::random::RandomSource;
 
 // What is drawn from random bytes: a point below p, or nothing where no word of them gives one.
 #[derive(Clone, Copy)]
@@ -95,19 +97,19 @@ pub fn line_for(drawn: DrawnPair, done: bool, text: &mut [u8; 32]) -> usize
 }
 
 // Fills the buffer with random bytes of the system, and answers how many count: none where it has no entropy to give.
-fn entropy(random: &mut [u8]) -> usize
+fn entropy<R: RandomSource>(source: &R, random: &mut [u8]) -> usize
     ensures { IsPrefixLen result random.new }
 {
-    if libc::getentropy(random) != 0 {
+    if source.fill_bytes(random).is_err() {
         return 0;
     }
     random.len()
 }
 
 // Saves the file of the points that were drawn, for its owner alone, and answers whether it is there.
-fn save_drawn(name: &[u8], drawn: DrawnPair, file: &[u8]) -> bool {
+fn save_drawn<R: Files>(files: &R, name: &[u8], drawn: DrawnPair, file: &[u8]) -> bool {
     match drawn {
-        DrawnPair::Points(_, _) => saving::save(name, file, 0o600),
+        DrawnPair::Points(_, _) => saving::save(files, name, file, 0o600),
         DrawnPair::Nothing => false,
     }
 }
@@ -121,16 +123,22 @@ pub struct Made {
 }
 
 // Draws two points from random bytes of the system in a lent buffer, puts their bytes into the other, saves them in the named file and makes the line.
-pub fn make_point(name: &[u8], random: &mut [u8], file: &mut [u8; 8], text: &mut [u8; 32]) -> Made
+pub fn make_point<R: Files + RandomSource>(
+    rt: &R,
+    name: &[u8],
+    random: &mut [u8],
+    file: &mut [u8; 8],
+    text: &mut [u8; 32],
+) -> Made
     ensures prefix_len { IsPrefixLen result.line text.new }
     ensures prefix_len_2 { IsPrefixLen result.random random.new }
     ensures file_after { file.new ≡ point_file (drawn_pair (take result.random random.new)) file.old }
     ensures line_in { LineIn (point_line (drawn_pair (take result.random random.new)) result.saved) text.old result.line text.new }
 {
-    let n = entropy(random);
+    let n = entropy(rt, random);
     let drawn = draw_pair(&random[..n]);
     write_point(drawn, file);
-    let saved = save_drawn(name, drawn, file);
+    let saved = save_drawn(rt, name, drawn, file);
     let k = line_for(drawn, saved, text);
     Made {
         random: n,

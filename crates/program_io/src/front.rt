@@ -2,6 +2,10 @@
 ghost use Rattle.std.specs.Prelude.{◌≡◌, length};
 ghost use Rattle.io.specs.Counts.{IsPrefixLen};
 
+use std::fs::{File, Files};
+use std::io::Read;
+use std::str;
+
 // Room for the bytes of a file that count.
 pub fn room() -> [u8; 32768]
     ensures { 32768 ≡ length result }
@@ -27,16 +31,14 @@ fn unread() -> Front
 }
 
 // Fills the buffer until the file ends, or until a read fails.
-fn fill(fd: i32, buffer: &mut [u8]) -> Front
+fn fill<F: Read>(file: &mut F, buffer: &mut [u8]) -> Front
     ensures { IsPrefixLen result.size buffer.new }
 {
     let mut n = 0;
     while n < buffer.len() {
-        let got = libc::read(fd, &mut buffer[n..]);
-        if got < 0 {
+        let Ok(more) = file.read(&mut buffer[n..]) else {
             return unread();
-        }
-        let more = io::count(got, &buffer[n..]);
+        };
         if more == 0 {
             return Front {
                 is_read: true,
@@ -51,33 +53,33 @@ fn fill(fd: i32, buffer: &mut [u8]) -> Front
     }
 }
 
-// Puts the front of the file into the buffer.
-pub fn read_file(name: &[u8], buffer: &mut [u8]) -> Front
+// Puts the front of the file into the buffer. A file whose name is not in UTF-8 cannot be read.
+pub fn read_file<R: Files>(files: &R, name: &[u8], buffer: &mut [u8]) -> Front
     ensures { IsPrefixLen result.size buffer.new }
 {
-    let fd = os::open_read(name);
-    if fd < 0 {
+    let Ok(path) = str::from_utf8(name) else {
         return unread();
-    }
-    let front = fill(fd, buffer);
-    libc::close(fd);
-    front
+    };
+    let Ok(mut file) = File::open(files, path) else {
+        return unread();
+    };
+    fill(&mut file, buffer)
 }
 
 // Puts the front of the file into the buffer, and answers how many bytes that is. A file that cannot be read counts as empty.
-pub fn read_front(name: &[u8], buffer: &mut [u8]) -> usize
+pub fn read_front<R: Files>(files: &R, name: &[u8], buffer: &mut [u8]) -> usize
     ensures { IsPrefixLen result buffer.new }
 {
-    let front = read_file(name, buffer);
+    let front = read_file(files, name, buffer);
     front.size
 }
 
 // The same where the file is wanted, else nothing: it is not opened.
-pub fn read_if(is_wanted: bool, name: &[u8], buffer: &mut [u8]) -> usize
+pub fn read_if<R: Files>(files: &R, is_wanted: bool, name: &[u8], buffer: &mut [u8]) -> usize
     ensures { IsPrefixLen result buffer.new }
 {
     if is_wanted {
-        return read_front(name, buffer);
+        return read_front(files, name, buffer);
     }
     0
 }

@@ -2,10 +2,13 @@
 // For measuring; the gate runs it on two bytes.
 #![tactic(auto)]
 
+ghost use Rattle.io.specs.Counts.{IsPrefixLen};
+
 use checks::Opening;
 use points::Point;
 use session::Session;
 use state::Response;
+use std::io::{Input, Read};
 
 // The tail, head and weight of the i-th channel; 32 of 4096 are basins.
 fn tail(i: u32) -> u32 {
@@ -102,10 +105,19 @@ fn rounds(bytes: &[u8], point: Point) {
     }
 }
 
-fn main() {
+// What one read of the standard input gives; nothing where it fails.
+fn input_into<R: Input>(rt: &R, input: &mut [u8]) -> usize
+    ensures { IsPrefixLen result input.new }
+{
+    match rt.reader().read(input) {
+        Ok(n) => n,
+        Err(_) => 0,
+    }
+}
+
+fn main(rt: HostRuntime) {
     let mut input = io::large_buffer();
-    let got = libc::read(0, &mut input);
-    let n = io::count(got, &input);
+    let n = input_into(&rt, &mut input);
     let point = Point {
         first: 5,
         second: 6,

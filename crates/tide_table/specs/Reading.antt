@@ -28,7 +28,7 @@ count_before p (c ∷ text) = pick (p c) 0 (suc (count_before p text))
 
 -- What is answered of a word: is it a number, and which; 0 where it is none.
 pub record NumberRead (word : List ℕ) (r : Number) : Type 0 where
-  pub is_number : r.is_number ≡ is_number word
+  pub number_is : r.is_number ≡ is_number word
   pub value : r.value ≡ pick (is_number word) (value word) 0
 
 -- Is there a first word?
@@ -61,8 +61,8 @@ word_end line at = word_start line at + count_before (is_sought Blank) (drop (wo
 
 -- What is answered of the first word from an index on.
 pub record WordRead (line : List ℕ) (at : ℕ) (r : Word) : Type 0 where
-  pub is_word : r.is_word ≡ has_word (words_of (drop at line))
-  pub is_number : r.is_number ≡ has_number (words_of (drop at line))
+  pub word_is : r.is_word ≡ has_word (words_of (drop at line))
+  pub number_is : r.is_number ≡ has_number (words_of (drop at line))
   pub number : r.value ≡ first_number (words_of (drop at line))
   pub end : r.end ≡ word_end line at
 

@@ -8,16 +8,17 @@ ghost use Rattle.written_files.specs.ReplyLine.{reply_line};
 
 use format::Written;
 use program_io::{line, saving};
+use std::fs::Files;
 
 // Saves the file that the reply tells of, at the front of the buffer, and answers whether it is saved. A refusal touches no file.
-pub fn save_reply(name: &[u8], reply: Written, buffer: &[u8]) -> bool {
+pub fn save_reply<R: Files>(files: &R, name: &[u8], reply: Written, buffer: &[u8]) -> bool {
     match reply {
         Written::Length(size) => {
             let n = size as usize;
             if buffer.len() < n {
                 return false;
             }
-            saving::save(name, &buffer[..n], 0o644)
+            saving::save(files, name, &buffer[..n], 0o644)
         }
         Written::Refused(_) => false,
     }

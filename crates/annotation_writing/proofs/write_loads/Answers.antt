@@ -12,7 +12,7 @@ use Rattle.annotation_writing.proofs.write_loads.Goals as goal
 
 pub loop-e-preserved : goal.loop-e-preserved
 loop-e-preserved c =
-    write_turn load_bytes load_at 6 LoadFits loads_coded c.args.part.now (load_among c.args.records.now c.args.amounts.now) (length c.args.amounts.now) c.loop-e.part c.write_load.new.0 c.loop-e.e
+    write_turn load_bytes load_at 6 LoadFits loads_coded c.args.part.now (load_among c.args.records.now c.args.amounts.now) (length c.args.amounts.now) c.loop-e.part c.write_load.new.part c.loop-e.e
     c.loop-e-test.true c.write_load.ensures c.loop-e.invariant
 
 pub shape_of-part : goal.shape_of-part

@@ -16,7 +16,7 @@ use Rattle.annotation_writing.proofs.write_numbers.Goals as goal
 
 pub loop-v-preserved : goal.loop-v-preserved
 loop-v-preserved c =
-    write_turn byte32 read_signed 4 Signed32 numbers_coded c.args.part.now (at c.args.numbers.now) (length c.args.numbers.now) c.loop-v.part c.write_number.new.0 c.loop-v.v c.loop-v-test.true
+    write_turn byte32 read_signed 4 Signed32 numbers_coded c.args.part.now (at c.args.numbers.now) (length c.args.numbers.now) c.loop-v.part c.write_number.new.part c.loop-v.v c.loop-v-test.true
     (c.write_number.ensures ∙ ap (λ (z : ℤ). sets c.loop-v.part (4 * c.loop-v.v) (byte32 z)) (back w32 (at c.args.numbers.now c.loop-v.v) c.write_number-arg-in-loop-v-1.given))
     c.loop-v.invariant
 

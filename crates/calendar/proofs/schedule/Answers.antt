@@ -46,4 +46,4 @@ pub overflow_cast-result : goal.overflow_cast-result
 overflow_cast-result c = omega (arith, few_left (goal.at.overflow_cast-result c).After-count_left-count)
 
 pub shape_of-buffer : goal.shape_of-buffer
-shape_of-buffer c = c.write_file.auto.1.1.1.1.0
+shape_of-buffer c = c.write_file.auto.buffer

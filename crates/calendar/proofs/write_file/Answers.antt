@@ -4,11 +4,11 @@ use Rattle.calendar.proofs.MinuteFile.{file-written}
 use Rattle.calendar.proofs.write_file.Goals as goal
 
 pub returns : goal.returns
-returns c = 
+returns c =
     file-written c.args.net.now (windows_in c.args.windows.now) c.args.minute
-    (record { (goal.at.returns c).After-question = c.question.result; n = c.vertices.result; (goal.at.returns c).Start = c.source.result; t = c.sink.result })
-    c.args.count c.write_records.result c.args.buffer.now c.write_header.new.0 c.write_records.new.1.1.1.0
-    (λ i. record { (goal.at.returns c).After-question = c.question.ensures i; n = c.vertices.ensures i; (goal.at.returns c).Start = c.source.ensures i; t = c.sink.ensures i })
+    (record { question = c.question.result; n = c.vertices.result; s = c.source.result; t = c.sink.result })
+    c.args.count c.write_records.result c.args.buffer.now c.write_header.new.buffer c.write_records.new.part
+    (λ i. record { question = c.question.ensures i; n = c.vertices.ensures i; s = c.source.ensures i; t = c.sink.ensures i })
     c.requires.count_value c.write_header.ensures c.write_records.ensures
 
 pub question-requires : goal.question-requires

@@ -7,4 +7,4 @@ use Rattle.calendar_records.specs.MinuteNetwork.{closed_for}
 use Rattle.calendar_records.proofs.closed.Goals as goal
 
 pub returns-in-Flow : goal.returns-in-Flow
-returns-in-Flow c = sym (ap (λ (q : Question). closed_for (question_held q) (arc_held c.args.arc)) c.enum_told-in-Flow-1.given.1)
+returns-in-Flow c = sym (ap (λ (q : Question). closed_for (question_held q) (arc_held c.args.arc)) c.in-Flow.is)

@@ -4,13 +4,13 @@ use Rattle.calendar_records.proofs.write_left.Goals as goal
 
 pub returns-in-One : goal.returns-in-One
 returns-in-One c =
-    one_written c.args.left c.args.k c.args.part.now _ _ c.left-1.given.1 c.write_arc.ensures
+    one_written c.args.left c.args.k c.args.part.now _ _ c.in-One.is c.write_arc.ensures
 
 pub write_arc-requires : goal.write_arc-requires
 write_arc-requires c = tt
 
 pub shape_of-part : goal.shape_of-part
-shape_of-part c = c.write_arc.auto.0
+shape_of-part c = c.write_arc.auto.part
 
 pub returns-in-Nothing : goal.returns-in-Nothing
-returns-in-Nothing c = none_written c.args.left c.args.k c.args.part.now c.enum_told-1.given.1
+returns-in-Nothing c = none_written c.args.left c.args.k c.args.part.now c.in-Nothing.is

@@ -37,4 +37,4 @@ pub write_left-requires : goal.write_left-requires
 write_left-requires c = c.requires
 
 pub shape_of-part : goal.shape_of-part
-shape_of-part c = c.write_left.auto.0
+shape_of-part c = c.write_left.auto.part

@@ -55,4 +55,4 @@ pub annotation_size-requires : goal.annotation_size-requires
 annotation_size-requires c = tt
 
 pub shape_of-buffer : goal.shape_of-buffer
-shape_of-buffer c = c.write_annotation.auto.1.0
+shape_of-buffer c = c.write_annotation.auto.buffer

@@ -2,7 +2,6 @@ use mathlib.Core.Path.{sym}
 use native.Mathlib.Omega.{arith}
 use lib.ListN.{length-take}
 use lib.Seq.{length-take-le}
-use borrow.Author.Rules.{rules}
 use Rattle.tide_table.specs.TideTable.{most_bytes}
 use Rattle.tide_table.proofs.Tables.{whole_read, part_read}
 use Rattle.tide_table.proofs.read_table.Goals as goal

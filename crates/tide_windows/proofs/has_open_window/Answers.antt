@@ -1,13 +1,8 @@
 -- The loop's invariant: no window before the row i opens the position.
 use mathlib.Core.Path.{sym}
-use mathlib.Core.Bool.{◌&&◌}
 use mathlib.Core.List.{[]}
-use Prim.Native.Nat.{◌-◌}
-use lib.ListN.{length}
-use borrow.Author.Rules.{rules}
-use Rattle.prelude.specs.Lists.{any}
-use Rattle.prelude.proofs.Searches.{Ahead, ahead_start, ahead_end, any_found, any_next}
-use Rattle.tide_windows.specs.Windows.{window_in, is_of, includes}
+use Rattle.prelude.proofs.Searches.{ahead_start, ahead_end, any_found, any_next}
+use Rattle.tide_windows.specs.Windows.{window_in}
 use Rattle.tide_windows.proofs.has_open_window.Goals as goal
 
 pub loop-i-init : goal.loop-i-init

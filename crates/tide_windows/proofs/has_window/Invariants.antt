@@ -1,11 +1,8 @@
 -- The loop's invariant: no window before the row i is of the position.
-use mathlib.Core.Path.{sym}
-use mathlib.Core.List.{[]}
 use Prim.Native.Nat.{◌-◌}
 use lib.ListN.{length}
-use borrow.Author.Rules.{rules}
 use Rattle.prelude.specs.Lists.{any}
-use Rattle.prelude.proofs.Searches.{Ahead, ahead_start, ahead_end, any_found, any_next}
+use Rattle.prelude.proofs.Searches.{Ahead}
 use Rattle.tide_windows.specs.Windows.{window_in, is_of}
 use Rattle.tide_windows.proofs.has_window.Given as goal
 

@@ -1,4 +1,3 @@
-use borrow.Author.Rules.{rules}
 use Rattle.prelude.proofs.Tested.{tested}
 use Rattle.tide_windows.proofs.window_ok.Goals as goal
 

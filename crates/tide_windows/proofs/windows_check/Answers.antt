@@ -1,5 +1,5 @@
+use mathlib.Core.Path.{sym, ◌∙◌}
 use borrow.Author.Tests.{le-leb, lt-leb}
-use Rattle.prelude.proofs.Tested.{passed, refused}
 use Rattle.tide_windows.proofs.WindowCount.{too_many, few_enough}
 use Rattle.tide_windows.proofs.windows_check.Goals as goal
 
@@ -13,7 +13,7 @@ pub windows_ok-requires : goal.windows_ok-requires
 windows_ok-requires c = tt
 
 pub returns-then-not-windows_ok : goal.returns-then-not-windows_ok
-returns-then-not-windows_ok c = rw (few_enough _ c.if-windows-gt-MOST_WINDOWS.false, le-leb _ _ c.if-minute-gt-LAST_MINUTE.false, refused _ _ c.if-not-windows_ok.true c.windows_ok.ensures)
+returns-then-not-windows_ok c = rw (few_enough _ c.if-windows-gt-MOST_WINDOWS.false, le-leb _ _ c.if-minute-gt-LAST_MINUTE.false, sym c.windows_ok.ensures ∙ c.if-not-windows_ok.true)
 
 pub returns : goal.returns
-returns c = rw (few_enough _ c.if-windows-gt-MOST_WINDOWS.false, le-leb _ _ c.if-minute-gt-LAST_MINUTE.false, passed _ _ c.if-not-windows_ok.false c.windows_ok.ensures)
+returns c = rw (few_enough _ c.if-windows-gt-MOST_WINDOWS.false, le-leb _ _ c.if-minute-gt-LAST_MINUTE.false, sym c.windows_ok.ensures ∙ c.if-not-windows_ok.false)

@@ -1,11 +1,8 @@
 -- The loop's invariant: every window before the row i fits.
-use mathlib.Core.Path.{sym}
-use mathlib.Core.List.{[]}
 use Prim.Native.Nat.{◌-◌}
 use lib.ListN.{length}
-use borrow.Author.Rules.{rules}
 use Rattle.prelude.specs.Lists.{all}
-use Rattle.prelude.proofs.Searches.{Ahead, ahead_start, ahead_end, all_failed, all_next}
+use Rattle.prelude.proofs.Searches.{Ahead}
 use Rattle.tide_windows.specs.Windows.{window_in, window_ok}
 use Rattle.tide_windows.proofs.windows_ok.Given as goal
 

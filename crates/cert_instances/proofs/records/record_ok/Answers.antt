@@ -8,8 +8,6 @@ use Rattle.network.specs.Tests.{arc_checks}
 use Rattle.checks.specs.Held.{asked}
 use Rattle.cert_instances.proofs.records.record_ok.Goals as goal
 
-record-ok-spec = tie.close (tie.spec (λ c κs. search rules) (λ c κs. search rules) returns)
-
 pub returns : goal.returns
 returns c =
     let st = asked c.args.st in

@@ -20,15 +20,15 @@ small r k e h = omega arith
 
 pub overflow_cast-numbers : goal.overflow_cast-numbers
 overflow_cast-numbers c =
-    sfits_of (small _ _ c.number_of_lem.ensures (c.requires.1 c.loop-v.v c.loop-v-test.true))
+    sfits_of (small _ _ c.number_of.ensures (c.requires.1 c.loop-v.v c.loop-v-test.true))
 
 pub bounds-numbers-v : goal.bounds-numbers-v
 bounds-numbers-v c = omega (arith, c.loop-v.invariant.len, c.requires.0)
 
 pub loop-v-preserved : goal.loop-v-preserved
 loop-v-preserved c =
-    let z = to_z_pos w32 (small _ _ c.number_of_lem.ensures (c.requires.1 c.loop-v.v c.loop-v-test.true)) ∙ ap pos c.number_of_lem.ensures in
-    fill_turn (λ i n. n ≡ pos (number_of c.args.kind (entry c.args.from.now i))) (pos 0) c.args.numbers.now c.loop-v.numbers c.loop-v.v (to_z w32 c.number_of_lem.result) (omega (arith, c.requires.0)) z c.loop-v.invariant
+    let z = to_z_pos w32 (small _ _ c.number_of.ensures (c.requires.1 c.loop-v.v c.loop-v-test.true)) ∙ ap pos c.number_of.ensures in
+    fill_turn (λ i n. n ≡ pos (number_of c.args.kind (entry c.args.from.now i))) (pos 0) c.args.numbers.now c.loop-v.numbers c.loop-v.v (to_z w32 c.number_of.result) (omega (arith, c.requires.0)) z c.loop-v.invariant
 
 pub shape_of-numbers : goal.shape_of-numbers
 shape_of-numbers c = c.loop-v.invariant.len

@@ -1,6 +1,5 @@
 use mathlib.Core.Path.{sym}
 use native.Mathlib.Omega.{arith}
-use borrow.Author.Rules.{rules}
 use Rattle.file_fields.proofs.Reading.{read32_past}
 use Rattle.file_fields.proofs.bytes.bits32.Goals as goal
 

@@ -1,6 +1,5 @@
 use mathlib.Core.Path.{sym}
 use native.Mathlib.Omega.{arith}
-use borrow.Author.Rules.{rules}
 use Rattle.file_fields.proofs.Reading.{byte_past}
 use Rattle.file_fields.proofs.bytes.byte.Goals as goal
 

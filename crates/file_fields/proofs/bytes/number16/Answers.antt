@@ -1,6 +1,5 @@
 use mathlib.Core.Path.{sym}
 use native.Mathlib.Omega.{arith}
-use borrow.Author.Rules.{rules}
 use Rattle.file_fields.proofs.Reading.{read16_past}
 use Rattle.file_fields.proofs.bytes.number16.Goals as goal
 

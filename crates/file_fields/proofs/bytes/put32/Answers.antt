@@ -2,12 +2,8 @@ use mathlib.Core.Path.{ap, ◌∙◌}
 use Prim.Native.Nat.{ℕ}
 use lib.Seq.{sets}
 use mir.Facts.{to_z-of_z}
-use borrow.Author.Rules.{rules}
 use Rattle.file_fields.specs.Bytes.{bytes32, pattern_of}
 use Rattle.file_fields.proofs.bytes.put32.Goals as goal
-
-pub shape_of-buffer : goal.shape_of-buffer
-shape_of-buffer c = c.put_bits32.auto.0
 
 pub returns : goal.returns
 returns c = c.put_bits32.ensures ∙ ap

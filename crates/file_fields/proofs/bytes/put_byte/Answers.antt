@@ -1,7 +1,6 @@
 use mathlib.Core.Path.{sym}
 use native.Mathlib.Omega.{arith}
 use lib.Seq.{set_out}
-use borrow.Author.Rules.{rules}
 use Rattle.file_fields.proofs.bytes.put_byte.Goals as goal
 
 pub returns-then-buffer-i : goal.returns-then-buffer-i

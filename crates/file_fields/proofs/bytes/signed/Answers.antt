@@ -3,7 +3,6 @@ use Prim.Native.Nat.{◌-◌}
 use native.Mathlib.Omega.{arith}
 use mir.Syntax.{w32}
 use mir.Val.{to_z}
-use borrow.Author.Rules.{rules}
 use Rattle.file_fields.proofs.Reading.{signed_is}
 use Rattle.file_fields.proofs.bytes.signed.Goals as goal
 

@@ -1,5 +1,4 @@
 -- Where the version is another is said, so that an edit of the test is refused at the fact that fails.
-use borrow.Author.Rules.{rules}
 use borrow.Author.Tests.{le-leb, lt-leb, eq-eqb, ne_eqb}
 use Rattle.file_fields.specs.Bytes.{read16}
 use Rattle.file_fields.proofs.Tests.{is, differs}

@@ -1,5 +1,4 @@
 use native.Mathlib.Omega.{arith}
-use borrow.Author.Rules.{rules}
 use Rattle.io.proofs.Counting.{prefix_len_of_le}
 use Rattle.prelude.proofs.Choice.{tests}
 use Rattle.program_io.proofs.Lines.{none_in, same_in}

@@ -1,7 +1,7 @@
 -- The loop's invariant: so many bytes of the text are pasted into the buffer.
 use mathlib.Core.Path.{◌≡◌, refl, sym, ap, ◌∙◌}
 use mathlib.Core.List.{List}
-use Prim.Native.Nat.{ℕ, ◌+◌, ◌-◌, ◌≤◌, zero-le}
+use Prim.Native.Nat.{ℕ, ◌+◌, zero-le}
 use native.Mathlib.Numerals.{add-one}
 use native.Mathlib.Omega.{arith}
 use lib.ListN.{length, set, get_or, length-set}
@@ -22,10 +22,11 @@ loop-i-preserved c = (
 
 pub returns : goal.returns
 returns c =
-    let all : c.loop-i.i ≡ length c.args.text.now = omega arith in (
-      ap (λ (k : ℕ). c.args.at + k) all,
-      c.loop-i.invariant.2 ∙ ap (paste c.args.buffer.now c.args.at c.args.text.now) all,
-    )
+    let all : c.loop-i.i ≡ length c.args.text.now = omega arith in
+    record {
+      value = ap (λ (k : ℕ). c.args.at + k) all;
+      buffer_after = c.loop-i.invariant.2 ∙ ap (paste c.args.buffer.now c.args.at c.args.text.now) all;
+    }
 
 pub bounds-text-i : goal.bounds-text-i
 bounds-text-i c = omega arith

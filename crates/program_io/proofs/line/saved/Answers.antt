@@ -1,5 +1,4 @@
 -- One line or the other.
-use borrow.Author.Rules.{rules}
 use Rattle.prelude.proofs.Choice.{tests}
 use Rattle.program_io.proofs.Lines.{same_in}
 use Rattle.program_io.proofs.line.saved.Goals as goal

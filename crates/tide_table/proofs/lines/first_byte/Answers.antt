@@ -1,7 +1,6 @@
 use mathlib.Core.Path.{sym}
 use native.Mathlib.Omega.{arith}
 use lib.ListN.{get_or-eq_default}
-use borrow.Author.Rules.{rules}
 use Rattle.tide_table.proofs.lines.first_byte.Goals as goal
 
 pub returns-then-line-eq0 : goal.returns-then-line-eq0

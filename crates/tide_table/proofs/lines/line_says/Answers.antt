@@ -10,7 +10,7 @@ returns-then-first_byte-eq35 c =
 
 pub returns : goal.returns
 returns c =
-    c.words_say_lem.ensures
+    c.words_say.ensures
     ∙ line_said c.args.line.now c.next_word-a.result c.next_word-b.result c.next_word-c.result c.next_word-d.result
     (λ e. c.if-first_byte-eq35.false (c.first_byte.ensures ∙ e)) c.next_word-a.ensures c.next_word-b.ensures c.next_word-c.ensures c.next_word-d.ensures
 

@@ -1,16 +1,12 @@
 -- The loop's invariant: a line begins at the index, and what the whole says is what the lines from there on say behind those read.
 use mathlib.Core.Path.{◌∙◌}
-use Prim.Native.Nat.{◌-◌}
 use native.Mathlib.Omega.{arith}
-use lib.ListN.{length}
-use Rattle.tide_table.proofs.Tables.{ends_within, Here, here_start, here_stop, here_done, here_turn}
+use Rattle.tide_table.proofs.Tables.{ends_within, here_start, here_stop, here_done, here_turn}
 use Rattle.tide_table.proofs.lines.read_lines.Goals as goal
 
--- OLD
-part-line-says-end : tie.Need-slice-bounds-line-says-end invariant-loop decreases-loop
-part-line-says-end c =
-    let l = c.before.loop in
-    ends_within c.before.before.before.args.text.now l.at c.find.result c.find.ensures l.invariant.within
+pub slice_bounds-line_says-end : goal.slice_bounds-line_says-end
+slice_bounds-line_says-end c =
+    ends_within c.args.text.now c.loop-line.at c.find-end.result c.find-end.ensures c.loop-line.invariant.within
 
 pub returns-then-line : goal.returns-then-line
 returns-then-line c =
@@ -22,12 +18,12 @@ keep-count-requires c =
     omega (arith, c.loop-line.invariant.within, c.loop-line.invariant.numbered, c.loop-line.invariant.few, c.requires)
 
 pub shape_of-rows-then-text-end : goal.shape_of-rows-then-text-end
-shape_of-rows-then-text-end c = c.keep-count.auto.1.1.0 ∙ c.loop-line.invariant.same
+shape_of-rows-then-text-end c = c.keep-count.auto.rows ∙ c.loop-line.invariant.same
 
 pub returns-then-text-end : goal.returns-then-text-end
 returns-then-text-end c =
     here_done c.args.text.now c.args.rows.now c.loop-line.rows c.loop-line.at c.loop-line.number c.loop-line.count c.loop-line.invariant c.find-end.result c.find-end.ensures
-    c.line_says-line.result c.line_says-line.ensures c.if-line.false c.keep-count.result c.keep-count.new.1.1.0 c.keep-count.ensures c.if-text-end.true
+    c.line_says-line.result c.line_says-line.ensures c.if-line.false c.keep-count.result c.keep-count.new.rows c.keep-count.ensures c.if-text-end.true
 
 pub overflow_add-number : goal.overflow_add-number
 overflow_add-number c =
@@ -40,7 +36,7 @@ loop-line-smaller c =
 pub loop-line-preserved : goal.loop-line-preserved
 loop-line-preserved c =
     here_turn c.args.text.now c.args.rows.now c.loop-line.rows c.loop-line.at c.loop-line.number c.loop-line.count c.loop-line.invariant c.find-end.result c.find-end.ensures
-    c.line_says-line.result c.line_says-line.ensures c.if-line.false c.keep-count.result c.keep-count.new.1.1.0 c.keep-count.ensures c.keep-count.auto.1.1.0 c.if-text-end.false
+    c.line_says-line.result c.line_says-line.ensures c.if-line.false c.keep-count.result c.keep-count.new.rows c.keep-count.ensures c.keep-count.auto.rows c.if-text-end.false
 
 pub loop-line-init : goal.loop-line-init
 loop-line-init c = here_start c.args.text.now c.args.rows.now

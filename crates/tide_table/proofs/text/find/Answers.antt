@@ -1,10 +1,8 @@
 -- The loop's invariant: from i on it finds the same byte.
-use mathlib.Core.Path.{◌≡◌, refl, sym, ◌∙◌}
-use Prim.Native.Nat.{◌+◌, ◌-◌}
+use mathlib.Core.Path.{refl, sym, ◌∙◌}
 use native.Mathlib.Numerals.{add-one}
 use native.Mathlib.Omega.{arith}
-use lib.ListN.{length, drop}
-use Rattle.tide_table.specs.Reading.{is_sought, count_before}
+use Rattle.tide_table.specs.Reading.{is_sought}
 use Rattle.tide_table.proofs.Pieces.{at_here, at_next, at_end}
 use Rattle.tide_table.proofs.text.find.Goals as goal
 

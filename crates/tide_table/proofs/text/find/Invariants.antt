@@ -1,11 +1,8 @@
 -- The loop's invariant: from i on it finds the same byte.
-use mathlib.Core.Path.{◌≡◌, refl, sym, ◌∙◌}
+use mathlib.Core.Path.{◌≡◌}
 use Prim.Native.Nat.{◌+◌, ◌-◌}
-use native.Mathlib.Numerals.{add-one}
-use native.Mathlib.Omega.{arith}
 use lib.ListN.{length, drop}
 use Rattle.tide_table.specs.Reading.{is_sought, count_before}
-use Rattle.tide_table.proofs.Pieces.{at_here, at_next, at_end}
 use Rattle.tide_table.proofs.text.find.Given as goal
 
 abbrev pub invariant-loop-i : goal.invariant-loop-i

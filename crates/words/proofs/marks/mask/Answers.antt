@@ -1,5 +1,4 @@
 use native.Mathlib.Omega.{arith}
-use borrow.Author.Rules.{rules}
 use Rattle.words.specs.Masks.{mask}
 use Rattle.words.proofs.marks.mask.Goals as goal
 

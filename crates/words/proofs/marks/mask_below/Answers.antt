@@ -2,7 +2,6 @@ use mathlib.Core.Path.{◌≡◌, ap}
 use Prim.Native.Nat.{ℕ, ◌-◌, ◌^◌}
 use native.Mathlib.Omega.{arith}
 use lib.Pow.{pow_pos}
-use borrow.Author.Rules.{rules}
 use Rattle.words.specs.Masks.{bits_below, mask_below}
 use Rattle.words.proofs.Bits.{bit}
 use Rattle.words.proofs.marks.mask_below.Goals as goal

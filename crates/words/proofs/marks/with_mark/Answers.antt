@@ -1,6 +1,6 @@
 use mathlib.Core.Path.{◌≡◌, sym}
 use native.Mathlib.Omega.{arith}
-use lib.Bits.{and_mask}
+use lib.Bits.{bit_and, and_mask}
 use lib.ListN.{length}
 use lib.Seq.{set_out}
 use mir.Facts.{Fits-of_lt}
@@ -23,4 +23,4 @@ overflow_shl-bit c = search (and_lit, tt)
 
 pub returns : goal.returns
 unfolding with_mark
-returns c = rw (bit _ (shl-bit (goal.at.returns c).Else-k-ge4)) (simp (and_mask c.args.v 6))
+returns c = rw (bit (bit_and c.args.v 63) (and_lit c.args.v 63 64 tt)) (simp (and_mask c.args.v 6))

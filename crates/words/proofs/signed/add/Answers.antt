@@ -1,5 +1,4 @@
 use lib.IntN.{◌+ℤ◌}
-use borrow.Author.Rules.{rules}
 use Rattle.words.proofs.Signs.{mag_add, op_fits, op_done, op_not}
 use Rattle.words.proofs.signed.add.Goals as goal
 
@@ -9,7 +8,7 @@ overflow_add-result c =
 
 pub returns-then-both_small : goal.returns-then-both_small
 returns-then-both_small c =
-    op_done ◌+ℤ◌ c.args.a c.args.b c.ranges.a c.ranges.b c.both_small.result c.both_small.ensures (add-result (goal.at.returns-then-both_small c).Then-both_small) c.if-both_small.true
+    op_done ◌+ℤ◌ c.args.a c.args.b c.ranges.a c.ranges.b c.both_small.result c.both_small.ensures (op_fits ◌+ℤ◌ c.args.a c.args.b c.ranges.a c.ranges.b c.both_small.result c.both_small.ensures mag_add c.if-both_small.true) c.if-both_small.true
 
 pub returns : goal.returns
 returns c =

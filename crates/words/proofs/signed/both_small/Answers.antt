@@ -1,6 +1,5 @@
 use mathlib.Core.Path.{sym, ◌∙◌}
 use mir.Facts.{to_z-of_z}
-use borrow.Author.Rules.{rules}
 use Rattle.words.proofs.signed.both_small.Goals as goal
 
 pub returns-then-is_small : goal.returns-then-is_small

@@ -1,4 +1,3 @@
-use borrow.Author.Rules.{rules}
 use Rattle.words.proofs.Signs.{wide_pos}
 use Rattle.words.proofs.signed.from_unsigned.Goals as goal
 
