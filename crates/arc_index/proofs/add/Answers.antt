@@ -1,4 +1,3 @@
-use borrow.Author.Rules.{rules}
 use Rattle.arc_index.specs.ArcIndex.{index_of}
 use Rattle.arc_index.proofs.Chains.{not_added, noted}
 use Rattle.arc_index.proofs.add.Goals as goal

@@ -1,11 +1,8 @@
 -- The loop's invariant: the arcs below e are added.
-use mathlib.Core.Path.{sym, ◌∙◌}
 use Prim.Native.Nat.{◌-◌}
 use lib.ListN.{length}
-use borrow.Author.Rules.{rules}
 use Rattle.arc_index.specs.ArcIndex.{index_of, record_ends}
-use Rattle.arc_index.proofs.Building.{AddedTo, added_none, added_more, added_all, same_links}
-use Rattle.arc_index.proofs.Ends.{ends_len, end_at}
+use Rattle.arc_index.proofs.Building.{AddedTo}
 use Rattle.arc_index.proofs.add_all.Given as goal
 
 abbrev pub invariant-loop-e : goal.invariant-loop-e

@@ -1,8 +1,5 @@
 -- The loop's invariant: no arc stands below i.
-use Prim.Native.Nat.{◌-◌}
-use lib.ListN.{length}
-use borrow.Author.Rules.{rules}
-use Rattle.arc_index.proofs.Filled.{Clearing, clear_start, clear_turn, clear_end}
+use Rattle.arc_index.proofs.Filled.{clear_start, clear_turn, clear_end}
 use Rattle.arc_index.proofs.clear_links.Goals as goal
 
 pub loop-i-init : goal.loop-i-init

@@ -1,8 +1,7 @@
 -- The loop's invariant: no arc stands below i.
 use Prim.Native.Nat.{◌-◌}
 use lib.ListN.{length}
-use borrow.Author.Rules.{rules}
-use Rattle.arc_index.proofs.Filled.{Clearing, clear_start, clear_turn, clear_end}
+use Rattle.arc_index.proofs.Filled.{Clearing}
 use Rattle.arc_index.proofs.clear_links.Given as goal
 
 abbrev pub invariant-loop-i : goal.invariant-loop-i

@@ -1,6 +1,5 @@
 use mathlib.Core.Path.{ap}
 use native.Mathlib.Omega.{arith}
-use borrow.Author.Rules.{rules}
 use Rattle.arc_records.specs.Arcs.{Arc}
 use Rattle.arc_index.proofs.end_of.Goals as goal
 
@@ -9,9 +8,3 @@ overflow_cast-result c = record { fits = omega (arith, ap (λ (e : Arc). e.tail)
 
 pub overflow_cast-result-in-Head : goal.overflow_cast-result-in-Head
 overflow_cast-result-in-Head c = record { fits = omega (arith, ap (λ (e : Arc). e.tail) c.arc_in-arc.ensures, ap (λ (e : Arc). e.head) c.arc_in-arc.ensures) }
-
-pub returns-in-Tail : goal.returns-in-Tail
-returns-in-Tail c = rw c.enum_told-1.given.1 (ap (λ (e : Arc). e.tail) c.arc_in-arc.ensures)
-
-pub returns-in-Head : goal.returns-in-Head
-returns-in-Head c = rw c.enum_told-in-Head-1.given.1 (ap (λ (e : Arc). e.head) c.arc_in-arc.ensures)

@@ -1,4 +1,3 @@
-use borrow.Author.Rules.{rules}
 use Rattle.arc_index.specs.ArcIndex.{record_ends}
 use Rattle.arc_index.proofs.Building.{too_many, other_length, built}
 use Rattle.arc_index.proofs.Ends.{ends_len}

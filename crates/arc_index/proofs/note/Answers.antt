@@ -1,6 +1,5 @@
 use mathlib.Core.Path.{sym}
 use lib.Seq.{set_out}
-use borrow.Author.Rules.{rules}
 use Rattle.arc_index.proofs.note.Goals as goal
 
 pub returns-else-at-links : goal.returns-else-at-links

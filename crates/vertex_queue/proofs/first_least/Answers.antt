@@ -1,17 +1,14 @@
 -- The loop's invariant: the least among the first i entries.
-use mathlib.Core.Logic.{⊎_elim}
-use Prim.Native.Nat.{◌-◌}
 use native.Mathlib.Omega.{arith}
-use borrow.Author.Rules.{rules}
-use Rattle.vertex_queue.proofs.LeastPlaces.{Scanned, scan_start, scan_less, scan_not, scan_end, first_of_16}
+use Rattle.vertex_queue.proofs.LeastPlaces.{scan_start, scan_less, scan_not, scan_end, first_of_16}
 use Rattle.vertex_queue.proofs.first_least.Goals as goal
 use Rattle.vertex_queue.proofs.first_least.Goals.{else-x-best, then-x-best}
 
 pub loop-i-preserved : goal.loop-i-preserved
 loop-i-preserved c =
     elim c.if-x-best.branch [
-      | then-x-best w ↦ scan_less c.args.l.now c.args.from c.loop-i.i c.loop-i.at c.loop-i.best _ _ (omega (arith, c.loop-i-test.true)) c.loop-i.invariant w.if-x-best.true w.1 w.2
-      | else-x-best w ↦ scan_not c.args.l.now c.args.from c.loop-i.i c.loop-i.at c.loop-i.best _ _ (omega (arith, c.loop-i-test.true)) c.loop-i.invariant w.if-x-best.false w.1 w.2
+      | then-x-best w ↦ scan_less c.args.l.now c.args.from c.loop-i.i c.loop-i.at c.loop-i.best _ _ (omega (arith, c.loop-i-test.true)) c.loop-i.invariant w.if-x-best.true w.at-is w.best-is
+      | else-x-best w ↦ scan_not c.args.l.now c.args.from c.loop-i.i c.loop-i.at c.loop-i.best _ _ (omega (arith, c.loop-i-test.true)) c.loop-i.invariant w.if-x-best.false w.at-is w.best-is
     ]
 
 pub returns : goal.returns

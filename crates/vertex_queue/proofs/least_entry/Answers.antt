@@ -1,8 +1,6 @@
 -- The loop's invariant: the least among the first e entries.
-use Prim.Native.Nat.{◌-◌}
 use native.Mathlib.Omega.{arith}
-use borrow.Author.Rules.{rules}
-use Rattle.vertex_queue.proofs.LeastPlaces.{ScannedLeast, least_start, least_turn, least_end}
+use Rattle.vertex_queue.proofs.LeastPlaces.{least_start, least_turn, least_end}
 use Rattle.vertex_queue.proofs.least_entry.Goals as goal
 
 pub loop-e-preserved : goal.loop-e-preserved

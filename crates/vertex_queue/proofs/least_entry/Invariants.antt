@@ -1,8 +1,6 @@
 -- The loop's invariant: the least among the first e entries.
 use Prim.Native.Nat.{◌-◌}
-use native.Mathlib.Omega.{arith}
-use borrow.Author.Rules.{rules}
-use Rattle.vertex_queue.proofs.LeastPlaces.{ScannedLeast, least_start, least_turn, least_end}
+use Rattle.vertex_queue.proofs.LeastPlaces.{ScannedLeast}
 use Rattle.vertex_queue.proofs.least_entry.Given as goal
 
 abbrev pub invariant-loop-e : goal.invariant-loop-e

@@ -1,4 +1,3 @@
-use borrow.Author.Rules.{rules}
 use Rattle.vertex_queue.proofs.LeastPlaces.{vertex_found, taken_found}
 use Rattle.vertex_queue.proofs.take_from.Goals as goal
 

@@ -1,10 +1,7 @@
 -- The loop's invariant: the arcs below e are added.
 use mathlib.Core.Path.{sym, ◌∙◌}
-use Prim.Native.Nat.{◌-◌}
-use lib.ListN.{length}
-use borrow.Author.Rules.{rules}
 use Rattle.arc_index.specs.ArcIndex.{index_of, packed_ends}
-use Rattle.arc_index.proofs.Building.{AddedTo, added_none, added_more, added_all, same_links}
+use Rattle.arc_index.proofs.Building.{added_none, added_more, added_all, same_links}
 use Rattle.arc_index.proofs.Ends.{packed_len, packed_at}
 use Rattle.arc_index.proofs.packed.add_packed.Goals as goal
 

@@ -1,8 +1,7 @@
 -- The loop's invariant: the amounts below e are 0.
 use Prim.Native.Nat.{◌-◌}
 use lib.ListN.{length}
-use borrow.Author.Rules.{rules}
-use Rattle.packed_arcs.proofs.ListLoops.{Clearing, clear_start, clear_turn, clear_end}
+use Rattle.packed_arcs.proofs.ListLoops.{Clearing}
 use Rattle.packed_arcs.proofs.clearing.clear_amounts.Given as goal
 
 abbrev pub invariant-loop-e : goal.invariant-loop-e

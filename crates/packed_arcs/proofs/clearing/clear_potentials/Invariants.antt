@@ -1,8 +1,7 @@
 -- The loop's invariant: the potentials below v are 0.
 use Prim.Native.Nat.{◌-◌}
 use lib.ListN.{length}
-use borrow.Author.Rules.{rules}
-use Rattle.packed_arcs.proofs.ListLoops.{Clearing, clear_start, clear_turn, clear_end}
+use Rattle.packed_arcs.proofs.ListLoops.{Clearing}
 use Rattle.packed_arcs.proofs.clearing.clear_potentials.Given as goal
 
 abbrev pub invariant-loop-v : goal.invariant-loop-v

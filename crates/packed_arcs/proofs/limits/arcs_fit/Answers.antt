@@ -1,4 +1,3 @@
-use borrow.Author.Rules.{rules}
 use Rattle.prelude.proofs.Tested.{tested}
 use Rattle.packed_arcs.proofs.limits.arcs_fit.Goals as goal
 

@@ -1,11 +1,8 @@
 -- The loop's invariant: the arcs from e on decide.
-use mathlib.Core.Path.{refl, sym, ◌∙◌}
 use Prim.Native.Nat.{◌-◌}
 use lib.ListN.{length}
-use borrow.Author.Rules.{rules}
-use borrow.Author.Tests.{not-true, not-false}
 use Rattle.packed_arcs.specs.Limits.{arc_fits}
-use Rattle.packed_arcs.proofs.ListLoops.{Undecided, all_more, all_fails, all_end}
+use Rattle.packed_arcs.proofs.ListLoops.{Undecided}
 use Rattle.packed_arcs.proofs.limits.each_fits.Given as goal
 
 abbrev pub invariant-loop-e : goal.invariant-loop-e
