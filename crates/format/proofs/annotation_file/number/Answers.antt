@@ -1,7 +1,6 @@
 use mathlib.Core.Path.{sym}
 use Prim.Native.Nat.{◌+◌, ◌*◌}
 use native.Mathlib.Omega.{arith}
-use borrow.Author.Rules.{rules}
 use Rattle.file_fields.proofs.Reading.{signed_past}
 use Rattle.format.proofs.annotation_file.number.Goals as goal
 

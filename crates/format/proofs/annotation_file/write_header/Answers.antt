@@ -1,4 +1,3 @@
-use borrow.Author.Rules.{rules}
 use Rattle.format.proofs.Stores.{stored_annotation_header}
 use Rattle.format.proofs.annotation_file.write_header.Goals as goal
 

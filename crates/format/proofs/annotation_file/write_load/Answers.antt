@@ -1,6 +1,5 @@
 use Prim.Native.Nat.{◌*◌}
 use native.Mathlib.Omega.{arith}
-use borrow.Author.Rules.{rules}
 use Rattle.network.specs.Network.{word_load}
 use Rattle.file_fields.proofs.Writing.{sets_past}
 use Rattle.format.specs.Files.{load_bytes}

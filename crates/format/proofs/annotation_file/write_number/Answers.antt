@@ -4,7 +4,6 @@ use native.Mathlib.Omega.{arith}
 use lib.IntN.{ℤ}
 use lib.Seq.{sets}
 use mir.Facts.{to_z-of_z}
-use borrow.Author.Rules.{rules}
 use Rattle.file_fields.specs.Bytes.{byte32}
 use Rattle.file_fields.proofs.Writing.{sets_past}
 use Rattle.format.proofs.annotation_file.write_number.Goals as goal

@@ -1,5 +1,4 @@
 use native.Mathlib.Omega.{arith}
-use borrow.Author.Rules.{rules}
 use Rattle.arc_records.specs.Arcs.{arc_held}
 use Rattle.file_fields.proofs.Writing.{sets_past}
 use Rattle.format.specs.Files.{arc_bytes, low_arc}

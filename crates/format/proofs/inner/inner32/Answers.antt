@@ -1,6 +1,5 @@
 use mathlib.Core.Path.{◌∙◌, ap}
 use mir.Syntax.{w32}
-use borrow.Author.Rules.{rules}
 use Rattle.words.proofs.Signs.{back}
 use Rattle.file_fields.specs.Bytes.{signed_of}
 use Rattle.format.proofs.inner.inner32.Goals as goal

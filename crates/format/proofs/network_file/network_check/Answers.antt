@@ -1,7 +1,6 @@
 use mathlib.Core.Path.{◌∙◌, ap}
 use Prim.Native.Nat.{ℕ}
 use native.Mathlib.Omega.{arith}
-use borrow.Author.Rules.{rules}
 use Rattle.prelude.specs.Checks.{first_broken}
 use Rattle.file_fields.specs.Layout.{layout}
 use Rattle.format.specs.Files.{network_mark, network_size}

@@ -1,7 +1,6 @@
 use mathlib.Core.Path.{sym, ◌∙◌, ap}
 use Prim.Native.Nat.{◌+◌, ◌*◌}
 use native.Mathlib.Omega.{arith}
-use borrow.Author.Rules.{rules}
 use Rattle.arc_records.specs.Arcs.{word_arc}
 use Rattle.format.proofs.Reading.{arc_past, word_is_arc}
 use Rattle.format.proofs.network_file.word.Goals as goal

@@ -1,4 +1,3 @@
-use borrow.Author.Rules.{rules}
 use Rattle.format.proofs.Stores.{stored_network_header}
 use Rattle.format.proofs.network_file.write_header.Goals as goal
 
