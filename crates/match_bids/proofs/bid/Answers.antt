@@ -40,11 +40,11 @@ choose-e-requires c = (
 
 pub assign-requires : goal.assign-requires
 assign-requires c =
-    room c.requires.state.0 c.requires.h_le_t.0 c.requires.h_le_t.1 (exposed (goal.at.assign-requires c).After-shared_slice_known-2-1) (here (goal.at.assign-requires c).After-choose-e)
+    room c.requires.state.0 c.requires.h_le_t.0 c.requires.h_le_t.1 (exposed (goal.at.assign-requires c).Else-mate-t-lt-NO_ARC) (here (goal.at.assign-requires c).After-choose-e)
 
 pub returns : goal.returns
 returns c =
-    taken_offer c.requires.state.0 c.requires.h_le_t.0 c.requires.h_le_t.1 (exposed (goal.at.returns c).After-shared_slice_known-2-1) (here (goal.at.returns c).After-choose-e) _ _ c.assign.ensures.mate_after
+    taken_offer c.requires.state.0 c.requires.h_le_t.0 c.requires.h_le_t.1 (exposed (goal.at.returns c).Else-mate-t-lt-NO_ARC) (here (goal.at.returns c).After-choose-e) _ _ c.assign.ensures.mate_after
     c.assign.ensures.pi_after
 
 pub returns-then-mate-t-lt-NO_ARC : goal.returns-then-mate-t-lt-NO_ARC

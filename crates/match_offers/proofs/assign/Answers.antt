@@ -14,9 +14,11 @@ pub note-requires : goal.note-requires
 note-requires c =
     let rs = c.args.records.now in
     let mate = c.args.mate.now in
-    subst (λ (k : ℕ). ((k < length mate) × (entry mate k < no_arc → (entry mate k < length rs) ×
-    (entry (record_heads rs) (entry mate k) < length mate))) × ((c.args.t < length mate) × (c.args.e < no_arc))) (sym c.tail_at-a.ensures)
-    ((c.requires.tail, λ k. (omega (arith, (c.requires.matched k).0, tails_len rs), (c.requires.matched k).1)), (c.requires.right, omega (arith, c.requires.arc, c.requires.few)))
+    record {
+      a_in_bounds = subst (λ (k : ℕ). (k < length mate) × (entry mate k < no_arc → (entry mate k < length rs) × (entry (record_heads rs) (entry mate k) < length mate))) (sym c.tail_at-a.ensures)
+          (c.requires.tail, λ k. (omega (arith, (c.requires.matched k).0, tails_len rs), (c.requires.matched k).1));
+      t_in_bounds = (c.requires.right, omega (arith, c.requires.arc, c.requires.few));
+    }
 
 pub price-requires : goal.price-requires
 price-requires c = (

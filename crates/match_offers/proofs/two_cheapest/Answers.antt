@@ -15,7 +15,7 @@ same_len : (rs : List ℕ) → length (record_heads rs) ≡ length (record_tails
 same_len rs = heads_len rs ∙ sym (tails_len rs)
 
 pub offset_bounds-rows-i : goal.offset_bounds-rows-i
-offset_bounds-rows-i c = omega (arith, in_rows c.requires.rows.0 c.requires.rows.1 c.loop-i-test.true, c.well-formed)
+offset_bounds-rows-i c = omega (arith, in_rows c.requires.rows.0 c.requires.rows.1 c.loop-i-test.true, c.well_formed)
 
 pub bounds-pi-a : goal.bounds-pi-a
 bounds-pi-a c =
@@ -29,7 +29,7 @@ overflow_add-cost c =
 
 pub overflow_add-i : goal.overflow_add-i
 overflow_add-i c =
-    omega (arith, in_rows c.requires.rows.0 c.requires.rows.1 c.loop-i-test.true, c.well-formed)
+    omega (arith, in_rows c.requires.rows.0 c.requires.rows.1 c.loop-i-test.true, c.well_formed)
 
 pub loop-i-preserved : goal.loop-i-preserved
 loop-i-preserved c =

@@ -3,22 +3,22 @@ use mathlib.Core.Path.{◌≡◌, refl, ap, ◌∙◌}
 use mathlib.Core.List.{List}
 use Prim.Native.Nat.{ℕ, ◌-◌, ◌<◌, ◌≤◌}
 use native.Mathlib.Omega.{arith}
-use lib.ListN.{length, length-set, length-replicate}
+use lib.ListN.{length, length-set, replicate, length-replicate}
 use borrow.Author.Rules.{rules}
 use Rattle.arc_index.specs.Columns.{record_tails, record_weights}
 use Rattle.arc_index.proofs.Columns.{tails_len, tail_is}
 use Rattle.match_slack.proofs.Extremes.{LightestBelow, lightest_turn}
 use Rattle.match_slack.proofs.write_lightest.Goals as goal
-use Rattle.match_slack.proofs.write_lightest.Goals.{After-lesser, After-tail_at-a, At-loop-e}
+use Rattle.match_slack.proofs.write_lightest.Goals.{After-lesser, After-tail_at-a}
 
 -- what is noted stays as long as it was lent
-as_lent : (c : At-loop-e) → length c.loop-e.lightest ≡ length c.args.lightest.now
-as_lent c = c.loop-e.invariant.0 ∙ ap (λ (l : List ℕ). length l) c.set_heaviest.ensures ∙ length-replicate _ 32767
+as_lent : (l k m : List ℕ) → length l ≡ length k → k ≡ replicate (length m) 32767 → length l ≡ length m
+as_lent l k m p q = p ∙ ap (λ (i : List ℕ). length i) q ∙ length-replicate (length m) 32767
 
 -- something is noted for the tail
 within : (c : After-tail_at-a) → c.tail_at-a.result < length c.loop-e.lightest
 within c =
-    omega (arith, (c.requires c.loop-e.e c.loop-e-test.true).0, c.tail_at-a.ensures, as_lent c.before.before)
+    omega (arith, (c.requires c.loop-e.e c.loop-e-test.true).0, c.tail_at-a.ensures, as_lent _ _ _ c.loop-e.invariant.0 c.set_heaviest.ensures)
 
 -- the tail is a small number
 small : (c : After-tail_at-a) → c.tail_at-a.result < 256
@@ -60,4 +60,4 @@ pub bounds-lightest-a-in-loop-e : goal.bounds-lightest-a-in-loop-e
 bounds-lightest-a-in-loop-e c = within (goal.at.bounds-lightest-a-in-loop-e c).After-tail_at-a
 
 pub shape_of-lightest : goal.shape_of-lightest
-shape_of-lightest c = as_lent (goal.at.shape_of-lightest c).At-loop-e
+shape_of-lightest c = as_lent _ _ _ c.loop-e.invariant.0 c.set_heaviest.ensures

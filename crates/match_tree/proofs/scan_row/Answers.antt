@@ -8,7 +8,7 @@ use Rattle.arc_index.specs.Columns.{record_tails, record_heads, record_weights}
 use Rattle.match_state.proofs.RowSteps.{in_rows}
 use Rattle.match_tree.proofs.Scans.{Scanning, ready, ha, tail, scan_start, scan_on, scan_exposed, scan_found, scan_end}
 use Rattle.match_tree.proofs.scan_row.Goals as goal
-use Rattle.match_tree.proofs.scan_row.Goals.{else-relax, then-relax}
+use Rattle.match_tree.proofs.scan_row.Goals.{else-relax, then-relax+else-best-k}
 
 pub bounds-rows-b : goal.bounds-rows-b
 bounds-rows-b c =
@@ -62,10 +62,10 @@ loop-i-smaller c = omega (arith, c.loop-i-test.true)
 pub loop-i-preserved : goal.loop-i-preserved
 loop-i-preserved c =
     elim c.if-relax.branch [
-      | then-relax w ↦ let next = scan_exposed c.requires.state c.requires.parted c.requires.b_in_bounds.0 c.loop-i.invariant.1 refl c.loop-i-test.true _ w.1.ensures c.relax.ensures w.if-relax.true in
-          rw (w.4, w.5) (sym next.0.dist_len, next.0)
+      | then-relax+else-best-k w ↦ let next = scan_exposed c.requires.state c.requires.parted c.requires.b_in_bounds.0 c.loop-i.invariant.1 refl c.loop-i-test.true _ w.row_tail-r.ensures c.relax.ensures w.if-relax.true in
+          rw (w.r-is, w.best-is) (sym next.0.dist_len, next.0)
       | else-relax w ↦ let next = scan_on c.requires.state c.requires.parted c.requires.b_in_bounds.0 c.loop-i.invariant.1 refl c.loop-i-test.true c.relax.ensures w.if-relax.false in
-          rw (w.1, w.2) (sym next.dist_len, next)
+          rw (w.r-is, w.best-is) (sym next.dist_len, next)
     ]
 
 pub returns : goal.returns

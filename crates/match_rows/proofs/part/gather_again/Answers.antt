@@ -8,7 +8,7 @@ pub bounds-rows-b : goal.bounds-rows-b
 bounds-rows-b c = omega (arith, c.requires.rows.0.len, c.requires.rows.1)
 
 pub gather_exposed-exposed-requires : goal.gather_exposed-exposed-requires
-gather_exposed-exposed-requires c = let P = rows_loosened c.requires.rows.0 c.requires.rows.1 in ((P.0, c.requires.rows.1, P.1), c.requires.by_index)
+gather_exposed-exposed-requires c = let P = rows_loosened c.requires.rows.0 c.requires.rows.1 in record { rows = (P.0, c.requires.rows.1, P.1); by_index = c.requires.by_index }
 
 pub bounds-rows-b-2 : goal.bounds-rows-b-2
 bounds-rows-b-2 c =
