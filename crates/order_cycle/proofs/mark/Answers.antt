@@ -4,9 +4,9 @@ use Prim.Native.Nat.{ℕ, ◌-◌, ◌<◌}
 use native.Mathlib.Omega.{arith}
 use lib.ListN.{length, length-replicate}
 use Rattle.packed_arcs.specs.Entries.{entry, zero_list}
-use Rattle.arc_index.specs.Columns.{record_tails, record_heads}
+use Rattle.arc_index.specs.Columns.{record_tails}
 use Rattle.arc_index.proofs.Columns.{tails_len}
-use Rattle.order_cycle.proofs.Cycles.{Marking, AtIndex, at_index, AtEnd, at_end, marking_none, marking_more, circulates}
+use Rattle.order_cycle.proofs.Cycles.{AtIndex, at_index, AtEnd, at_end, marking_none, marking_more, circulates}
 use Rattle.order_cycle.proofs.mark.Goals as goal
 use Rattle.order_cycle.proofs.mark.Goals.{After-tail_at-w, In-loop-i, Start}
 
