@@ -1,4 +1,3 @@
-use borrow.Author.Rules.{rules}
 use Rattle.rules.proofs.annotation.is_admitted.Goals as goal
 
 pub returns-in-PathValue : goal.returns-in-PathValue

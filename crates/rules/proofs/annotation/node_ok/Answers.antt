@@ -1,8 +1,7 @@
 use mathlib.Core.Path.{◌≡◌, sym, ◌∙◌}
 use mir.Facts.{to_z-of_z}
-use borrow.Author.Rules.{rules}
 use Rattle.network.specs.Tests.{claim_number, claim_of}
-use Rattle.prelude.proofs.Tested.{passed, refused, first_off, and_on}
+use Rattle.prelude.proofs.Tested.{first_off, and_on}
 use Rattle.checks.specs.Held.{asked}
 use Rattle.ranges.specs.Ranges.{in_table}
 use Rattle.ranges.proofs.Promises.{check_ten_same}

@@ -1,5 +1,4 @@
 use mir.Facts.{to_z-of_z}
-use borrow.Author.Rules.{rules}
 use Rattle.prelude.proofs.Tested.{tested}
 use Rattle.rules.proofs.annotation.pump_not_negative.Goals as goal
 

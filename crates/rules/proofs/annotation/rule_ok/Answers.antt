@@ -1,7 +1,6 @@
 use Rattle.words.proofs.Signs.{back}
 use mir.Syntax.{w32}
 use native.Mathlib.Omega.{arith}
-use borrow.Author.Rules.{rules}
 use Rattle.rules.proofs.annotation.rule_ok.Goals as goal
 
 pub returns-in-PathValue : goal.returns-in-PathValue

@@ -1,4 +1,3 @@
-use borrow.Author.Rules.{rules}
 use Rattle.rules.proofs.Signed.{signed}
 use Rattle.rules.proofs.annotation.separates.Goals as goal
 

@@ -1,5 +1,4 @@
 use mathlib.Core.Bool.{not-not}
-use borrow.Author.Rules.{rules}
 use Rattle.rules.proofs.annotation.stays_inside.Goals as goal
 
 pub returns-then-ends : goal.returns-then-ends
