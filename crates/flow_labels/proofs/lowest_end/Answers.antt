@@ -18,7 +18,7 @@ loop-e-smaller c =
       arith,
       c.requires.2.few,
       c.requires.2.later c.loop-e.e c.loop-e-test.true,
-      c.next_is.ensures,
+      c.next_arc-e.ensures,
       c.loop-e-test.true,
     )
 

@@ -20,6 +20,6 @@ loop-e-smaller c =
       arith,
       c.requires.links.few,
       c.requires.links.later c.loop-e.e c.loop-e-test.true,
-      c.next_is.ensures,
+      c.next_arc-e.ensures,
       c.loop-e-test.true,
     )

@@ -21,22 +21,17 @@ bounds-x-e-2 c =
 
 pub transfer-requires : goal.transfer-requires
 transfer-requires c =
-    let f = facts (goal.at.transfer-requires c).Start in (
-      (
-        omega (arith, f.head, c.head_of-b.ensures),
-        omega
-            (arith, f.tail, c.Tail-of.ensures),
-        omega (arith, c.lesser-got.ensures),
-      ),
-      (f.small, f.bounded),
-    )
+    let f = facts (goal.at.transfer-requires c).Start in record {
+      a_in_bounds = (omega (arith, f.head, c.head_of-b.ensures), omega (arith, f.tail, c.tail_of.ensures), omega (arith, c.lesser-got.ensures));
+      left_len_bound = (f.small, f.bounded);
+    }
 
 pub returns : goal.returns
 returns c =
     backward_moves c.args.arcs.now c.args.x.now c.args.left.now _ c.args.e _ _ _ _
     c.requires.0
     c.requires.1
-    c.Tail-of.ensures c.head_of-b.ensures
+    c.tail_of.ensures c.head_of-b.ensures
     c.wide.ensures c.lesser-got.ensures c.transfer.ensures
 
 pub bounds-left-b : goal.bounds-left-b

@@ -12,7 +12,7 @@ returns-then-label-b c = moves_none c.args.arcs.now c.args.x.now c.args.left.now
 
 pub bounds-x-e : goal.bounds-x-e
 bounds-x-e c =
-    omega (arith, (facts (goal.at.bounds-x-e c).After-shared_slice_known-1).x_len, c.requires.0)
+    omega (arith, (facts (goal.at.bounds-x-e c).Start).x_len, c.requires.0)
 
 pub returns-then-not-is_residual : goal.returns-then-not-is_residual
 returns-then-not-is_residual c =
@@ -23,7 +23,7 @@ offset_bounds-left-b c = omega (arith, c.far_end-b.ensures.1)
 
 pub bounds-left-b : goal.bounds-left-b
 bounds-left-b c =
-    omega (arith, end_inside (facts (goal.at.bounds-left-b c).After-shared_slice_known-1) c.args.back, c.far_end-b.ensures.0)
+    omega (arith, end_inside (facts (goal.at.bounds-left-b c).Start) c.args.back, c.far_end-b.ensures.0)
 
 pub activate-requires : goal.activate-requires
 activate-requires c = c.far_end-b.ensures.1

@@ -18,10 +18,10 @@ returns-then-drain_all c =
 
 pub push_toward-requires : goal.push_toward-requires
 push_toward-requires c =
-    let m = moves_then c.supply_all.ensures c.drain_all.ensures in (
-      (omega (arith, m.left_len, c.requires.s_in_bounds.1), omega (arith, m.left_len, c.requires.s_in_bounds.0)),
-      (c.requires.links.0, c.requires.links.1, ready_then c.requires.links.2 m),
-    )
+    let m = moves_then c.supply_all.ensures c.drain_all.ensures in record {
+      root_in_bounds = (omega (arith, m.left_len, c.requires.s_in_bounds.1), omega (arith, m.left_len, c.requires.s_in_bounds.0));
+      links = (c.requires.links.0, c.requires.links.1, ready_then c.requires.links.2 m);
+    }
 
 pub returns : goal.returns
 returns c =
