@@ -23,9 +23,9 @@ amount_after-requires t c =
     let arcs = c.args.arcs.now in
     let code = entry c.args.par.now c.args.v in
     let ok = shift_ok c.requires.packed_push_ready c.args.v c.requires.v_in_bounds.0 c.requires.v_in_bounds.1 c.if-key-v-eq0.false _ c.args.want _ _ _ _
-        (start_by arcs code c.arc_of-e.ensures c.start_of-u.ensures)
-        (room_by arcs code c.arc_of-e.ensures c.args.x.now c.args.want c.room_by-room.ensures)
-        c.push-got.ensures (capacity_fits arcs) in
+    (start_by arcs code c.arc_of-e.ensures c.start_of-u.ensures)
+    (room_by arcs code c.arc_of-e.ensures c.args.x.now c.args.want c.room_by-room.ensures)
+    c.push-got.ensures (capacity_fits arcs) in
     after_fits arcs code c.arc_of-e.ensures c.push-got.new.x _ ok.1 ok.2
 
 pub returns : goal.returns

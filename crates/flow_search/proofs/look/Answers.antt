@@ -1,4 +1,3 @@
-use borrow.Author.Rules.{rules}
 use mathlib.Core.Path.{◌∙◌, sym}
 use Rattle.flow_search.proofs.SearchLaws.{both_scans, forward_only, backward_index, still_ready}
 use Rattle.flow_search.proofs.look.Goals as goal
