@@ -1,3 +1,4 @@
 pub mod TakenVertices
 pub mod Reaching
 pub mod SearchSteps
+pub mod BringingNear

@@ -5,8 +5,7 @@ use Rattle.prelude.proofs.Permutations.{perm_map}
 use Rattle.field.proofs.Promises.{permutations_agree}
 use Rattle.network.specs.Network.{key}
 use Rattle.network.proofs.Keys.{arc_keys_below, keys_tell}
-use Rattle.points.specs.Points.{IsPoint, print_of, same_print, misleading_points}
-use Rattle.points.specs.declared.Point.{Point}
+use Rattle.points.specs.Points.{IsPoint, print_of, same_print}
 use Rattle.points.specs.declared.Print.{Print}
 use Rattle.points.specs.Promises.{FewMislead, FewMisleadCounted, BothMislead, SameEverywhere}
 use Rattle.points.proofs.Prints.{as_print, few_misled, at_most→points, same_print_lem, print_same}

@@ -1,14 +1,12 @@
 -- The loop's invariant: the records below e pass.
 use mathlib.Core.Path.{◌∙◌, ap}
-use Prim.Native.Nat.{◌-◌}
 use native.Mathlib.Omega.{arith}
-use borrow.Author.Rules.{rules}
 use Rattle.prelude.specs.Checks.{first_broken}
 use Rattle.arc_records.specs.Arcs.{Arc}
 use Rattle.network.specs.Tests.{reading_checks}
 use Rattle.checks.specs.Held.{asked}
 use Rattle.format.specs.Files.{count_in, arc_in}
-use Rattle.acceptance.proofs.RecordsChecked.{Checked, none_checked, one_passes, one_refused, all_pass}
+use Rattle.acceptance.proofs.RecordsChecked.{none_checked, one_passes, one_refused, all_pass}
 use Rattle.acceptance.proofs.records_check.Goals as goal
 
 pub returns-then-why-ne0 : goal.returns-then-why-ne0

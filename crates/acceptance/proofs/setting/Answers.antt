@@ -1,4 +1,3 @@
-use borrow.Author.Rules.{rules}
 use Rattle.acceptance.proofs.setting.Goals as goal
 
 pub returns : goal.returns

@@ -1,4 +1,3 @@
-use borrow.Author.Rules.{rules}
 use Rattle.prelude.proofs.Tested.{tested}
 use Rattle.checks.proofs.opening_check.Goals as goal
 

@@ -17,8 +17,8 @@ best-whole {need} {key} {v} {b} {k} h B =
 pub loop-v-preserved : goal.loop-v-preserved
 loop-v-preserved c =
     elim c.if-better.branch [
-      | then-better w ↦ best_take c.loop-v.invariant c.loop-v-test.true (c.better.ensures.0 w.if-better.true) w.1 w.2
-      | else-better w ↦ best_skip c.loop-v.invariant c.loop-v-test.true (c.better.ensures.1 w.if-better.false) w.1 w.2
+      | then-better w ↦ best_take c.loop-v.invariant c.loop-v-test.true (c.better.ensures.0 w.if-better.true) w.best-is w.k-is
+      | else-better w ↦ best_skip c.loop-v.invariant c.loop-v-test.true (c.better.ensures.1 w.if-better.false) w.best-is w.k-is
     ]
 
 pub loop-v-init : goal.loop-v-init

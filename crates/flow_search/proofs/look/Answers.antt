@@ -9,10 +9,11 @@ returns-then-into-eq0 c =
 
 pub scan-requires-2 : goal.scan-requires-2
 scan-requires-2 c =
-    let k = c.scan.ensures.keeps in (
-      (backward_index c.requires.chains.1 c.if-into-eq0.false, k.par_len ∙ c.requires.chains.2 ∙ sym k.key_len, still_ready k c.requires.chains.3),
-      c.scan.ensures.looking,
-    )
+    let k = c.scan.ensures.keeps in
+    record {
+      chains = (backward_index c.requires.chains.1 c.if-into-eq0.false, k.par_len ∙ c.requires.chains.2 ∙ sym k.key_len, still_ready k c.requires.chains.3);
+      looking = c.scan.ensures.looking;
+    }
 
 pub returns : goal.returns
 returns c =

@@ -18,7 +18,7 @@ loop-keys-init c =
     (lower_refl _ _ _, between_start c.requires.key_len.2 c.start.ensures)
 
 pub shape_of-key-then-k-ge-UNREACHED : goal.shape_of-key-then-k-ge-UNREACHED
-shape_of-key-then-k-ge-UNREACHED c = c.loop-keys.invariant.0.key_len ∙ c.start.auto.1.0
+shape_of-key-then-k-ge-UNREACHED c = c.loop-keys.invariant.0.key_len ∙ c.start.auto.key
 
 pub shape_of-par-then-k-ge-UNREACHED : goal.shape_of-par-then-k-ge-UNREACHED
 shape_of-par-then-k-ge-UNREACHED c = c.loop-keys.invariant.0.par_len
@@ -34,11 +34,12 @@ returns-then-k-ge-UNREACHED c =
 
 pub look-requires : goal.look-requires
 look-requires c =
-    let R = ready_since c.requires.key_len.2 c.start.ensures.started c.loop-keys.invariant.0 in (
-      (c.requires.chains.0, c.requires.chains.1, c.loop-keys.invariant.0.par_len ∙ c.requires.key_len.1 ∙ sym c.start.ensures.started.len ∙ sym c.loop-keys.invariant.0.key_len, R),
-      rw (c.take-u.ensures.0, c.least-k.ensures)
-          (take_looking R c.loop-keys.invariant.1 (omega (arith, c.if-k-ge-UNREACHED.false, c.least-k.ensures)) c.take-u.ensures.1),
-    )
+    let R = ready_since c.requires.key_len.2 c.start.ensures.started c.loop-keys.invariant.0 in
+    record {
+      chains = (c.requires.chains.0, c.requires.chains.1, c.loop-keys.invariant.0.par_len ∙ c.requires.key_len.1 ∙ sym c.start.ensures.started.len ∙ sym c.loop-keys.invariant.0.key_len, R);
+      looking = rw (c.take-u.ensures.0, c.least-k.ensures)
+          (take_looking R c.loop-keys.invariant.1 (omega (arith, c.if-k-ge-UNREACHED.false, c.least-k.ensures)) c.take-u.ensures.1);
+    }
 
 pub loop-keys-smaller : goal.loop-keys-smaller
 loop-keys-smaller c =

@@ -37,27 +37,3 @@ returns c =
     c.if-at_opening-ne0.false c.read_all-turn.result.why _ c.read_all-turn.ensures
     c.if-at_reading-ne0.false c.annotation_check-why.result c.vertices-n.result c.vertices-n.ensures c.annotation_check-why.ensures
     c.if-why-ne0.false _ c.annotation_steps.ensures
-
-pub network_check-layout-requires : goal.network_check-layout-requires
-network_check-layout-requires c = tt
-
-pub setting-requires : goal.setting-requires
-setting-requires c = tt
-
-pub opening_of-requires : goal.opening_of-requires
-opening_of-requires c = tt
-
-pub open-opened-requires : goal.open-opened-requires
-open-opened-requires c = tt
-
-pub read_all-turn-requires : goal.read_all-turn-requires
-read_all-turn-requires c = tt
-
-pub vertices-n-requires : goal.vertices-n-requires
-vertices-n-requires c = tt
-
-pub annotation_check-why-requires : goal.annotation_check-why-requires
-annotation_check-why-requires c = tt
-
-pub annotation_steps-requires : goal.annotation_steps-requires
-annotation_steps-requires c = tt

@@ -47,24 +47,3 @@ returns c =
     c.if-at_numbers-ne0.false c.repeat_all-repeated.result.why _ c.repeat_all-repeated.ensures
     c.if-at_repeats-ne0.false c.finish_check-at_finish.result c.finish_check-at_finish.ensures
     c.if-at_finish-ne0.false c.answer.result c.answer.ensures
-
-pub end_reading-ended-requires : goal.end_reading-ended-requires
-end_reading-ended-requires c = tt
-
-pub claim-requires : goal.claim-requires
-claim-requires c = tt
-
-pub claim-claimed-requires : goal.claim-claimed-requires
-claim-claimed-requires c = tt
-
-pub number_all-numbered-requires : goal.number_all-numbered-requires
-number_all-numbered-requires c = tt
-
-pub repeat_all-repeated-requires : goal.repeat_all-repeated-requires
-repeat_all-repeated-requires c = tt
-
-pub finish_check-at_finish-requires : goal.finish_check-at_finish-requires
-finish_check-at_finish-requires c = tt
-
-pub answer-requires : goal.answer-requires
-answer-requires c = tt

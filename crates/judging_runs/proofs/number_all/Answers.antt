@@ -46,14 +46,5 @@ pub returns : goal.returns
 returns c =
     all_accepted number (number_in c.args.file.now) (numbered c.args.potentials.now c.args.x) c.args.n (numbered c.loop-v.potentials c.loop-v.y) c.loop-v.v c.loop-v.invariant c.loop-v-test.false
 
-pub number-z-requires : goal.number-z-requires
-number-z-requires c = tt
-
-pub node_number-turn-requires : goal.node_number-turn-requires
-node_number-turn-requires c = tt
-
-pub store_number-requires : goal.store_number-requires
-store_number-requires c = tt
-
 pub loop-v-smaller : goal.loop-v-smaller
 loop-v-smaller c = omega (arith, c.loop-v-test.true)

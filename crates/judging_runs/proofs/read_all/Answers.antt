@@ -37,14 +37,5 @@ returns c =
     subst (λ (m : ℕ). RunsTo (fresh c.args.x) (map read (list_to m (arc_in c.args.file.now))) 0 (fresh c.loop-e.y)) c.count-m.ensures
     (all_accepted read (arc_in c.args.file.now) (fresh c.args.x) c.count-m.result (fresh c.loop-e.y) c.loop-e.e c.loop-e.invariant c.loop-e-test.false)
 
-pub count-m-requires : goal.count-m-requires
-count-m-requires c = tt
-
-pub arc-arc-requires : goal.arc-arc-requires
-arc-arc-requires c = tt
-
-pub read_channel-turn-requires : goal.read_channel-turn-requires
-read_channel-turn-requires c = tt
-
 pub loop-e-smaller : goal.loop-e-smaller
 loop-e-smaller c = omega (arith, c.loop-e-test.true)

@@ -59,17 +59,5 @@ returns c =
     subst (λ (m : ℕ). RunsTo x (map repeat (list_to m (load_in c.args.n c.args.file.now))) 0 (held ys c.loop-e.balances c.loop-e.y)) c.count-m.ensures
     (all_accepted repeat (load_in c.args.n c.args.file.now) x c.count-m.result (held ys c.loop-e.balances c.loop-e.y) c.loop-e.e c.loop-e.invariant c.loop-e-test.false)
 
-pub count-m-requires : goal.count-m-requires
-count-m-requires c = tt
-
-pub load-l-requires : goal.load-l-requires
-load-l-requires c = tt
-
-pub repeat_channel-turn-requires : goal.repeat_channel-turn-requires
-repeat_channel-turn-requires c = tt
-
-pub move_amount-requires : goal.move_amount-requires
-move_amount-requires c = tt
-
 pub loop-e-smaller : goal.loop-e-smaller
 loop-e-smaller c = omega (arith, c.loop-e-test.true)

@@ -8,7 +8,7 @@ use Rattle.match_least_cost.proofs.Finding.{found_saturating, found_none}
 use Rattle.match_least_cost.proofs.write_found.Goals as goal
 
 pub write_marks-requires : goal.write_marks-requires
-write_marks-requires c = let S = (pass_state c.requires.pass_outcome).0 in (S.graph, S.pairs)
+write_marks-requires c = let S = (pass_state c.requires.pass_outcome).0 in record { bipartite = S.graph; cases = S.pairs }
 
 pub returns-then-t-mate : goal.returns-then-t-mate
 returns-then-t-mate c =

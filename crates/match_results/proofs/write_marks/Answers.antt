@@ -17,10 +17,11 @@ pub mark_of-requires : goal.mark_of-requires
 mark_of-requires c =
     let T = record_tails c.args.records.now in
     let H = record_heads c.args.records.now in
-    let n = sym c.requires.cases.len in (
-      subst (λ (k : ℕ). Bipartite (length c.args.dist.now) k T H (record_weights c.args.records.now)) n c.requires.bipartite,
-      (subst (λ (k : ℕ). Matching k T H c.args.mate.now) n c.requires.cases, c.loop-v-test.true),
-    )
+    let n = sym c.requires.cases.len in
+    record {
+      bipartite = subst (λ (k : ℕ). Bipartite (length c.args.dist.now) k T H (record_weights c.args.records.now)) n c.requires.bipartite;
+      cases = (subst (λ (k : ℕ). Matching k T H c.args.mate.now) n c.requires.cases, c.loop-v-test.true);
+    }
 
 pub bounds-pi-v : goal.bounds-pi-v
 bounds-pi-v c = omega (arith, c.loop-v.invariant.len, c.requires.cases.len)

@@ -2,7 +2,6 @@ use mathlib.Core.Path.{◌≡◌, refl, sym, subst, ◌∙◌}
 use Prim.Native.Nat.{◌-◌}
 use native.Mathlib.Omega.{arith}
 use lib.ListN.{length}
-use borrow.Author.Tests.{not-true, not-false}
 use Rattle.arc_index.specs.Columns.{record_tails, record_heads, record_weights}
 use Rattle.match_state.specs.Rows.{Rows}
 use Rattle.match_rounds.specs.Serving.{Served}
@@ -14,18 +13,17 @@ loop-t-init c = (pass_start refl c.requires.state, refl, refl, c.requires.step_n
 
 pub serve_exposed-requires : goal.serve_exposed-requires
 serve_exposed-requires c =
-    let P = c.loop-t.invariant.0 in (
-      state_at P.dist_len P.state.priced.len P.state,
-      (
-        (c.loop-t.invariant.5, c.requires.rows.1, omega (arith, c.requires.rows.2, P.dist_len)),
-        (
-          omega (arith, P.from, P.dist_len),
-          omega (arith, c.loop-t-test.true, P.state.priced.len, P.state.pairs.len),
-          omega (arith, c.loop-t.invariant.3, P.dist_len),
-          omega (arith, c.loop-t.invariant.4, P.dist_len),
-        ),
-      ),
-    )
+    let P = c.loop-t.invariant.0 in
+    record {
+      state = state_at P.dist_len P.state.priced.len P.state;
+      rows = (c.loop-t.invariant.5, c.requires.rows.1, omega (arith, c.requires.rows.2, P.dist_len));
+      dist_len_bound = (
+        omega (arith, P.from, P.dist_len),
+        omega (arith, c.loop-t-test.true, P.state.priced.len, P.state.pairs.len),
+        omega (arith, c.loop-t.invariant.3, P.dist_len),
+        omega (arith, c.loop-t.invariant.4, P.dist_len),
+      );
+    }
 
 -- the lengths of rows, mate, pi, dist, par and order stay
 pub shape_of-rows-then-not-serve_exposed : goal.shape_of-rows-then-not-serve_exposed
@@ -38,31 +36,32 @@ shape_of-rows-then-not-serve_exposed c =
 
 pub shape_of-mate-then-not-serve_exposed : goal.shape_of-mate-then-not-serve_exposed
 shape_of-mate-then-not-serve_exposed c =
-    c.serve_exposed.auto.1.1.1.1.0 ∙ c.loop-t.invariant.1
+    c.serve_exposed.auto.mate ∙ c.loop-t.invariant.1
 
 pub shape_of-pi-then-not-serve_exposed : goal.shape_of-pi-then-not-serve_exposed
 shape_of-pi-then-not-serve_exposed c =
-    c.serve_exposed.auto.1.1.1.1.1.0 ∙ c.loop-t.invariant.2
+    c.serve_exposed.auto.pi ∙ c.loop-t.invariant.2
 
 pub shape_of-dist-then-not-serve_exposed : goal.shape_of-dist-then-not-serve_exposed
 shape_of-dist-then-not-serve_exposed c =
-    c.serve_exposed.auto.1.1.1.1.1.1.0 ∙ c.loop-t.invariant.0.dist_len
+    c.serve_exposed.auto.dist ∙ c.loop-t.invariant.0.dist_len
 
 pub shape_of-par-then-not-serve_exposed : goal.shape_of-par-then-not-serve_exposed
 shape_of-par-then-not-serve_exposed c =
-    c.serve_exposed.auto.1.1.1.1.1.1.1.0 ∙ c.loop-t.invariant.3 ∙ sym c.requires.step_nonzero.2
+    c.serve_exposed.auto.par ∙ c.loop-t.invariant.3 ∙ sym c.requires.step_nonzero.2
 
 pub shape_of-order-then-not-serve_exposed : goal.shape_of-order-then-not-serve_exposed
 shape_of-order-then-not-serve_exposed c =
-    c.serve_exposed.auto.1.1.1.1.1.1.1.1.0 ∙ c.loop-t.invariant.4 ∙ sym c.requires.step_nonzero.3
+    c.serve_exposed.auto.order ∙ c.loop-t.invariant.4 ∙ sym c.requires.step_nonzero.3
 
 pub returns-then-not-serve_exposed : goal.returns-then-not-serve_exposed
 returns-then-not-serve_exposed c =
-    let P = c.loop-t.invariant.0 in (
-      pass_stuck P.dist_len P.state.priced.len P (omega (arith, c.loop-t-test.true, P.state.pairs.len))
-          (subst (Served _ _ _ _ _ _ _ _ _ _) (not-true _ c.if-not-serve_exposed.true) c.serve_exposed.ensures.served),
-      c.serve_exposed.ensures.rows_2,
-    )
+    let P = c.loop-t.invariant.0 in
+    record {
+      pass_outcome = pass_stuck P.dist_len P.state.priced.len P (omega (arith, c.loop-t-test.true, P.state.pairs.len))
+          (subst (Served _ _ _ _ _ _ _ _ _ _) c.if-not-serve_exposed.true c.serve_exposed.ensures.served);
+      rows_2 = c.serve_exposed.ensures.rows_2;
+    }
 
 pub overflow_add-t : goal.overflow_add-t
 overflow_add-t c =
@@ -77,11 +76,11 @@ pub loop-t-preserved : goal.loop-t-preserved
 loop-t-preserved c =
     let P = c.loop-t.invariant.0 in (
       pass_on P.dist_len P.state.priced.len P (omega (arith, c.loop-t-test.true, P.state.pairs.len)) c.requires.step_nonzero.1
-          (subst (Served _ _ _ _ _ _ _ _ _ _) (not-false _ c.if-not-serve_exposed.false) c.serve_exposed.ensures.served),
-      c.serve_exposed.auto.1.1.1.1.0 ∙ c.loop-t.invariant.1,
-      c.serve_exposed.auto.1.1.1.1.1.0 ∙ c.loop-t.invariant.2,
-      c.serve_exposed.auto.1.1.1.1.1.1.1.0 ∙ c.loop-t.invariant.3,
-      c.serve_exposed.auto.1.1.1.1.1.1.1.1.0 ∙ c.loop-t.invariant.4,
+          (subst (Served _ _ _ _ _ _ _ _ _ _) c.if-not-serve_exposed.false c.serve_exposed.ensures.served),
+      c.serve_exposed.auto.mate ∙ c.loop-t.invariant.1,
+      c.serve_exposed.auto.pi ∙ c.loop-t.invariant.2,
+      c.serve_exposed.auto.par ∙ c.loop-t.invariant.3,
+      c.serve_exposed.auto.order ∙ c.loop-t.invariant.4,
       c.serve_exposed.ensures.rows_2,
     )
 

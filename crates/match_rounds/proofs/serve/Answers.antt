@@ -8,10 +8,8 @@ search-r-requires c = record { state = c.requires.state; rows = c.requires.rows;
 
 pub returns-then-dist-r : goal.returns-then-dist-r
 returns-then-dist-r c =
-    let found = c.search-r.ensures.searched_back in (
-      search_stuck c.requires.state found (omega (arith, c.if-dist-r.true, search_lengths found)),
-      c.search-r.ensures.rows_2,
-    )
+    let found = c.search-r.ensures.searched_back in
+    record { served = search_stuck c.requires.state found (omega (arith, c.if-dist-r.true, search_lengths found)); rows_2 = c.search-r.ensures.rows_2 }
 
 pub match_reached-requires : goal.match_reached-requires
 match_reached-requires c =
@@ -22,17 +20,15 @@ match_reached-requires c =
 -- the length of order stays
 pub shape_of-order : goal.shape_of-order
 shape_of-order c =
-    c.match_reached.auto.1.1.1.1.1.0 ∙ c.search-r.auto.1.1.1.1.1.1.1.1.0
+    c.match_reached.auto.order ∙ c.search-r.auto.order
 
 pub returns : goal.returns
 returns c =
-    let found = c.search-r.ensures.searched_back in (
-      served c.requires.state found (search_lengths found).0 refl c.match_reached.ensures,
-      c.search-r.ensures.rows_2,
-    )
+    let found = c.search-r.ensures.searched_back in
+    record { served = served c.requires.state found (search_lengths found).0 refl c.match_reached.ensures; rows_2 = c.search-r.ensures.rows_2 }
 
 pub shape_of-rows-then-dist-r : goal.shape_of-rows-then-dist-r
-shape_of-rows-then-dist-r c = c.search-r.auto.1.1.0
+shape_of-rows-then-dist-r c = c.search-r.auto.rows
 
 pub shape_of-mate-then-dist-r : goal.shape_of-mate-then-dist-r
 shape_of-mate-then-dist-r c = refl
@@ -41,25 +37,25 @@ pub shape_of-pi-then-dist-r : goal.shape_of-pi-then-dist-r
 shape_of-pi-then-dist-r c = refl
 
 pub shape_of-dist-then-dist-r : goal.shape_of-dist-then-dist-r
-shape_of-dist-then-dist-r c = c.search-r.auto.1.1.1.1.1.1.0
+shape_of-dist-then-dist-r c = c.search-r.auto.dist
 
 pub shape_of-par-then-dist-r : goal.shape_of-par-then-dist-r
-shape_of-par-then-dist-r c = c.search-r.auto.1.1.1.1.1.1.1.0
+shape_of-par-then-dist-r c = c.search-r.auto.par
 
 pub shape_of-order-then-dist-r : goal.shape_of-order-then-dist-r
-shape_of-order-then-dist-r c = c.search-r.auto.1.1.1.1.1.1.1.1.0
+shape_of-order-then-dist-r c = c.search-r.auto.order
 
 pub shape_of-rows : goal.shape_of-rows
-shape_of-rows c = c.search-r.auto.1.1.0
+shape_of-rows c = c.search-r.auto.rows
 
 pub shape_of-mate : goal.shape_of-mate
-shape_of-mate c = c.match_reached.auto.1.1.1.1.1.1.0
+shape_of-mate c = c.match_reached.auto.mate
 
 pub shape_of-pi : goal.shape_of-pi
-shape_of-pi c = c.match_reached.auto.1.1.1.1.1.1.1.0
+shape_of-pi c = c.match_reached.auto.pi
 
 pub shape_of-dist : goal.shape_of-dist
-shape_of-dist c = c.search-r.auto.1.1.1.1.1.1.0
+shape_of-dist c = c.search-r.auto.dist
 
 pub shape_of-par : goal.shape_of-par
-shape_of-par c = c.search-r.auto.1.1.1.1.1.1.1.0
+shape_of-par c = c.search-r.auto.par

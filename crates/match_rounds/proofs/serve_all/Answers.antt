@@ -13,13 +13,12 @@ loop-step-init c = (passes_start refl c.requires.state, refl, refl, refl, c.requ
 pub pass-t-requires : goal.pass-t-requires
 pass-t-requires c =
     let P = c.loop-step.invariant.0 in
-    let N = next_step P.step c.loop-step-test.true in (
-      state_at P.dist_len P.state.priced.len P.state,
-      (
-        (c.loop-step.invariant.4, c.requires.rows.1, omega (arith, c.requires.rows.2, P.dist_len)),
-        (N.1, N.2, omega (arith, c.loop-step.invariant.2, c.requires.par_len.0, P.dist_len), omega (arith, c.loop-step.invariant.3, c.requires.par_len.1, P.dist_len)),
-      ),
-    )
+    let N = next_step P.step c.loop-step-test.true in
+    record {
+      state = state_at P.dist_len P.state.priced.len P.state;
+      rows = (c.loop-step.invariant.4, c.requires.rows.1, omega (arith, c.requires.rows.2, P.dist_len));
+      step_nonzero = (N.1, N.2, omega (arith, c.loop-step.invariant.2, c.requires.par_len.0, P.dist_len), omega (arith, c.loop-step.invariant.3, c.requires.par_len.1, P.dist_len));
+    }
 
 -- the lengths of rows, mate, pi, dist, par and order stay
 pub shape_of-rows-then-t-mate : goal.shape_of-rows-then-t-mate
@@ -32,23 +31,23 @@ shape_of-rows-then-t-mate c =
 
 pub shape_of-mate-then-t-mate : goal.shape_of-mate-then-t-mate
 shape_of-mate-then-t-mate c =
-    c.pass-t.auto.1.1.1.1.0 ∙ c.loop-step.invariant.1
+    c.pass-t.auto.mate ∙ c.loop-step.invariant.1
 
 pub shape_of-pi-then-t-mate : goal.shape_of-pi-then-t-mate
 shape_of-pi-then-t-mate c =
-    c.pass-t.auto.1.1.1.1.1.0 ∙ c.loop-step.invariant.0.state.priced.len
+    c.pass-t.auto.pi ∙ c.loop-step.invariant.0.state.priced.len
 
 pub shape_of-dist-then-t-mate : goal.shape_of-dist-then-t-mate
 shape_of-dist-then-t-mate c =
-    c.pass-t.auto.1.1.1.1.1.1.0 ∙ c.loop-step.invariant.0.dist_len
+    c.pass-t.auto.dist ∙ c.loop-step.invariant.0.dist_len
 
 pub shape_of-par-then-t-mate : goal.shape_of-par-then-t-mate
 shape_of-par-then-t-mate c =
-    c.pass-t.auto.1.1.1.1.1.1.1.0 ∙ c.loop-step.invariant.2
+    c.pass-t.auto.par ∙ c.loop-step.invariant.2
 
 pub shape_of-order-then-t-mate : goal.shape_of-order-then-t-mate
 shape_of-order-then-t-mate c =
-    c.pass-t.auto.1.1.1.1.1.1.1.1.0 ∙ c.loop-step.invariant.3
+    c.pass-t.auto.order ∙ c.loop-step.invariant.3
 
 pub returns-then-t-mate : goal.returns-then-t-mate
 returns-then-t-mate c =
@@ -65,9 +64,9 @@ loop-step-preserved c =
     let O = pass_at P.dist_len P.state.priced.len c.pass-t.ensures.pass_outcome in
     let N = next_step P.step c.loop-step-test.true in (
       passes_on N.0 O (omega (arith, c.if-t-mate.false, (pass_state O).0.pairs.len)),
-      c.pass-t.auto.1.1.1.1.0 ∙ c.loop-step.invariant.1,
-      c.pass-t.auto.1.1.1.1.1.1.1.0 ∙ c.loop-step.invariant.2,
-      c.pass-t.auto.1.1.1.1.1.1.1.1.0 ∙ c.loop-step.invariant.3,
+      c.pass-t.auto.mate ∙ c.loop-step.invariant.1,
+      c.pass-t.auto.par ∙ c.loop-step.invariant.2,
+      c.pass-t.auto.order ∙ c.loop-step.invariant.3,
       c.pass-t.ensures.rows_2,
     )
 

@@ -68,7 +68,7 @@ shape_of-rows-then-is_near c =
 
 pub shape_of-dist-then-is_near : goal.shape_of-dist-then-is_near
 shape_of-dist-then-is_near c =
-    omega (arith, c.bring_near.auto.1.1.1.0, c.scan-r.ensures.scanned.dist_len, c.loop-keys.invariant.0.tree.dist_len)
+    omega (arith, c.bring_near.auto.dist, c.scan-r.ensures.scanned.dist_len, c.loop-keys.invariant.0.tree.dist_len)
 
 pub shape_of-par-then-is_near : goal.shape_of-par-then-is_near
 shape_of-par-then-is_near c =
@@ -81,13 +81,14 @@ shape_of-order-then-is_near c =
 pub returns-then-is_near : goal.returns-then-is_near
 returns-then-is_near c =
     let least-is = c.least_block-block.ensures.2 in
-    let G = c.loop-keys.invariant.0 in (
-      ended c.requires.state G G.tree.dist_len c.scan-r.ensures.scanned c.requires.rows.2 c.requires.rows.1 c.slack_after-slack.ensures
+    let G = c.loop-keys.invariant.0 in
+    record {
+      searched_back = ended c.requires.state G G.tree.dist_len c.scan-r.ensures.scanned c.requires.rows.2 c.requires.rows.1 c.slack_after-slack.ensures
           c.exposed_distance-best.ensures (least-is)
           (c.is_near.ensures.0 c.if-is_near.true)
-          c.bring_near.ensures,
-      c.scan-r.ensures.rows_2,
-    )
+          c.bring_near.ensures;
+      rows_2 = c.scan-r.ensures.rows_2;
+    }
 
 pub overflow_add-nd : goal.overflow_add-nd
 overflow_add-nd c =

@@ -1,11 +1,9 @@
 -- The loop's invariant: the words so far give nothing.
 use mathlib.Core.Path.{◌≡◌, refl, sym, ap, ◌∙◌}
-use Prim.Native.Nat.{ℕ, ◌-◌, ◌/◌, ◌≤◌}
+use Prim.Native.Nat.{ℕ, ◌/◌}
 use native.Mathlib.Omega.{arith}
-use borrow.Author.Rules.{rules}
 use lib.ListN.{length}
 use Rattle.prelude.specs.Lists.{list_to}
-use Rattle.point_draw.specs.declared.Drawn.TheVariants.{Nothing}
 use Rattle.point_draw.specs.Draw.{first_point, word_in}
 use Rattle.point_draw.proofs.Words.{found, missed}
 use Rattle.point_draw.proofs.draw.Goals as goal

@@ -1,13 +1,10 @@
 -- The loop's invariant: the words so far give nothing.
-use mathlib.Core.Path.{◌≡◌, refl, sym, ap, ◌∙◌}
-use Prim.Native.Nat.{ℕ, ◌-◌, ◌/◌, ◌≤◌}
-use native.Mathlib.Omega.{arith}
-use borrow.Author.Rules.{rules}
+use mathlib.Core.Path.{◌≡◌}
+use Prim.Native.Nat.{◌-◌, ◌/◌, ◌≤◌}
 use lib.ListN.{length}
 use Rattle.prelude.specs.Lists.{list_to}
 use Rattle.point_draw.specs.declared.Drawn.TheVariants.{Nothing}
 use Rattle.point_draw.specs.Draw.{first_point, word_in}
-use Rattle.point_draw.proofs.Words.{found, missed}
 use Rattle.point_draw.proofs.draw.Given as goal
 
 abbrev pub invariant-loop-i : goal.invariant-loop-i

@@ -2,7 +2,6 @@
 use mathlib.Core.Path.{refl, ap, ap₂, ◌∙◌}
 use Prim.Native.Nat.{◌-◌, ◌*◌, ◌/◌}
 use native.Mathlib.Omega.{arith}
-use borrow.Author.Rules.{rules}
 use lib.ListN.{length, drop, length-take, length-drop}
 use lib.Seq.{take_all}
 use Rattle.point_draw.specs.Draw.{first_point, drawn, paired}

@@ -1,5 +1,4 @@
 use mathlib.Core.Path.{◌∙◌, ap, ap₂}
-use borrow.Author.Rules.{rules}
 use Rattle.field.specs.Field.{extended}
 use Rattle.points.proofs.Prints.{as_print}
 use Rattle.points.proofs.with_arc.Goals as goal

@@ -2,7 +2,6 @@ use mathlib.Core.Path.{sym}
 use mathlib.Core.List.{map}
 use lib.IntN.{pos}
 use lib.ListN.{get_or-map}
-use borrow.Author.Rules.{rules}
 use Rattle.ranges.specs.Ranges.{NodeRange, node_ranges, range_held}
 use Rattle.ranges.proofs.range_at.Goals as goal
 

@@ -5,9 +5,3 @@ use Rattle.session.proofs.ended.Goals as goal
 
 pub returns : goal.returns
 returns c = c.fresh.ensures ∙ ap (λ (y : State). fresh y) c.idle.ensures
-
-pub idle-requires : goal.idle-requires
-idle-requires c = tt
-
-pub fresh-requires : goal.fresh-requires
-fresh-requires c = tt

@@ -5,6 +5,3 @@ use Rattle.session.proofs.fresh.Goals as goal
 
 pub returns : goal.returns
 returns c = ap (λ (a : Arrays). joined a c.args.state) c.zero_arrays.ensures
-
-pub zero_arrays-requires : goal.zero_arrays-requires
-zero_arrays-requires c = tt

@@ -4,8 +4,5 @@ use Rattle.session.proofs.is_over.Goals as goal
 pub returns-then-why-eq0 : goal.returns-then-why-eq0
 returns-then-why-eq0 c = search tested depth 12
 
-pub is_ended_by-requires : goal.is_ended_by-requires
-is_ended_by-requires c = tt
-
 pub returns : goal.returns
 returns c = search tested depth 12

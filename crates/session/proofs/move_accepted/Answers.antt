@@ -4,8 +4,5 @@ use Rattle.session.proofs.move_accepted.Goals as goal
 pub returns-then-why-ne0 : goal.returns-then-why-ne0
 returns-then-why-ne0 c = search checks
 
-pub move_amount-requires : goal.move_amount-requires
-move_amount-requires c = tt
-
 pub returns : goal.returns
 returns c = search checks

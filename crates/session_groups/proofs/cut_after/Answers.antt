@@ -11,9 +11,6 @@ use Rattle.words.proofs.Signs.{back}
 use Rattle.session_groups.proofs.GroupLaws.{plus_zero}
 use Rattle.session_groups.proofs.cut_after.Goals as goal
 
-pub increase-requires : goal.increase-requires
-increase-requires c = tt
-
 pub returns-then-crossing : goal.returns-then-crossing
 returns-then-crossing c = back w64 c.increase.result c.increase.type_inv ∙ c.increase.ensures
     ∙ ap₂ bounded_sum (to_z-of_z c.ranges.cut) (ap pos (sym (mul-one c.args.units)) ∙ ap (λ (b : Bool). pos (c.args.units * indicator b)) (sym c.if-crossing.true))

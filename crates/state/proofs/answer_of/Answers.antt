@@ -5,35 +5,26 @@ use Rattle.prelude.specs.Integers.{natural}
 use Rattle.state.specs.declared.Response.TheVariants.{Value}
 use Rattle.state.proofs.answer_of.Goals as goal
 
-pub to_unsigned-requires : goal.to_unsigned-requires
-to_unsigned-requires c = tt
-
-pub to_unsigned-requires-in-FlowValue : goal.to_unsigned-requires-in-FlowValue
-to_unsigned-requires-in-FlowValue c = tt
-
-pub to_unsigned-requires-in-AssignmentValue : goal.to_unsigned-requires-in-AssignmentValue
-to_unsigned-requires-in-AssignmentValue c = tt
-
 pub returns-in-PathValue : goal.returns-in-PathValue
-returns-in-PathValue c = rw c.enum_told-1.given.1 (ap Value (c.to_unsigned.ensures ∙ ap natural (to_z-of_z c.ranges.cost)))
+returns-in-PathValue c = rw c.in-PathValue.is (ap Value (c.to_unsigned.ensures ∙ ap natural (to_z-of_z c.ranges.cost)))
 
 pub returns-in-FlowValue : goal.returns-in-FlowValue
-returns-in-FlowValue c = rw c.enum_told-in-FlowValue-1.given.1 (ap Value (c.to_unsigned-in-FlowValue.ensures ∙ ap natural (to_z-of_z c.ranges.cut)))
+returns-in-FlowValue c = rw c.in-FlowValue.is (ap Value (c.to_unsigned-in-FlowValue.ensures ∙ ap natural (to_z-of_z c.ranges.cut)))
 
 pub returns-in-AssignmentValue : goal.returns-in-AssignmentValue
-returns-in-AssignmentValue c = rw c.enum_told-in-AssignmentValue-1.given.1 (ap Value (c.to_unsigned-in-AssignmentValue.ensures ∙ ap natural (to_z-of_z c.ranges.cost)))
+returns-in-AssignmentValue c = rw c.in-AssignmentValue.is (ap Value (c.to_unsigned-in-AssignmentValue.ensures ∙ ap natural (to_z-of_z c.ranges.cost)))
 
 pub returns-in-PathNone : goal.returns-in-PathNone
-returns-in-PathNone c = rw c.enum_told-in-PathNone-1.given.1
+returns-in-PathNone c = rw c.in-PathNone.is
 
 pub returns-in-AssignmentNone : goal.returns-in-AssignmentNone
-returns-in-AssignmentNone c = rw c.enum_told-in-AssignmentNone-1.given.1
+returns-in-AssignmentNone c = rw c.in-AssignmentNone.is
 
 pub returns-in-AcyclicityValue : goal.returns-in-AcyclicityValue
-returns-in-AcyclicityValue c = rw c.enum_told-in-AcyclicityValue-1.given.1
+returns-in-AcyclicityValue c = rw c.in-AcyclicityValue.is
 
 pub returns-in-AcyclicityNone : goal.returns-in-AcyclicityNone
-returns-in-AcyclicityNone c = rw c.enum_told-in-AcyclicityNone-1.given.1
+returns-in-AcyclicityNone c = rw c.in-AcyclicityNone.is
 
 pub returns-in-Nothing : goal.returns-in-Nothing
-returns-in-Nothing c = rw c.enum_told-in-Nothing-1.given.1
+returns-in-Nothing c = rw c.in-Nothing.is

@@ -19,13 +19,13 @@ unfolding all_to
 loop-v-init c = (omega arith, tt)
 
 pub returns-then-not-balance_ok : goal.returns-then-not-balance_ok
-returns-then-not-balance_ok c = let e = simp (back w64 (at c.args.t3 c.loop-v.v) c.b-1.given) at c.balance_ok.ensures in
-    sym (all_fails _ c.loop-v.v _ c.loop-v-test.true (sym e ∙ not-true _ c.if-not-balance_ok.true))
+returns-then-not-balance_ok c = let e = simp (back w64 (at c.args.balances c.loop-v.v) c.b-1.given) at c.balance_ok.ensures in
+    sym (all_fails _ c.loop-v.v _ c.loop-v-test.true (sym e ∙ c.if-not-balance_ok.true))
 
 pub loop-v-preserved : goal.loop-v-preserved
-loop-v-preserved c = let e = simp (back w64 (at c.args.t3 c.loop-v.v) c.b-1.given) at c.balance_ok.ensures in (
+loop-v-preserved c = let e = simp (back w64 (at c.args.balances c.loop-v.v) c.b-1.given) at c.balance_ok.ensures in (
   omega arith,
-  all_more _ c.loop-v.v c.loop-v.invariant.1 (true→T _ (sym e ∙ not-false _ c.if-not-balance_ok.false)),
+  all_more _ c.loop-v.v c.loop-v.invariant.1 (true→T _ (sym e ∙ c.if-not-balance_ok.false)),
 )
 
 pub returns : goal.returns

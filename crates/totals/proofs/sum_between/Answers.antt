@@ -32,10 +32,10 @@ pub loop-v-smaller : goal.loop-v-smaller
 loop-v-smaller c = omega arith
 
 pub loop-v-preserved : goal.loop-v-preserved
-loop-v-preserved c = let e = simp (returned w64 c.widened.result c.widened.type_inv (c.widened.ensures ∙ back w32 (at c.args.t1 c.loop-v.v) c.y-1.given)) at c.add-sum.ensures in (
+loop-v-preserved c = let e = simp (returned w64 c.widened.result c.widened.type_inv (c.widened.ensures ∙ back w32 (at c.args.potentials c.loop-v.v) (omega arith))) at c.add-sum.ensures in (
   omega arith,
   omega arith,
-  returned w64 c.add-sum.result c.add-sum.type_inv (sum_more c.args.t1 (λ i. search each_sized) c.args.low c.loop-v.v (to_z w64 c.loop-v.sum) c.add-sum.result c.loop-v.invariant.0 (omega arith) c.loop-v.invariant.2 e),
+  returned w64 c.add-sum.result c.add-sum.type_inv (sum_more c.args.potentials (λ i. search each_sized) c.args.low c.loop-v.v (to_z w64 c.loop-v.sum-bits) c.add-sum.result c.loop-v.invariant.0 (omega arith) c.loop-v.invariant.2 e),
 )
 
 pub returns : goal.returns

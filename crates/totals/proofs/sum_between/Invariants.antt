@@ -13,7 +13,7 @@ use Rattle.totals.proofs.Totals.{each_sized, sum_more}
 use Rattle.totals.proofs.sum_between.Given as goal
 
 abbrev pub invariant-loop-v : goal.invariant-loop-v
-invariant-loop-v l = (l.low ≤ l.v) × (l.v ≤ max l.low l.high) × (to_z w64 l.sum ≡ sum_to_ℤ (l.v - l.low) (λ i. at l.potentials (l.low + i)))
+invariant-loop-v l = (l.low ≤ l.v) × (l.v ≤ max l.low l.high) × (l.sum ≡ sum_to_ℤ (l.v - l.low) (λ i. at l.potentials (l.low + i)))
 
 abbrev pub decreases-loop-v : goal.decreases-loop-v
 decreases-loop-v l = l.high - l.v

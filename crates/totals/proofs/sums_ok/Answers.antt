@@ -3,25 +3,25 @@ use borrow.Author.Rules.{rules}
 use Rattle.totals.proofs.sums_ok.Goals as goal
 
 pub returns-in-PathValue : goal.returns-in-PathValue
-returns-in-PathValue c = rw c.enum_told-1.given.1 (simp (to_z-of_z c.ranges.cost) at c.cost_is_potential.ensures)
+returns-in-PathValue c = rw c.in-PathValue.is (simp (to_z-of_z c.ranges.cost) at c.cost_is_potential.ensures)
 
 pub returns-in-FlowValue : goal.returns-in-FlowValue
-returns-in-FlowValue c = rw c.enum_told-in-FlowValue-1.given.1 (simp (to_z-of_z c.ranges.cut) at c.flow_is_cut.ensures)
+returns-in-FlowValue c = rw c.in-FlowValue.is (simp (to_z-of_z c.ranges.cut) at c.flow_is_cut.ensures)
 
 pub returns-in-AssignmentValue : goal.returns-in-AssignmentValue
-returns-in-AssignmentValue c = rw c.enum_told-in-AssignmentValue-1.given.1 (simp (to_z-of_z c.ranges.cost) at c.cost_is_gap.ensures)
+returns-in-AssignmentValue c = rw c.in-AssignmentValue.is (simp (to_z-of_z c.ranges.cost) at c.cost_is_gap.ensures)
 
 pub returns-in-PathNone : goal.returns-in-PathNone
-returns-in-PathNone c = rw c.enum_told-in-PathNone-1.given.1
+returns-in-PathNone c = rw c.in-PathNone.is
 
 pub returns-in-AssignmentNone : goal.returns-in-AssignmentNone
-returns-in-AssignmentNone c = rw c.enum_told-in-AssignmentNone-1.given.1 c.more_sites_unmarked.ensures
+returns-in-AssignmentNone c = rw c.in-AssignmentNone.is c.more_sites_unmarked.ensures
 
 pub returns-in-AcyclicityValue : goal.returns-in-AcyclicityValue
-returns-in-AcyclicityValue c = rw c.enum_told-in-AcyclicityValue-1.given.1
+returns-in-AcyclicityValue c = rw c.in-AcyclicityValue.is
 
 pub returns-in-AcyclicityNone : goal.returns-in-AcyclicityNone
-returns-in-AcyclicityNone c = rw c.enum_told-in-AcyclicityNone-1.given.1 (simp (to_z-of_z c.ranges.cost) at c.some_amount.ensures)
+returns-in-AcyclicityNone c = rw c.in-AcyclicityNone.is (simp (to_z-of_z c.ranges.cost) at c.some_amount.ensures)
 
 pub returns-in-Nothing : goal.returns-in-Nothing
-returns-in-Nothing c = rw c.enum_told-in-Nothing-1.given.1
+returns-in-Nothing c = rw c.in-Nothing.is

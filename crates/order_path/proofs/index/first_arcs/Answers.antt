@@ -1,10 +1,7 @@
 -- The loop's invariant: each vertex below v has its first arc.
 use mathlib.Core.Path.{◌≡◌, refl}
-use Prim.Native.Nat.{◌-◌}
 use native.Mathlib.Omega.{arith}
-use lib.ListN.{length}
-use borrow.Author.Rules.{rules}
-use Rattle.prelude.proofs.Filling.{Filling, fill_start, fill_turn}
+use Rattle.prelude.proofs.Filling.{fill_start, fill_turn}
 use Rattle.packed_arcs.specs.Entries.{entry}
 use Rattle.order_path.proofs.CurrentArcs.{first_filled}
 use Rattle.order_path.proofs.index.first_arcs.Goals as goal

@@ -1,12 +1,8 @@
 -- The loop's invariant: a path of vertices without a rank, that is not empty. There is room for one vertex fewer at each turn.
-use mathlib.Core.Path.{refl, ◌∙◌, sym, ap}
 use Prim.Native.Nat.{◌-◌, ◌<◌}
-use native.Mathlib.Omega.{arith}
 use lib.ListN.{length}
-use Rattle.packed_arcs.specs.Entries.{entry}
 use Rattle.arc_index.specs.Columns.{record_tails, record_heads}
 use Rattle.order_path.specs.Steps.{Searching}
-use Rattle.order_path.proofs.Rankings.{searching_started, TopLooked, AtTop, at_top, climbed, moved_on, room_left, searching_longer}
 use Rattle.order_path.proofs.path.climb.Given as goal
 
 abbrev pub invariant-loop-root : goal.invariant-loop-root

@@ -1,13 +1,9 @@
 -- The loop's invariant: only the current arc of v moved on. Fewer arcs are left at each turn.
-use mathlib.Core.Path.{◌∙◌, sym, ap}
 use Prim.Native.Nat.{◌-◌}
-use native.Mathlib.Omega.{arith}
-use borrow.Author.Rules.{rules}
 use Rattle.packed_arcs.specs.Entries.{entry}
 use Rattle.arc_index.specs.ArcIndex.{no_arc}
 use Rattle.arc_index.specs.Columns.{record_tails, record_heads}
 use Rattle.order_path.specs.Steps.{MovedOn}
-use Rattle.order_path.proofs.CurrentArcs.{moved_none, Looking, at_arc, fewer_left, moved_more}
 use Rattle.order_path.proofs.path.look.Given as goal
 
 abbrev pub invariant-loop-v : goal.invariant-loop-v

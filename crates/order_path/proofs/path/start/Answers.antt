@@ -1,6 +1,5 @@
 use mathlib.Core.Path.{refl}
 use native.Mathlib.Omega.{arith}
-use borrow.Author.Rules.{rules}
 use Rattle.order_path.specs.Steps.Started.{kept, started}
 use Rattle.order_path.proofs.path.start.Goals as goal
 

@@ -12,11 +12,11 @@ use Rattle.rules.proofs.annotation.node_ok.Goals.{After-in_table}
 -- what the table says of the number
 in_range : (c : After-in_table) →
     c.in_table.result ≡ in_table c.args.st.question (claim_number (claim_of c.args.claim)) c.args.z
-in_range c = rw c.claim_number.ensures at (simp (to_z-of_z c.fits.z) at c.in_table.ensures)
+in_range c = rw c.claim_number.ensures at (simp (to_z-of_z c.ranges.z) at c.in_table.ensures)
 
 pub returns-then-not-in_table : goal.returns-then-not-in_table
-returns-then-not-in_table c = sym (check_ten_same (asked c.args.st) (claim_of c.args.claim) c.args.v c.args.z ∙ first_off _ _ (refused _ _ c.if-not-in_table.true (in_range (goal.at.returns-then-not-in_table c).After-in_table)))
+returns-then-not-in_table c = sym (check_ten_same (asked c.args.st) (claim_of c.args.claim) c.args.v c.args.z ∙ first_off _ _ (sym (in_range (goal.at.returns-then-not-in_table c).After-in_table) ∙ c.if-not-in_table.true))
 
 pub returns : goal.returns
-returns c = let rule = rw c.row_of.ensures at (simp (to_z-of_z c.fits.z) at c.on_node.ensures) in
-    rw (check_ten_same (asked c.args.st) (claim_of c.args.claim) c.args.v c.args.z) (and_on _ _ _ (passed _ _ c.if-not-in_table.false (in_range (goal.at.returns c).After-in_table)) rule)
+returns c = let rule = rw c.row_of.ensures at (simp (to_z-of_z c.ranges.z) at c.on_node.ensures) in
+    rw (check_ten_same (asked c.args.st) (claim_of c.args.claim) c.args.v c.args.z) (and_on _ _ _ (sym (in_range (goal.at.returns c).After-in_table) ∙ c.if-not-in_table.false) rule)

@@ -6,9 +6,3 @@ use Rattle.session.proofs.Session.claim.Goals as goal
 pub returns : goal.returns
 returns c =
     c.reply_to.ensures ∙ by_state (claim_replies c.args.self c.args.claim c.claim-turn.result c.claim-turn.ensures)
-
-pub claim-turn-requires : goal.claim-turn-requires
-claim-turn-requires c = tt
-
-pub reply_to-requires : goal.reply_to-requires
-reply_to-requires c = tt

@@ -6,9 +6,3 @@ use Rattle.session.proofs.Session.end_reading.Goals as goal
 pub returns : goal.returns
 returns c =
     c.reply_to.ensures ∙ by_state (end_replies c.args.self c.end_reading-turn.result c.end_reading-turn.ensures)
-
-pub end_reading-turn-requires : goal.end_reading-turn-requires
-end_reading-turn-requires c = tt
-
-pub reply_to-requires : goal.reply_to-requires
-reply_to-requires c = tt

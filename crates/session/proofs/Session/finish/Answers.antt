@@ -11,15 +11,3 @@ pub returns : goal.returns
 returns c =
     finish_answered c.args.self c.finish_check-why.result c.finish_check-why.ensures c.ended.result c.answer.result c.ended.ensures c.answer.ensures
     c.if-why-ne0.false
-
-pub finish_check-why-requires : goal.finish_check-why-requires
-finish_check-why-requires c = tt
-
-pub refuse-requires : goal.refuse-requires
-refuse-requires c = tt
-
-pub ended-requires : goal.ended-requires
-ended-requires c = tt
-
-pub answer-requires : goal.answer-requires
-answer-requires c = tt

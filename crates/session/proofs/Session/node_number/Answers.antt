@@ -20,24 +20,3 @@ returns c =
     (touched (with_potentials c.args.self.arrays) accepted (set ys at c.args.y) ys (c.store_accepted.ensures ∙ ap (λ (z : ℤ). pick accepted (set ys at z) ys) back))
     c.is_over-over.result c.is_over-over.ensures c.clear_numbers.ensures
     c.clear_balances.ensures c.left-self.ensures c.answer_to.ensures
-
-pub node_number-turn-requires : goal.node_number-turn-requires
-node_number-turn-requires c = tt
-
-pub is_over-over-requires : goal.is_over-over-requires
-is_over-over-requires c = tt
-
-pub store_accepted-requires : goal.store_accepted-requires
-store_accepted-requires c = tt
-
-pub clear_numbers-requires : goal.clear_numbers-requires
-clear_numbers-requires c = tt
-
-pub clear_balances-requires : goal.clear_balances-requires
-clear_balances-requires c = tt
-
-pub left-self-requires : goal.left-self-requires
-left-self-requires c = tt
-
-pub answer_to-requires : goal.answer_to-requires
-answer_to-requires c = tt

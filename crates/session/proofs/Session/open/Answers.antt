@@ -9,16 +9,10 @@ use Rattle.session.proofs.Session.open.Goals as goal
 -- f is where the session is made, u the turn of its state, s where the arguments are
 pub returns-then-why-ne0 : goal.returns-then-why-ne0
 returns-then-why-ne0 c =
-    let u = (goal.at.returns-then-why-ne0 c).After-open-turn.«open» in
+    let u = c.open-turn in
     ap (λ (y : Session). hand y (Refused u.result.why)) c.fresh-session.ensures ∙ open_refused (handed c.args.o) c.args.point u.result u.ensures c.if-why-ne0.true
 
 pub returns : goal.returns
 returns c =
-    let u = (goal.at.returns c).After-open-turn.«open» in
+    let u = c.open-turn in
     ap (λ (y : Session). accept y) c.fresh-session.ensures ∙ open_accepted (handed c.args.o) c.args.point u.result u.ensures c.if-why-ne0.false
-
-pub open-turn-requires : goal.open-turn-requires
-open-turn-requires c = tt
-
-pub fresh-session-requires : goal.fresh-session-requires
-fresh-session-requires c = tt

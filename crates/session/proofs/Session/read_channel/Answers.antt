@@ -7,9 +7,3 @@ use Rattle.session.proofs.Session.read_channel.Goals as goal
 pub returns : goal.returns
 returns c =
     c.reply_to.ensures ∙ by_state (read_replies c.args.self (arc_of c.args.a c.args.b c.args.w) c.read_channel-turn.result c.read_channel-turn.ensures)
-
-pub read_channel-turn-requires : goal.read_channel-turn-requires
-read_channel-turn-requires c = tt
-
-pub reply_to-requires : goal.reply_to-requires
-reply_to-requires c = tt

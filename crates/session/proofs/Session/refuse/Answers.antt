@@ -2,12 +2,6 @@ use mathlib.Core.Path.{sym, ◌∙◌}
 use Rattle.session.proofs.TurnsToSteps.{refused_ended, refused_same}
 use Rattle.session.proofs.Session.refuse.Goals as goal
 
-pub is_ended_by-requires : goal.is_ended_by-requires
-is_ended_by-requires c = tt
-
-pub ended-requires : goal.ended-requires
-ended-requires c = tt
-
 pub returns-then-is_ended_by : goal.returns-then-is_ended_by
 returns-then-is_ended_by c =
     refused_ended c.args.self c.args.why (sym c.is_ended_by.ensures ∙ c.if-is_ended_by.true) c.ended.result c.ended.ensures

@@ -1,9 +1,6 @@
 use Rattle.prelude.proofs.Choice.{checks}
 use Rattle.session.proofs.Session.reply_to.Goals as goal
 
-pub refuse-requires : goal.refuse-requires
-refuse-requires c = tt
-
 pub returns-then-why-ne0 : goal.returns-then-why-ne0
 returns-then-why-ne0 c = search checks
 

@@ -9,11 +9,8 @@ returns-then-phase-ne-CLAIMED c = search tested depth 12
 pub returns-then-n-given : goal.returns-then-n-given
 returns-then-n-given c = search tested depth 12
 
-pub node_ok-requires : goal.node_ok-requires
-node_ok-requires c = tt
-
 pub returns-then-not-node_ok : goal.returns-then-not-node_ok
-returns-then-not-node_ok c = let test = simp (to_z-of_z c.ranges.y) at c.Node-Ok.ensures in search tested depth 12
+returns-then-not-node_ok c = let test = simp (to_z-of_z c.ranges.y) at c.node_ok.ensures in search tested depth 12
 
 pub returns : goal.returns
-returns c = let test = simp (to_z-of_z c.ranges.y) at c.Node-Ok.ensures in search tested depth 12
+returns c = let test = simp (to_z-of_z c.ranges.y) at c.node_ok.ensures in search tested depth 12

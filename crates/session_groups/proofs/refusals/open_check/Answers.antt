@@ -22,14 +22,8 @@ module _ (o : Opening) (point : Point) (why : ℕ) (found : why ≡ first_broken
   then-four : why ≡ 0 → (r : ℕ) → r ≡ first_broken fourth → r ≡ first_broken (opening_checks (handed o) ++ fourth)
   then-four = broken_later (opening_checks (handed o)) fourth (refl, (refl, (refl, tt))) why found
 
-pub opening_check-why-requires : goal.opening_check-why-requires
-opening_check-why-requires c = tt
-
 pub returns-then-why-ne0 : goal.returns-then-why-ne0
 returns-then-why-ne0 c = first_three c.args.o c.args.point c.opening_check-why.result c.opening_check-why.ensures c.if-why-ne0.true
-
-pub is_point-requires : goal.is_point-requires
-is_point-requires c = tt
 
 pub returns-then-not-is_point : goal.returns-then-not-is_point
 returns-then-not-is_point c = then-four c.args.o c.args.point c.opening_check-why.result c.opening_check-why.ensures c.if-why-ne0.false 4 (search tested depth 12)

@@ -11,8 +11,5 @@ returns-then-given-n c = search tested depth 12
 pub returns-then-read-repeated : goal.returns-then-read-repeated
 returns-then-read-repeated c = search tested depth 12
 
-pub arc_check-requires : goal.arc_check-requires
-arc_check-requires c = tt
-
 pub returns : goal.returns
 returns c = search tested depth 12

@@ -9,14 +9,8 @@ use Rattle.state.specs.Answers.{answered}
 use Rattle.state.specs.State.{setting_held, claim_held}
 use Rattle.state.proofs.State.answer.Goals as goal
 
-pub row_of-row-requires : goal.row_of-row-requires
-row_of-row-requires c = tt
-
-pub answer_of-requires : goal.answer_of-requires
-answer_of-requires c = tt
-
 pub returns : goal.returns
 returns c =
     let g = c.args.self.repeating in
     (rw c.row_of-row.ensures at c.answer_of.ensures)
-    ∙ ap₂ (λ (k d : ℤ). answered (answer_of (setting_held c.args.self) (claim_held c.args.self) (sums_held c.args.balances k d))) (back w64 g.cost (omega (arith, c.struct_told-1.given))) (back w64 g.cut (omega (arith, c.struct_told-2-1.given)))
+    ∙ ap₂ (λ (k d : ℤ). answered (answer_of (setting_held c.args.self) (claim_held c.args.self) (sums_held c.args.balances k d))) (back w64 g.cost (omega arith)) (back w64 g.cut (omega arith))

@@ -12,23 +12,14 @@ returns-then-self-ne-CLAIMED c = rw (ne_eqb _ _ c.if-self-ne-CLAIMED.true)
 pub returns-then-numbering-st : goal.returns-then-numbering-st
 returns-then-numbering-st c = rw (eq-eqb _ _ c.if-self-ne-CLAIMED.false, ne_eqb _ _ c.if-numbering-st.true)
 
-pub lists_check-why-requires : goal.lists_check-why-requires
-lists_check-why-requires c = tt
-
 pub returns-then-why-ne0 : goal.returns-then-why-ne0
 returns-then-why-ne0 c =
     lists_broken c.args.self c.args.potentials c.args.balances (eq-eqb c.args.self.phase 3 c.if-self-ne-CLAIMED.false) (eq-eqb c.args.self.numbering.given c.args.self.reading.setting.n c.if-numbering-st.false) c.lists_check-why.result c.lists_check-why.ensures c.if-why-ne0.true
-
-pub row_of-row-requires : goal.row_of-row-requires
-row_of-row-requires c = tt
-
-pub totals_check-requires : goal.totals_check-requires
-totals_check-requires c = tt
 
 pub returns : goal.returns
 returns c =
     totals_broken c.args.self c.args.potentials c.args.balances (eq-eqb c.args.self.phase 3 c.if-self-ne-CLAIMED.false)
     (eq-eqb c.args.self.numbering.given c.args.self.reading.setting.n c.if-numbering-st.false) c.lists_check-why.result c.lists_check-why.ensures c.if-why-ne0.false
     c.row_of-row.ensures
-    (back w64 c.args.self.repeating.cost (omega (arith, c.struct_told-1.given))) (back w64 c.args.self.repeating.cut (omega (arith, c.struct_told-2-1.given)))
+    (back w64 c.args.self.repeating.cost (omega arith)) (back w64 c.args.self.repeating.cut (omega arith))
     c.totals_check.result c.totals_check.ensures

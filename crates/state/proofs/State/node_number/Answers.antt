@@ -9,9 +9,6 @@ use Rattle.session_groups.specs.declared.Numbering.{Numbering}
 use Rattle.state.proofs.Laws.{turn_refused, turn_holds, turn_accepted}
 use Rattle.state.proofs.State.node_number.Goals as goal
 
-pub number_check-why-requires : goal.number_check-why-requires
-number_check-why-requires c = tt
-
 pub returns-then-why-ne0 : goal.returns-then-why-ne0
 unfolding number_turn
 returns-then-why-ne0 c =

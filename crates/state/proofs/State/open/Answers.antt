@@ -14,12 +14,6 @@ small : (c : After-open_check-why) → c.open_check-why.result ≡ 0
     → let st = handed c.args.o in (st.question ≤ 255) × (st.n ≤ 255) × (st.s ≤ 255) × (st.t ≤ 255)
 small c = open_small (handed c.args.o) c.args.point c.open_check-why.result c.open_check-why.ensures
 
-pub open_check-why-requires : goal.open_check-why-requires
-open_check-why-requires c = tt
-
-pub idle-requires : goal.idle-requires
-idle-requires c = tt
-
 pub returns-then-why-ne0 : goal.returns-then-why-ne0
 unfolding open_turn
 returns-then-why-ne0 c =
@@ -37,9 +31,6 @@ overflow_cast-setting-3 c = omega (arith, (small (goal.at.overflow_cast-setting-
 
 pub overflow_cast-setting-4 : goal.overflow_cast-setting-4
 overflow_cast-setting-4 c = omega (arith, (small (goal.at.overflow_cast-setting-4 c).After-open_check-why c.if-why-ne0.false).3)
-
-pub begun-requires : goal.begun-requires
-begun-requires c = tt
 
 pub returns : goal.returns
 unfolding open_turn

@@ -6,9 +6,6 @@ use Rattle.state.specs.Turns.{read_turn}
 use Rattle.state.proofs.Laws.{turn_refused, turn_holds, turn_accepted, read_done}
 use Rattle.state.proofs.State.read_channel.Goals as goal
 
-pub read_check-why-requires : goal.read_check-why-requires
-read_check-why-requires c = tt
-
 pub returns-then-why-ne0 : goal.returns-then-why-ne0
 unfolding read_turn
 returns-then-why-ne0 c =

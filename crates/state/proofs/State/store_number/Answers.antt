@@ -4,8 +4,5 @@ use lib.ListN.{set}
 use mir.Facts.{to_z-of_z}
 use Rattle.state.proofs.State.store_number.Goals as goal
 
-pub store_at-requires : goal.store_at-requires
-store_at-requires c = tt
-
 pub returns : goal.returns
 returns c = c.store_at.ensures ∙ ap (λ (z : ℤ). set c.args.potentials.now c.args.self.numbering.given z) (to_z-of_z c.ranges.y)

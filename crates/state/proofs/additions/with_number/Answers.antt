@@ -4,9 +4,6 @@ use Rattle.session_groups.proofs.GroupLaws.{number_done}
 use borrow.Author.Rules.{rules}
 use Rattle.state.proofs.additions.with_number.Goals as goal
 
-pub with_mark-next-requires : goal.with_mark-next-requires
-with_mark-next-requires c = tt
-
 pub returns-then-y-eq1 : goal.returns-then-y-eq1
 returns-then-y-eq1 c = number_done c.args.g c.args.y c.with_mark-next.result (search (checks, signs) depth 12)
 
