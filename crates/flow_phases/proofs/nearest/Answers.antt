@@ -1,10 +1,8 @@
 -- The loop's invariant: the best of the vertices below v.
-use Prim.Native.Nat.{ℕ, ◌-◌, ◌≤◌}
+use Prim.Native.Nat.{ℕ, ◌≤◌}
 use mathlib.Core.List.{List}
-use mathlib.Core.Logic.{⊎_elim}
 use native.Mathlib.Omega.{arith}
 use lib.ListN.{length}
-use borrow.Author.Rules.{rules}
 use Rattle.flow_residual.specs.Phase.{NearestSoFar, Nearest}
 use Rattle.flow_residual.proofs.PhaseLaws.{best_none, best_take, best_skip}
 use Rattle.flow_phases.proofs.nearest.Goals as goal
@@ -17,8 +15,8 @@ best-whole {need} {key} {v} {b} {k} h B =
 pub loop-v-preserved : goal.loop-v-preserved
 loop-v-preserved c =
     elim c.if-better.branch [
-      | then-better w ↦ best_take c.loop-v.invariant c.loop-v-test.true (c.better.ensures.0 w.if-better.true) w.1 w.2
-      | else-better w ↦ best_skip c.loop-v.invariant c.loop-v-test.true (c.better.ensures.1 w.if-better.false) w.1 w.2
+      | then-better w ↦ best_take c.loop-v.invariant c.loop-v-test.true (c.better.ensures.0 w.if-better.true) w.best-is w.k-is
+      | else-better w ↦ best_skip c.loop-v.invariant c.loop-v-test.true (c.better.ensures.1 w.if-better.false) w.best-is w.k-is
     ]
 
 pub loop-v-init : goal.loop-v-init

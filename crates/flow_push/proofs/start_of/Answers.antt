@@ -5,7 +5,7 @@ pub tail_of-requires : goal.tail_of-requires
 tail_of-requires c = tt
 
 pub returns-then-code-lt4096 : goal.returns-then-code-lt4096
-returns-then-code-lt4096 c = simp (lt-ltb _ _ c.if-code-lt4096.true) c.Tail-of.ensures
+returns-then-code-lt4096 c = simp (lt-ltb _ _ c.if-code-lt4096.true) c.tail_of.ensures
 
 pub head_of-requires : goal.head_of-requires
 head_of-requires c = tt

@@ -1,4 +1,3 @@
-use borrow.Author.Rules.{rules}
 use Rattle.flow_relaxing.proofs.relax.Goals as goal
 
 pub returns-then-back : goal.returns-then-back

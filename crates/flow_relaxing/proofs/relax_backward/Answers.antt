@@ -1,4 +1,3 @@
-use borrow.Author.Rules.{rules}
 use mathlib.Core.Path.{refl}
 use native.Mathlib.Omega.{arith}
 use lib.ListN.{length}
@@ -9,9 +8,9 @@ use Rattle.flow_relaxing.proofs.relax_backward.Goals.{After-cost_of}
 
 -- the arc's three numbers, once the last of them is read
 read : (c : After-cost_of) →
-    ArcRead c.args.arcs.now c.args.x.now c.args.pi.now (length c.args.key.now) c.args.e c.Tail-of.result c.head_of-b.result c.cost_of.result
+    ArcRead c.args.arcs.now c.args.x.now c.args.pi.now (length c.args.key.now) c.args.e c.tail_of-a.result c.head_of-b.result c.cost_of.result
 read c =
-    record { ready = c.requires.3; listed = c.requires.0; tail = c.Tail-of.ensures; head = c.head_of-b.ensures; cost = c.cost_of.ensures }
+    record { ready = c.requires.3; listed = c.requires.0; tail = c.tail_of-a.ensures; head = c.head_of-b.ensures; cost = c.cost_of.ensures }
 
 pub bounds-x-e : goal.bounds-x-e
 bounds-x-e c =
