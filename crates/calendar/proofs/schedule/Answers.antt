@@ -40,7 +40,7 @@ pub overflow_cast-count : goal.overflow_cast-count
 overflow_cast-count c = omega (arith, few_left (goal.at.overflow_cast-count c).After-count_left-count)
 
 pub write_file-requires : goal.write_file-requires
-write_file-requires c = (c.count_left-count.ensures, omega (arith, c.if-buffer-size.false))
+write_file-requires c = record { count_value = c.count_left-count.ensures; in_bounds = omega (arith, c.if-buffer-size.false) }
 
 pub overflow_cast-result : goal.overflow_cast-result
 overflow_cast-result c = omega (arith, few_left (goal.at.overflow_cast-result c).After-count_left-count)

@@ -1,4 +1,3 @@
-use borrow.Author.Rules.{rules}
 use mathlib.Core.Path.{sym, ◌∙◌}
 use Rattle.flow_residual.proofs.PhaseLaws.{linked, need_inside, offset, phase, target_ok}
 use Rattle.flow_phases.proofs.advance.Goals as goal

@@ -1,10 +1,8 @@
 -- The loop's invariant: the best of the vertices below v.
-use Prim.Native.Nat.{ℕ, ◌-◌, ◌≤◌}
+use Prim.Native.Nat.{ℕ, ◌≤◌}
 use mathlib.Core.List.{List}
-use mathlib.Core.Logic.{⊎_elim}
 use native.Mathlib.Omega.{arith}
 use lib.ListN.{length}
-use borrow.Author.Rules.{rules}
 use Rattle.flow_residual.specs.Phase.{NearestSoFar, Nearest}
 use Rattle.flow_residual.proofs.PhaseLaws.{best_none, best_take, best_skip}
 use Rattle.flow_phases.proofs.nearest.Goals as goal

@@ -1,12 +1,7 @@
 -- The loop's invariant: the best of the vertices below v.
-use Prim.Native.Nat.{ℕ, ◌-◌, ◌≤◌}
-use mathlib.Core.List.{List}
-use mathlib.Core.Logic.{⊎_elim}
-use native.Mathlib.Omega.{arith}
+use Prim.Native.Nat.{◌-◌}
 use lib.ListN.{length}
-use borrow.Author.Rules.{rules}
-use Rattle.flow_residual.specs.Phase.{NearestSoFar, Nearest}
-use Rattle.flow_residual.proofs.PhaseLaws.{best_none, best_take, best_skip}
+use Rattle.flow_residual.specs.Phase.{NearestSoFar}
 use Rattle.flow_phases.proofs.nearest.Given as goal
 
 abbrev pub invariant-loop-v : goal.invariant-loop-v

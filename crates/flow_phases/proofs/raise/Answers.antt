@@ -1,9 +1,6 @@
 -- The loop's invariant: the potentials below v are raised, the others are as they were.
-use Prim.Native.Nat.{◌-◌}
 use native.Mathlib.Omega.{arith}
-use lib.ListN.{length}
-use borrow.Author.Rules.{rules}
-use Rattle.flow_residual.proofs.FallingKeys.{Raising, raise_turn}
+use Rattle.flow_residual.proofs.FallingKeys.{raise_turn}
 use Rattle.flow_phases.proofs.raise.Goals as goal
 
 pub overflow_add-pi : goal.overflow_add-pi

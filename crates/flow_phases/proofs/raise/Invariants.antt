@@ -1,9 +1,7 @@
 -- The loop's invariant: the potentials below v are raised, the others are as they were.
 use Prim.Native.Nat.{◌-◌}
-use native.Mathlib.Omega.{arith}
 use lib.ListN.{length}
-use borrow.Author.Rules.{rules}
-use Rattle.flow_residual.proofs.FallingKeys.{Raising, raise_turn}
+use Rattle.flow_residual.proofs.FallingKeys.{Raising}
 use Rattle.flow_phases.proofs.raise.Given as goal
 
 abbrev pub invariant-loop-v : goal.invariant-loop-v

@@ -1,8 +1,6 @@
 use mathlib.Core.Path.{sym, ◌∙◌}
-use Rattle.packed_arcs.specs.PackedArcs.{tails_of, heads_of, costs_of, capacities_of}
-use Rattle.packed_arcs.specs.Entries.{sum}
 use Rattle.flow_search.specs.Search.BackwardIndex.{indexed}
-use Rattle.flow_residual.proofs.PhaseLaws.{Running, running_first, running, target_none}
+use Rattle.flow_residual.proofs.PhaseLaws.{running_first, running, target_none}
 use Rattle.flow_phases.proofs.run.Goals as goal
 
 pub loop-key-init : goal.loop-key-init

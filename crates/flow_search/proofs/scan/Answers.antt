@@ -1,11 +1,8 @@
 use mathlib.Core.Path.{◌∙◌, sym}
-use Prim.Native.Nat.{◌-◌}
 use native.Mathlib.Omega.{arith}
-use borrow.Author.Rules.{rules}
 use Rattle.packed_arcs.proofs.ArcColumns.{columns}
 use Rattle.arc_index.proofs.ChainSteps.{in_links, shrinks}
-use Rattle.flow_residual.specs.PackedNetwork.{residual_of}
-use Rattle.flow_search.proofs.SearchLaws.{Scanning, scan_start, scan_step, scan_end, arc_inside, still_ready}
+use Rattle.flow_search.proofs.SearchLaws.{scan_start, scan_step, scan_end, arc_inside, still_ready}
 use Rattle.flow_search.proofs.scan.Goals as goal
 
 pub bounds-links-u : goal.bounds-links-u

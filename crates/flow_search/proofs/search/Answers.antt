@@ -1,12 +1,8 @@
 use mathlib.Core.Path.{◌∙◌, sym}
 use native.Mathlib.Omega.{arith}
-use borrow.Author.Rules.{rules}
-use Rattle.flow_residual.specs.PackedNetwork.{residual_of}
-use Rattle.flow_residual.specs.Residual.{LoweredKeys}
-use Rattle.flow_search.specs.Search.{work}
 use Rattle.flow_residual.proofs.FallingKeys.{lower_refl, lower_trans}
 use Rattle.flow_residual.proofs.PhaseLaws.{found}
-use Rattle.flow_search.proofs.SearchLaws.{Between, between_start, between_on, take_looking, take_falls, all_relaxed, ready_since}
+use Rattle.flow_search.proofs.SearchLaws.{between_start, between_on, take_looking, take_falls, all_relaxed, ready_since}
 use Rattle.flow_search.proofs.search.Goals as goal
 
 pub start-requires : goal.start-requires
@@ -18,7 +14,7 @@ loop-keys-init c =
     (lower_refl _ _ _, between_start c.requires.key_len.2 c.start.ensures)
 
 pub shape_of-key-then-k-ge-UNREACHED : goal.shape_of-key-then-k-ge-UNREACHED
-shape_of-key-then-k-ge-UNREACHED c = c.loop-keys.invariant.0.key_len ∙ c.start.auto.1.0
+shape_of-key-then-k-ge-UNREACHED c = c.loop-keys.invariant.0.key_len ∙ c.start.auto.key
 
 pub shape_of-par-then-k-ge-UNREACHED : goal.shape_of-par-then-k-ge-UNREACHED
 shape_of-par-then-k-ge-UNREACHED c = c.loop-keys.invariant.0.par_len
@@ -34,11 +30,12 @@ returns-then-k-ge-UNREACHED c =
 
 pub look-requires : goal.look-requires
 look-requires c =
-    let R = ready_since c.requires.key_len.2 c.start.ensures.started c.loop-keys.invariant.0 in (
-      (c.requires.chains.0, c.requires.chains.1, c.loop-keys.invariant.0.par_len ∙ c.requires.key_len.1 ∙ sym c.start.ensures.started.len ∙ sym c.loop-keys.invariant.0.key_len, R),
-      rw (c.take-u.ensures.0, c.least-k.ensures)
-          (take_looking R c.loop-keys.invariant.1 (omega (arith, c.if-k-ge-UNREACHED.false, c.least-k.ensures)) c.take-u.ensures.1),
-    )
+    let R = ready_since c.requires.key_len.2 c.start.ensures.started c.loop-keys.invariant.0 in
+    record {
+      chains = (c.requires.chains.0, c.requires.chains.1, c.loop-keys.invariant.0.par_len ∙ c.requires.key_len.1 ∙ sym c.start.ensures.started.len ∙ sym c.loop-keys.invariant.0.key_len, R);
+      looking = rw (c.take-u.ensures.0, c.least-k.ensures)
+          (take_looking R c.loop-keys.invariant.1 (omega (arith, c.if-k-ge-UNREACHED.false, c.least-k.ensures)) c.take-u.ensures.1);
+    }
 
 pub loop-keys-smaller : goal.loop-keys-smaller
 loop-keys-smaller c =

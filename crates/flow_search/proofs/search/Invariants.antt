@@ -1,12 +1,7 @@
-use mathlib.Core.Path.{◌∙◌, sym}
-use native.Mathlib.Omega.{arith}
-use borrow.Author.Rules.{rules}
 use Rattle.flow_residual.specs.PackedNetwork.{residual_of}
 use Rattle.flow_residual.specs.Residual.{LoweredKeys}
 use Rattle.flow_search.specs.Search.{work}
-use Rattle.flow_residual.proofs.FallingKeys.{lower_refl, lower_trans}
-use Rattle.flow_residual.proofs.PhaseLaws.{found}
-use Rattle.flow_search.proofs.SearchLaws.{Between, between_start, between_on, take_looking, take_falls, all_relaxed, ready_since}
+use Rattle.flow_search.proofs.SearchLaws.{Between}
 use Rattle.flow_search.proofs.search.Given as goal
 
 abbrev pub invariant-loop-keys : goal.invariant-loop-keys

@@ -1,11 +1,8 @@
 use mathlib.Core.Path.{refl, ◌∙◌}
-use Prim.Native.Nat.{◌-◌}
 use native.Mathlib.Omega.{arith}
-use lib.ListN.{length}
 use Rattle.packed_arcs.specs.Entries.{entry}
-use borrow.Author.Rules.{rules}
-use Rattle.flow_residual.proofs.PhaseLaws.{Starting, start_turn}
-use Rattle.flow_search.proofs.SearchLaws.{Queued, queued_none, queued_more, first_most}
+use Rattle.flow_residual.proofs.PhaseLaws.{start_turn}
+use Rattle.flow_search.proofs.SearchLaws.{queued_none, queued_more, first_most}
 use Rattle.flow_search.proofs.start.Goals as goal
 
 pub loop-v-init : goal.loop-v-init

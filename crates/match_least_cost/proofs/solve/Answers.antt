@@ -1,7 +1,5 @@
 use mathlib.Core.Path.{refl, sym, ap, ◌∙◌}
 use lib.ListN.{length}
-use borrow.Author.Rules.{rules}
-use borrow.Author.Tests.{not-true, not-false}
 use Rattle.packed_arcs.specs.Entries.{zero_list}
 use Rattle.arc_index.proofs.Columns.{tails_len}
 use Rattle.match_least_cost.specs.Outcome.{MatchOutcome}
@@ -11,10 +9,10 @@ use Rattle.match_least_cost.proofs.solve.Goals.{Else-not-is_matchable}
 
 facts : (c : Else-not-is_matchable) → Matchable c.args.records.now c.args.h (length c.args.pi.now) (length c.args.x.now)
 facts c =
-    matchable_facts c.args.records.now c.args.h (length c.args.pi.now) (length c.args.x.now) (sym c.is_matchable.ensures ∙ not-false _ c.if-not-is_matchable.false)
+    matchable_facts c.args.records.now c.args.h (length c.args.pi.now) (length c.args.x.now) (sym c.is_matchable.ensures ∙ c.if-not-is_matchable.false)
 
 pub returns-then-not-is_matchable : goal.returns-then-not-is_matchable
-returns-then-not-is_matchable c = MatchOutcome.refused (sym c.is_matchable.ensures ∙ not-true _ c.if-not-is_matchable.true) refl refl
+returns-then-not-is_matchable c = MatchOutcome.refused (sym c.is_matchable.ensures ∙ c.if-not-is_matchable.true) refl refl
 
 pub overflow_sub-n : goal.overflow_sub-n
 overflow_sub-n c = (facts (goal.at.overflow_sub-n c).Else-not-is_matchable).within
@@ -22,17 +20,17 @@ overflow_sub-n c = (facts (goal.at.overflow_sub-n c).Else-not-is_matchable).with
 pub returns-then-h-n : goal.returns-then-h-n
 returns-then-h-n c =
     let F = facts (goal.at.returns-then-h-n c).Else-not-is_matchable in
-    MatchOutcome.found (sym c.is_matchable.ensures ∙ not-false _ c.if-not-is_matchable.false)
+    MatchOutcome.found (sym c.is_matchable.ensures ∙ c.if-not-is_matchable.false)
     (found_too_few c.if-h-n.true c.clear_potentials.ensures
     (c.clear_amounts.ensures ∙ ap zero_list (F.one_each ∙ sym (tails_len c.args.records.now))))
 
 pub find_by_search-requires : goal.find_by_search-requires
 find_by_search-requires c =
     let F = facts (goal.at.find_by_search-requires c).Else-not-is_matchable in
-    let same = c.clear_potentials.auto.0 in
+    let same = c.clear_potentials.auto.pi in
     record { bipartite = bipartite_at refl same F.graph; x_len = (F.one_each, c.clear_potentials.ensures ∙ ap zero_list (sym same)) }
 
 pub returns : goal.returns
 returns c =
-    MatchOutcome.found (sym c.is_matchable.ensures ∙ not-false _ c.if-not-is_matchable.false)
-    (outcome_at refl c.clear_potentials.auto.0 c.find_by_search.ensures)
+    MatchOutcome.found (sym c.is_matchable.ensures ∙ c.if-not-is_matchable.false)
+    (outcome_at refl c.clear_potentials.auto.pi c.find_by_search.ensures)

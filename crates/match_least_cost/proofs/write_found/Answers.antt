@@ -1,6 +1,5 @@
 use mathlib.Core.Path.{sym, ap, ◌∙◌}
 use native.Mathlib.Omega.{arith}
-use borrow.Author.Rules.{rules}
 use Rattle.packed_arcs.specs.Entries.{zero_list}
 use Rattle.arc_index.proofs.Columns.{tails_len}
 use Rattle.match_rounds.proofs.Serving.{pass_state}
@@ -8,7 +7,7 @@ use Rattle.match_least_cost.proofs.Finding.{found_saturating, found_none}
 use Rattle.match_least_cost.proofs.write_found.Goals as goal
 
 pub write_marks-requires : goal.write_marks-requires
-write_marks-requires c = let S = (pass_state c.requires.pass_outcome).0 in (S.graph, S.pairs)
+write_marks-requires c = let S = (pass_state c.requires.pass_outcome).0 in record { bipartite = S.graph; cases = S.pairs }
 
 pub returns-then-t-mate : goal.returns-then-t-mate
 returns-then-t-mate c =

@@ -1,13 +1,12 @@
 -- The loop's invariant: the two cheapest of the arcs in the row before i.
 use mathlib.Core.Path.{◌≡◌, sym, ◌∙◌}
 use mathlib.Core.List.{List}
-use Prim.Native.Nat.{ℕ, ◌-◌}
+use Prim.Native.Nat.{ℕ}
 use native.Mathlib.Omega.{arith}
-use borrow.Author.Rules.{rules}
 use lib.ListN.{length}
-use Rattle.arc_index.specs.Columns.{record_tails, record_heads, record_weights}
+use Rattle.arc_index.specs.Columns.{record_tails, record_heads}
 use Rattle.match_state.proofs.RowSteps.{row_start, row_end, in_rows}
-use Rattle.match_offers.proofs.Costs.{Looking, looking_start, looking_fits, looking_next, looking_end}
+use Rattle.match_offers.proofs.Costs.{looking_start, looking_fits, looking_next, looking_end}
 use Rattle.arc_index.proofs.Columns.{tails_len, heads_len}
 use Rattle.match_offers.proofs.two_cheapest.Goals as goal
 

@@ -1,4 +1,3 @@
-use borrow.Author.Rules.{rules}
 use Rattle.prelude.proofs.Choice.{checks}
 use Rattle.match_offers.proofs.with_arc.Goals as goal
 

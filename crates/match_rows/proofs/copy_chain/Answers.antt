@@ -1,8 +1,7 @@
 -- The loop's invariant: the arcs of the chain before e are copied to the positions below i.
 use mathlib.Core.Path.{sym, subst, subst₂}
-use Prim.Native.Nat.{ℕ, ◌+◌, ◌-◌, ◌<◌}
+use Prim.Native.Nat.{ℕ, ◌+◌, ◌<◌}
 use native.Mathlib.Omega.{arith}
-use borrow.Author.Rules.{rules}
 use lib.ListN.{set}
 use Rattle.arc_index.specs.ArcIndex.{no_arc}
 use Rattle.arc_index.specs.Columns.{record_tails, record_heads, record_weights}

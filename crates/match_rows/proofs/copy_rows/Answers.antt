@@ -1,11 +1,11 @@
 -- The loop's invariant: the rows of the vertices below v are copied.
 use mathlib.Core.Path.{ap, ◌∙◌}
-use Prim.Native.Nat.{ℕ, ◌+◌, ◌-◌}
+use Prim.Native.Nat.{ℕ, ◌+◌}
 use native.Mathlib.Omega.{arith}
 use lib.ListN.{length-set}
 use Rattle.arc_index.specs.Columns.{record_tails, record_heads, record_weights}
 use Rattle.arc_index.proofs.Columns.{heads_len}
-use Rattle.match_rows.proofs.AllRows.{RowsBelow, rows_start, rows_next, rows_end}
+use Rattle.match_rows.proofs.AllRows.{rows_start, rows_next, rows_end}
 use Rattle.match_rows.proofs.copy_rows.Goals as goal
 
 pub loop-v-init : goal.loop-v-init

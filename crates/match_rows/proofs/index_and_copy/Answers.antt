@@ -1,5 +1,4 @@
 use mathlib.Core.Path.{sym, subst}
-use borrow.Author.Rules.{rules}
 use Rattle.arc_index.specs.Chains.{Chains}
 use Rattle.arc_index.specs.Columns.{record_heads}
 use Rattle.arc_index.specs.declared.End.TheVariants.{Head}

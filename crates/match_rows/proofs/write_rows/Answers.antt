@@ -2,7 +2,6 @@ use mathlib.Core.Path.{sym}
 use Prim.Native.Nat.{◌+◌}
 use native.Mathlib.Omega.{arith}
 use lib.ListN.{length}
-use borrow.Author.Rules.{rules}
 use Rattle.packed_arcs.proofs.LentParts.{zero_list_length}
 use Rattle.match_rows.proofs.write_rows.Goals as goal
 

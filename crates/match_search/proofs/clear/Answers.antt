@@ -1,11 +1,10 @@
 use mathlib.Core.Path.{◌≡◌, refl, ap, ◌∙◌}
-use Prim.Native.Nat.{ℕ, ◌-◌}
+use Prim.Native.Nat.{ℕ}
 use native.Mathlib.Omega.{arith}
-use lib.ListN.{length, replicate, length-replicate, get_or-replicate}
-use Rattle.prelude.proofs.Filling.{Filling, fill_start, fill_turn}
-use Rattle.packed_arcs.proofs.ListLoops.{Clearing, clear_start, clear_turn, clear_end, filled_as}
+use lib.ListN.{replicate, length-replicate, get_or-replicate}
+use Rattle.prelude.proofs.Filling.{fill_start, fill_turn}
+use Rattle.packed_arcs.proofs.ListLoops.{clear_start, clear_turn, clear_end, filled_as}
 use Rattle.vertex_queue.specs.VertexQueue.{waits_not}
-use borrow.Author.Rules.{rules}
 use Rattle.match_search.proofs.clear.Goals as goal
 
 pub loop-a-init : goal.loop-a-init

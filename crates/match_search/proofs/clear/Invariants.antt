@@ -1,11 +1,9 @@
-use mathlib.Core.Path.{◌≡◌, refl, ap, ◌∙◌}
-use Prim.Native.Nat.{ℕ, ◌-◌}
-use native.Mathlib.Omega.{arith}
-use lib.ListN.{length, replicate, length-replicate, get_or-replicate}
-use Rattle.prelude.proofs.Filling.{Filling, fill_start, fill_turn}
-use Rattle.packed_arcs.proofs.ListLoops.{Clearing, clear_start, clear_turn, clear_end, filled_as}
+use mathlib.Core.Path.{◌≡◌}
+use Prim.Native.Nat.{◌-◌}
+use lib.ListN.{length}
+use Rattle.prelude.proofs.Filling.{Filling}
+use Rattle.packed_arcs.proofs.ListLoops.{Clearing}
 use Rattle.vertex_queue.specs.VertexQueue.{waits_not}
-use borrow.Author.Rules.{rules}
 use Rattle.match_search.proofs.clear.Given as goal
 
 abbrev pub invariant-loop-a : goal.invariant-loop-a

@@ -1,4 +1,3 @@
-use borrow.Author.Rules.{rules}
 use borrow.Author.Tests.{lt-ltb, le-ltb}
 use Rattle.arc_index.specs.ArcIndex.{no_arc}
 use Rattle.match_search.proofs.near_distance.Goals as goal

@@ -1,15 +1,9 @@
-use mathlib.Core.Path.{sym, subst}
-use Prim.Native.Nat.{ℕ, ◌-◌, ◌<◌}
-use native.Mathlib.Omega.{arith}
+use Prim.Native.Nat.{◌-◌}
 use lib.ListN.{length}
-use borrow.Author.Rules.{rules}
-use Rattle.packed_arcs.specs.Entries.{entry}
 use Rattle.arc_index.specs.Columns.{record_tails, record_heads, record_weights}
 use Rattle.match_state.specs.Rows.{Rows}
-use Rattle.match_state.specs.Matching.{State}
 use Rattle.match_slack.specs.Slack.{Slack}
-use Rattle.arc_index.proofs.Columns.{tails_len}
-use Rattle.match_search.proofs.SearchSteps.{Growing, growing_start, small, few, ended, left, matched_arc, growing_on}
+use Rattle.match_search.proofs.SearchSteps.{Growing}
 use Rattle.match_search.proofs.search.Given as goal
 
 abbrev pub invariant-loop-keys : goal.invariant-loop-keys

@@ -1,9 +1,6 @@
 -- The loop's invariant: the least of what is noted for the exposed vertices below a.
-use Prim.Native.Nat.{◌-◌}
 use native.Mathlib.Omega.{arith}
-use lib.ListN.{length}
-use borrow.Author.Rules.{rules}
-use Rattle.match_slack.proofs.Extremes.{Floor, floor_turn}
+use Rattle.match_slack.proofs.Extremes.{floor_turn}
 use Rattle.match_slack.proofs.floor_of.Goals as goal
 
 pub loop-a-preserved : goal.loop-a-preserved

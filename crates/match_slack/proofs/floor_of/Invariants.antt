@@ -1,9 +1,7 @@
 -- The loop's invariant: the least of what is noted for the exposed vertices below a.
 use Prim.Native.Nat.{◌-◌}
-use native.Mathlib.Omega.{arith}
 use lib.ListN.{length}
-use borrow.Author.Rules.{rules}
-use Rattle.match_slack.proofs.Extremes.{Floor, floor_turn}
+use Rattle.match_slack.proofs.Extremes.{Floor}
 use Rattle.match_slack.proofs.floor_of.Given as goal
 
 abbrev pub invariant-loop-a : goal.invariant-loop-a

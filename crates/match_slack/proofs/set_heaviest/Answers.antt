@@ -1,10 +1,8 @@
 -- The loop's invariant: the greatest weight stands below a.
-use mathlib.Core.Path.{◌≡◌, refl}
-use Prim.Native.Nat.{◌-◌}
+use mathlib.Core.Path.{refl}
 use native.Mathlib.Omega.{arith}
-use lib.ListN.{length, length-replicate, get_or-replicate}
-use borrow.Author.Rules.{rules}
-use Rattle.prelude.proofs.Filling.{Filling, fill_start, fill_turn}
+use lib.ListN.{length-replicate, get_or-replicate}
+use Rattle.prelude.proofs.Filling.{fill_start, fill_turn}
 use Rattle.packed_arcs.proofs.ListLoops.{filled_as}
 use Rattle.match_slack.proofs.set_heaviest.Goals as goal
 

@@ -1,11 +1,8 @@
 -- The loop's invariant: the greatest weight stands below a.
-use mathlib.Core.Path.{◌≡◌, refl}
+use mathlib.Core.Path.{◌≡◌}
 use Prim.Native.Nat.{◌-◌}
-use native.Mathlib.Omega.{arith}
-use lib.ListN.{length, length-replicate, get_or-replicate}
-use borrow.Author.Rules.{rules}
-use Rattle.prelude.proofs.Filling.{Filling, fill_start, fill_turn}
-use Rattle.packed_arcs.proofs.ListLoops.{filled_as}
+use lib.ListN.{length}
+use Rattle.prelude.proofs.Filling.{Filling}
 use Rattle.match_slack.proofs.set_heaviest.Given as goal
 
 abbrev pub invariant-loop-a : goal.invariant-loop-a

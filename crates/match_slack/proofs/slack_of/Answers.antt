@@ -1,4 +1,3 @@
-use borrow.Author.Rules.{rules}
 use Rattle.match_slack.proofs.Extremes.{between}
 use Rattle.match_slack.proofs.slack_of.Goals as goal
 

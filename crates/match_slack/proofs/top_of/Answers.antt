@@ -1,9 +1,6 @@
 -- The loop's invariant: the greatest potential of the matched vertices from h on and below b.
-use Prim.Native.Nat.{◌-◌}
 use native.Mathlib.Omega.{arith}
-use lib.ListN.{length}
-use borrow.Author.Rules.{rules}
-use Rattle.match_slack.proofs.Extremes.{Top, top_turn}
+use Rattle.match_slack.proofs.Extremes.{top_turn}
 use Rattle.match_slack.proofs.top_of.Goals as goal
 
 pub loop-b-preserved : goal.loop-b-preserved

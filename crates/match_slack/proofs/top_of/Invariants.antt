@@ -1,9 +1,7 @@
 -- The loop's invariant: the greatest potential of the matched vertices from h on and below b.
 use Prim.Native.Nat.{◌-◌}
-use native.Mathlib.Omega.{arith}
 use lib.ListN.{length}
-use borrow.Author.Rules.{rules}
-use Rattle.match_slack.proofs.Extremes.{Top, top_turn}
+use Rattle.match_slack.proofs.Extremes.{Top}
 use Rattle.match_slack.proofs.top_of.Given as goal
 
 abbrev pub invariant-loop-b : goal.invariant-loop-b

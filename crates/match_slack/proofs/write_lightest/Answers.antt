@@ -1,13 +1,12 @@
 -- The loop's invariant: no arc below e weighs less than what is noted for its tail.
 use mathlib.Core.Path.{◌≡◌, refl, ap, ◌∙◌}
 use mathlib.Core.List.{List}
-use Prim.Native.Nat.{ℕ, ◌-◌, ◌<◌, ◌≤◌}
+use Prim.Native.Nat.{ℕ, ◌<◌, ◌≤◌}
 use native.Mathlib.Omega.{arith}
 use lib.ListN.{length, length-set, replicate, length-replicate}
-use borrow.Author.Rules.{rules}
 use Rattle.arc_index.specs.Columns.{record_tails, record_weights}
 use Rattle.arc_index.proofs.Columns.{tails_len, tail_is}
-use Rattle.match_slack.proofs.Extremes.{LightestBelow, lightest_turn}
+use Rattle.match_slack.proofs.Extremes.{lightest_turn}
 use Rattle.match_slack.proofs.write_lightest.Goals as goal
 use Rattle.match_slack.proofs.write_lightest.Goals.{After-lesser, After-tail_at-a}
 

@@ -1,13 +1,9 @@
 -- The loop's invariant: no arc below e weighs less than what is noted for its tail.
-use mathlib.Core.Path.{◌≡◌, refl, ap, ◌∙◌}
-use mathlib.Core.List.{List}
-use Prim.Native.Nat.{ℕ, ◌-◌, ◌<◌, ◌≤◌}
-use native.Mathlib.Omega.{arith}
-use lib.ListN.{length, length-set, length-replicate}
-use borrow.Author.Rules.{rules}
+use mathlib.Core.Path.{◌≡◌}
+use Prim.Native.Nat.{◌-◌}
+use lib.ListN.{length}
 use Rattle.arc_index.specs.Columns.{record_tails, record_weights}
-use Rattle.arc_index.proofs.Columns.{tails_len, tail_is}
-use Rattle.match_slack.proofs.Extremes.{LightestBelow, lightest_turn}
+use Rattle.match_slack.proofs.Extremes.{LightestBelow}
 use Rattle.match_slack.proofs.write_lightest.Given as goal
 
 abbrev pub invariant-loop-e : goal.invariant-loop-e

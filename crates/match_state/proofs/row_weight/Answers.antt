@@ -1,5 +1,4 @@
 use mathlib.Core.Path.{ap}
-use borrow.Author.Rules.{rules}
 use Rattle.arc_records.specs.Arcs.{Arc}
 use Rattle.match_state.proofs.row_weight.Goals as goal
 

@@ -1,5 +1,4 @@
 use mathlib.Core.Path.{sym, ap, ◌∙◌}
-use borrow.Author.Rules.{rules}
 use Rattle.arc_records.specs.Arcs.{Arc}
 use Rattle.arc_index.proofs.Columns.{tail_is}
 use Rattle.match_state.proofs.tail_at.Goals as goal

@@ -1,6 +1,5 @@
 use mathlib.Core.Path.{refl}
 use native.Mathlib.Omega.{arith}
-use borrow.Author.Rules.{rules}
 use Rattle.match_tree.specs.Tree.{Lowered}
 use Rattle.match_tree.proofs.lower.Goals as goal
 

@@ -1,6 +1,5 @@
 use mathlib.Core.Path.{ap}
 use native.Mathlib.Omega.{arith}
-use borrow.Author.Rules.{rules}
 use Rattle.packed_arcs.specs.Entries.{entry}
 use Rattle.match_tree.proofs.relax.Goals as goal
 

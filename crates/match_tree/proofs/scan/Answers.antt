@@ -1,5 +1,4 @@
 use native.Mathlib.Omega.{arith}
-use borrow.Author.Rules.{rules}
 use Rattle.arc_index.proofs.Columns.{tails_len}
 use Rattle.match_state.proofs.RowSteps.{parted_again}
 use Rattle.match_tree.proofs.scan.Goals as goal

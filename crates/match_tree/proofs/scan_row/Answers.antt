@@ -1,12 +1,7 @@
-use mathlib.Core.Path.{◌≡◌, refl, sym}
-use mathlib.Core.Logic.{⊎_elim}
-use Prim.Native.Nat.{◌-◌}
+use mathlib.Core.Path.{refl, sym}
 use native.Mathlib.Omega.{arith}
-use lib.ListN.{length}
-use borrow.Author.Rules.{rules}
-use Rattle.arc_index.specs.Columns.{record_tails, record_heads, record_weights}
 use Rattle.match_state.proofs.RowSteps.{in_rows}
-use Rattle.match_tree.proofs.Scans.{Scanning, ready, ha, tail, scan_start, scan_on, scan_exposed, scan_found, scan_end}
+use Rattle.match_tree.proofs.Scans.{ready, ha, tail, scan_start, scan_on, scan_exposed, scan_found, scan_end}
 use Rattle.match_tree.proofs.scan_row.Goals as goal
 use Rattle.match_tree.proofs.scan_row.Goals.{else-relax, then-relax+else-best-k}
 

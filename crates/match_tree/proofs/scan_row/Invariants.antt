@@ -1,12 +1,8 @@
-use mathlib.Core.Path.{◌≡◌, refl, sym}
-use mathlib.Core.Logic.{⊎_elim}
+use mathlib.Core.Path.{◌≡◌}
 use Prim.Native.Nat.{◌-◌}
-use native.Mathlib.Omega.{arith}
 use lib.ListN.{length}
-use borrow.Author.Rules.{rules}
 use Rattle.arc_index.specs.Columns.{record_tails, record_heads, record_weights}
-use Rattle.match_state.proofs.RowSteps.{in_rows}
-use Rattle.match_tree.proofs.Scans.{Scanning, ready, ha, tail, scan_start, scan_on, scan_exposed, scan_found, scan_end}
+use Rattle.match_tree.proofs.Scans.{Scanning}
 use Rattle.match_tree.proofs.scan_row.Given as goal
 
 abbrev pub invariant-loop-i : goal.invariant-loop-i

@@ -4,9 +4,9 @@ use Prim.Native.Nat.{ℕ, ◌-◌, ◌<◌}
 use native.Mathlib.Omega.{arith}
 use lib.ListN.{length, length-replicate}
 use Rattle.packed_arcs.specs.Entries.{entry, zero_list}
-use Rattle.arc_index.specs.Columns.{record_tails, record_heads}
+use Rattle.arc_index.specs.Columns.{record_tails}
 use Rattle.arc_index.proofs.Columns.{tails_len}
-use Rattle.order_cycle.proofs.Cycles.{Marking, AtIndex, at_index, AtEnd, at_end, marking_none, marking_more, circulates}
+use Rattle.order_cycle.proofs.Cycles.{AtIndex, at_index, AtEnd, at_end, marking_none, marking_more, circulates}
 use Rattle.order_cycle.proofs.mark.Goals as goal
 use Rattle.order_cycle.proofs.mark.Goals.{After-tail_at-w, In-loop-i, Start}
 
@@ -23,12 +23,12 @@ closing : (c : After-tail_at-w)
 closing c =
     c.tail_at-w.ensures ∙ ap (entry (record_tails c.args.records.now)) c.place.ensures
 
-at-closing : (c : After-tail_at-w) → AtEnd c.args.spot.now c.tail_at-w.result
-at-closing c = at_end c.requires.arcs c.requires.closed_path _ _ (closing c) refl
+at_closing : (c : After-tail_at-w) → AtEnd c.args.spot.now c.tail_at-w.result
+at_closing c = at_end c.requires.arcs c.requires.closed_path _ _ (closing c) refl
 
 -- in the loop, at the index i
 here : (c : In-loop-i) → AtIndex c.args.records.now c.args.into.now c.args.path.now c.loop-i.i
-here c = at_path c.before.before.before.before.before.before.before.before.before.before.before.before c.loop-i.i c.loop-i-test.true
+here c = let rs = c.args.records.now in at_index c.requires.arcs c.requires.closed_path rs (tails_len rs) c.loop-i.i c.loop-i-test.true
 
 pub loop-i-init : goal.loop-i-init
 loop-i-init c =
@@ -66,13 +66,13 @@ pub tail_at-w-requires : goal.tail_at-w-requires
 tail_at-w-requires c = omega (arith, c.place.ensures, at_top (goal.at.tail_at-w-requires c).Start)
 
 pub offset_bounds-spot-w : goal.offset_bounds-spot-w
-offset_bounds-spot-w c = omega (arith, at-closing (goal.at.offset_bounds-spot-w c).After-tail_at-w)
+offset_bounds-spot-w c = omega (arith, at_closing (goal.at.offset_bounds-spot-w c).After-tail_at-w)
 
 pub bounds-spot-w : goal.bounds-spot-w
-bounds-spot-w c = (at-closing (goal.at.bounds-spot-w c).After-tail_at-w).inside
+bounds-spot-w c = (at_closing (goal.at.bounds-spot-w c).After-tail_at-w).inside
 
 pub overflow_sub-i : goal.overflow_sub-i
-overflow_sub-i c = omega (arith, at-closing (goal.at.overflow_sub-i c).After-tail_at-w)
+overflow_sub-i c = omega (arith, at_closing (goal.at.overflow_sub-i c).After-tail_at-w)
 
 pub offset_bounds-path-i : goal.offset_bounds-path-i
 offset_bounds-path-i c = omega (arith, here (goal.at.offset_bounds-path-i c).In-loop-i)

@@ -1,10 +1,6 @@
 -- The loop's invariant: every vertex below v has a rank.
-use Prim.Native.Nat.{◌-◌}
 use native.Mathlib.Omega.{arith}
-use lib.ListN.{length}
 use borrow.Author.Count.{below_more}
-use borrow.Author.Rules.{rules}
-use Rattle.order_path.specs.Steps.{AllRanked}
 use Rattle.order_ranking.proofs.first_unranked.Goals as goal
 
 pub loop-v-init : goal.loop-v-init

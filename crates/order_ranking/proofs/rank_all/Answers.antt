@@ -6,7 +6,7 @@ use lib.ListN.{length}
 use Rattle.packed_arcs.specs.Entries.{entry}
 use Rattle.arc_index.specs.Columns.{record_tails, record_heads}
 use Rattle.order_path.specs.Steps.{Arcs, Searching}
-use Rattle.order_path.proofs.Rankings.{Progress, AtLast, at_last, SameLengths, same_lengths, arcs_as, chained_as, searching_none, ranking_none, searched_all, searched_closed, one_left, progress_more}
+use Rattle.order_path.proofs.Rankings.{AtLast, at_last, SameLengths, same_lengths, arcs_as, chained_as, searching_none, ranking_none, searched_all, searched_closed, one_left, progress_more}
 use Rattle.order_ranking.proofs.rank_all.Goals as goal
 use Rattle.order_ranking.proofs.rank_all.Goals.{After-climb-len, At-loop-ranks, Start}
 
@@ -20,19 +20,21 @@ arcs c = arcs_as c.loop-ranks.invariant.size c.requires.chained.0.arcs
 
 lengths : (c : At-loop-ranks)
     → SameLengths c.loop-ranks.into c.loop-ranks.path c.loop-ranks.spot c.args.into.now c.args.path.now c.args.spot.now
-lengths c = same_lengths c.loop-ranks.invariant.size c.loop-ranks.invariant.searching (at_first c.before.before.before.before.before.before.before)
+lengths c =
+    same_lengths c.loop-ranks.invariant.size c.loop-ranks.invariant.searching
+    (searching_none c.requires.chained.0 c.requires.chained.1 c.requires.ranks_value.1 c.requires.ranks_value.2)
 
 -- once the path cannot grow
 here : (c : After-climb-len)
-    → let path = c.climb-len.new.1.1.1.1.1.1.0 in
-    AtLast c.loop-ranks.ranks c.climb-len.new.1.1.1.1.1.0 path c.climb-len.new.1.1.1.1.1.1.1.0 c.loop-ranks.r c.climb-len.result (entry path (c.climb-len.result - 1))
+    → AtLast c.loop-ranks.ranks c.climb-len.new.into c.climb-len.new.path c.climb-len.new.spot c.loop-ranks.r c.climb-len.result (entry c.climb-len.new.path (c.climb-len.result - 1))
 here c =
-    at_last (arcs (c.before.before.before.before.before.before.before.before)) c.climb-len.ensures c.loop-ranks.invariant.ranking
+    at_last (arcs_as c.loop-ranks.invariant.size c.requires.chained.0.arcs) c.climb-len.ensures c.loop-ranks.invariant.ranking
 
-lengths-after : (c : After-climb-len)
-    → SameLengths c.climb-len.new.1.1.1.1.1.0 c.climb-len.new.1.1.1.1.1.1.0 c.climb-len.new.1.1.1.1.1.1.1.0 c.args.into.now c.args.path.now c.args.spot.now
-lengths-after c =
-    same_lengths c.loop-ranks.invariant.size c.climb-len.ensures.searching (at_first c.before.before.before.before.before.before.before.before.before.before.before.before.before.before.before)
+lengths_after : (c : After-climb-len)
+    → SameLengths c.climb-len.new.into c.climb-len.new.path c.climb-len.new.spot c.args.into.now c.args.path.now c.args.spot.now
+lengths_after c =
+    same_lengths c.loop-ranks.invariant.size c.climb-len.ensures.searching
+    (searching_none c.requires.chained.0 c.requires.chained.1 c.requires.ranks_value.1 c.requires.ranks_value.2)
 
 pub loop-ranks-init : goal.loop-ranks-init
 loop-ranks-init c =
@@ -40,7 +42,7 @@ loop-ranks-init c =
 
 pub returns-then-ranks-root : goal.returns-then-ranks-root
 returns-then-ranks-root c =
-    searched_all (arcs ((goal.at.returns-then-ranks-root c).After-slice_known-4-1)) c.loop-ranks.invariant.ranking c.first_unranked-root.ensures.passed c.if-ranks-root.true
+    searched_all (arcs ((goal.at.returns-then-ranks-root c).At-loop-ranks)) c.loop-ranks.invariant.ranking c.first_unranked-root.ensures.passed c.if-ranks-root.true
 
 pub climb-len-requires : goal.climb-len-requires
 climb-len-requires c =
@@ -48,11 +50,11 @@ climb-len-requires c =
 
 pub loop-ranks-smaller : goal.loop-ranks-smaller
 loop-ranks-smaller c =
-    omega (arith, one_left (arcs ((goal.at.loop-ranks-smaller c).After-slice_known-3-1)) c.climb-len.ensures c.loop-ranks.invariant.ranking _ refl c.if-into-v-lt-NO_ARC.false, c.loop-ranks.invariant.size)
+    omega (arith, one_left (arcs ((goal.at.loop-ranks-smaller c).At-loop-ranks)) c.climb-len.ensures c.loop-ranks.invariant.ranking _ refl c.if-into-v-lt-NO_ARC.false, c.loop-ranks.invariant.size)
 
 pub loop-ranks-preserved : goal.loop-ranks-preserved
 loop-ranks-preserved c =
-    progress_more (arcs ((goal.at.loop-ranks-preserved c).After-slice_known-3-1)) c.climb-len.ensures c.loop-ranks.invariant.ranking _ refl c.if-into-v-lt-NO_ARC.false c.loop-ranks.invariant.size
+    progress_more (arcs ((goal.at.loop-ranks-preserved c).At-loop-ranks)) c.climb-len.ensures c.loop-ranks.invariant.ranking _ refl c.if-into-v-lt-NO_ARC.false c.loop-ranks.invariant.size
     c.first_unranked-root.ensures.passed
 
 pub first_unranked-root-requires : goal.first_unranked-root-requires
@@ -62,13 +64,13 @@ pub shape_of-ranks-then-ranks-root : goal.shape_of-ranks-then-ranks-root
 shape_of-ranks-then-ranks-root c = c.loop-ranks.invariant.size
 
 pub shape_of-into-then-ranks-root : goal.shape_of-into-then-ranks-root
-shape_of-into-then-ranks-root c = (lengths (goal.at.shape_of-into-then-ranks-root c).After-slice_known-4-1).into_same
+shape_of-into-then-ranks-root c = (lengths (goal.at.shape_of-into-then-ranks-root c).At-loop-ranks).into_same
 
 pub shape_of-path-then-ranks-root : goal.shape_of-path-then-ranks-root
-shape_of-path-then-ranks-root c = (lengths (goal.at.shape_of-path-then-ranks-root c).After-slice_known-4-1).path_same
+shape_of-path-then-ranks-root c = (lengths (goal.at.shape_of-path-then-ranks-root c).At-loop-ranks).path_same
 
 pub shape_of-spot-then-ranks-root : goal.shape_of-spot-then-ranks-root
-shape_of-spot-then-ranks-root c = (lengths (goal.at.shape_of-spot-then-ranks-root c).After-slice_known-4-1).spot_same
+shape_of-spot-then-ranks-root c = (lengths (goal.at.shape_of-spot-then-ranks-root c).At-loop-ranks).spot_same
 
 pub overflow_sub-v : goal.overflow_sub-v
 overflow_sub-v c = (here (goal.at.overflow_sub-v c).After-climb-len).some
@@ -86,16 +88,16 @@ pub bounds-into-v : goal.bounds-into-v
 bounds-into-v c = (here (goal.at.bounds-into-v c).After-climb-len).in_into
 
 pub shape_of-ranks-then-into-v-lt-NO_ARC : goal.shape_of-ranks-then-into-v-lt-NO_ARC
-shape_of-ranks-then-into-v-lt-NO_ARC c = c.loop-ranks.inv.size
+shape_of-ranks-then-into-v-lt-NO_ARC c = c.loop-ranks.invariant.size
 
 pub shape_of-into-then-into-v-lt-NO_ARC : goal.shape_of-into-then-into-v-lt-NO_ARC
-shape_of-into-then-into-v-lt-NO_ARC c = (lengths-after (goal.at.shape_of-into-then-into-v-lt-NO_ARC c).After-climb-len).into_same
+shape_of-into-then-into-v-lt-NO_ARC c = (lengths_after (goal.at.shape_of-into-then-into-v-lt-NO_ARC c).After-climb-len).into_same
 
 pub shape_of-path-then-into-v-lt-NO_ARC : goal.shape_of-path-then-into-v-lt-NO_ARC
-shape_of-path-then-into-v-lt-NO_ARC c = (lengths-after (goal.at.shape_of-path-then-into-v-lt-NO_ARC c).After-climb-len).path_same
+shape_of-path-then-into-v-lt-NO_ARC c = (lengths_after (goal.at.shape_of-path-then-into-v-lt-NO_ARC c).After-climb-len).path_same
 
 pub shape_of-spot-then-into-v-lt-NO_ARC : goal.shape_of-spot-then-into-v-lt-NO_ARC
-shape_of-spot-then-into-v-lt-NO_ARC c = (lengths-after (goal.at.shape_of-spot-then-into-v-lt-NO_ARC c).After-climb-len).spot_same
+shape_of-spot-then-into-v-lt-NO_ARC c = (lengths_after (goal.at.shape_of-spot-then-into-v-lt-NO_ARC c).After-climb-len).spot_same
 
 pub returns-then-into-v-lt-NO_ARC : goal.returns-then-into-v-lt-NO_ARC
 returns-then-into-v-lt-NO_ARC c = searched_closed _ c.climb-len.ensures refl c.if-into-v-lt-NO_ARC.true

@@ -1,5 +1,4 @@
-use mathlib.Core.Path.{sym, ap}
-use borrow.Author.Rules.{rules}
+use Rattle.std.proofs.Common.{sym, ap}
 use Rattle.state.specs.Answers.{said}
 use Rattle.state.specs.declared.Response.{Response}
 use Rattle.panel_export.specs.Codes.{said_code}

@@ -1,5 +1,4 @@
-use mathlib.Core.Path.{◌∙◌, ap, subst}
-use borrow.Author.Rules.{rules}
+use Rattle.std.proofs.Common.{◌∙◌, ap, subst}
 use Rattle.format.specs.Replies.{WriterSaid}
 use Rattle.helper.specs.Helper.{BufferAfter}
 use Rattle.panel_export.specs.Codes.{reply_code}

@@ -1,5 +1,4 @@
-use mathlib.Core.Path.{◌∙◌, ap}
-use borrow.Author.Rules.{rules}
+use Rattle.std.proofs.Common.{◌∙◌, ap}
 use Rattle.panel_export.specs.Codes.{said_code}
 use Rattle.panel_export.proofs.panel_judge.Goals as goal
 

@@ -1,5 +1,4 @@
-use mathlib.Core.Path.{sym, ap}
-use borrow.Author.Rules.{rules}
+use Rattle.std.proofs.Common.{sym, ap}
 use Rattle.format.specs.Replies.{writer_said}
 use Rattle.format.specs.declared.Written.{Written}
 use Rattle.panel_export.specs.Codes.{reply_code}

@@ -1,4 +1,3 @@
-use borrow.Author.Rules.{rules}
 use Rattle.cert_instances.proofs.CertifyCases.{by_number}
 use Rattle.solver_export.proofs.solver_certify.Goals as goal
 

@@ -1,8 +1,5 @@
 -- `file_cases::cases::run` is safe and ends: it goes through the script.
-use Prim.Native.Nat.{◌-◌}
-use native.Mathlib.Omega.{arith}
-use lib.ListN.{length}
-use borrow.Author.Rules.{rules}
+use Rattle.std.proofs.Common.{arith}
 use Rattle.file_cases.proofs.cases.run.Goals as goal
 
 pub loop-i-init : goal.loop-i-init

@@ -1,7 +1,5 @@
 -- `file_cases::cases::words` is safe and ends: it goes through the line.
-use Prim.Native.Nat.{◌-◌}
-use native.Mathlib.Omega.{arith}
-use borrow.Author.Rules.{rules}
+use Rattle.std.proofs.Common.{arith}
 use Rattle.file_cases.proofs.cases.words.Goals as goal
 
 pub loop-i-init : goal.loop-i-init

@@ -1,7 +1,5 @@
 -- `file_cases::cases::words` is safe and ends: it goes through the line.
-use Prim.Native.Nat.{◌-◌}
-use native.Mathlib.Omega.{arith}
-use borrow.Author.Rules.{rules}
+use Rattle.std.proofs.Common.{◌-◌}
 use Rattle.file_cases.proofs.cases.words.Given as goal
 
 abbrev pub invariant-loop-i : goal.invariant-loop-i

@@ -1,7 +1,5 @@
 -- `file_cases::print::counts` is safe and ends: it counts to 30.
-use Prim.Native.Nat.{◌-◌, ◌≤◌}
-use native.Mathlib.Omega.{arith}
-use borrow.Author.Rules.{rules}
+use Rattle.std.proofs.Common.{◌-◌, ◌≤◌}
 use Rattle.file_cases.proofs.print.counts.Given as goal
 
 abbrev pub invariant-loop-k : goal.invariant-loop-k

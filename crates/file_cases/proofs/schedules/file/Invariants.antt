@@ -1,7 +1,5 @@
 -- `file_cases::schedules::file` is safe and ends: it goes through the bytes.
-use Prim.Native.Nat.{◌-◌}
-use native.Mathlib.Omega.{arith}
-use borrow.Author.Rules.{rules}
+use Rattle.std.proofs.Common.{◌-◌}
 use Rattle.file_cases.proofs.schedules.file.Given as goal
 
 abbrev pub invariant-loop-i : goal.invariant-loop-i

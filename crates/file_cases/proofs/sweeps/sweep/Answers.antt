@@ -1,7 +1,5 @@
 -- `file_cases::sweeps::sweep` is safe and ends: it goes through the variations.
-use Prim.Native.Nat.{◌-◌}
-use native.Mathlib.Omega.{arith}
-use borrow.Author.Rules.{rules}
+use Rattle.std.proofs.Common.{arith}
 use Rattle.file_cases.proofs.sweeps.sweep.Goals as goal
 
 pub loop-k-init : goal.loop-k-init

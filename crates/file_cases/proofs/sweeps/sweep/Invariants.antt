@@ -1,7 +1,5 @@
 -- `file_cases::sweeps::sweep` is safe and ends: it goes through the variations.
-use Prim.Native.Nat.{◌-◌}
-use native.Mathlib.Omega.{arith}
-use borrow.Author.Rules.{rules}
+use Rattle.std.proofs.Common.{◌-◌}
 use Rattle.file_cases.proofs.sweeps.sweep.Given as goal
 
 abbrev pub invariant-loop-k : goal.invariant-loop-k

@@ -1,7 +1,5 @@
 -- `file_cases::windows::add` is safe and ends: it counts up to the windows that there are then.
-use Prim.Native.Nat.{◌-◌}
-use native.Mathlib.Omega.{arith}
-use borrow.Author.Rules.{rules}
+use Rattle.std.proofs.Common.{arith}
 use Rattle.file_cases.proofs.windows.add.Goals as goal
 
 pub loop-i-init : goal.loop-i-init

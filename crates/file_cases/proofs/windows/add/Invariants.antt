@@ -1,7 +1,5 @@
 -- `file_cases::windows::add` is safe and ends: it counts up to the windows that there are then.
-use Prim.Native.Nat.{◌-◌}
-use native.Mathlib.Omega.{arith}
-use borrow.Author.Rules.{rules}
+use Rattle.std.proofs.Common.{◌-◌}
 use Rattle.file_cases.proofs.windows.add.Given as goal
 
 abbrev pub invariant-loop-i : goal.invariant-loop-i

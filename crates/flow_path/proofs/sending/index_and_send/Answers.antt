@@ -1,4 +1,3 @@
-use borrow.Author.Rules.{rules}
 use native.Mathlib.Omega.{arith}
 use Rattle.packed_arcs.proofs.ArcColumns.{columns}
 use Rattle.flow_path.proofs.Outcomes.{indexed_tails}

@@ -1,4 +1,3 @@
-use borrow.Author.Rules.{rules}
 use mathlib.Core.Path.{refl}
 use Rattle.flow_path.specs.Sending.SearchAndPush.{away, reached}
 use Rattle.flow_search.specs.Search.BackwardIndex.{idle}

@@ -1,4 +1,3 @@
-use borrow.Author.Rules.{rules}
 use Rattle.match_rows.proofs.OtherOrder.{exchanges}
 use Rattle.match_rows.proofs.part.exchange.Goals as goal
 

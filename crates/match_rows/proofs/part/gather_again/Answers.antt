@@ -1,5 +1,4 @@
 use native.Mathlib.Omega.{arith}
-use borrow.Author.Rules.{rules}
 use Rattle.match_state.proofs.RowSteps.{row_start}
 use Rattle.match_rows.proofs.LightestLast.{rows_loosened, since_before, none_exposed, counted, both_in_rows, lightest_last, one_front, next_moved, next_lightest, next_in_rows, two_front}
 use Rattle.match_rows.proofs.part.gather_again.Goals as goal

@@ -1,13 +1,7 @@
 -- The loop's invariant: the arcs before i come from exposed vertices, and the two lightest of them are known.
-use mathlib.Core.Path.{sym, ap, ◌∙◌}
 use Prim.Native.Nat.{◌-◌}
-use native.Mathlib.Omega.{arith}
-use borrow.Author.Rules.{rules}
-use Rattle.packed_arcs.specs.Entries.{entry}
 use Rattle.arc_index.specs.Columns.{record_tails, record_heads, record_weights}
-use Rattle.arc_index.proofs.Columns.{heads_len}
-use Rattle.match_state.proofs.RowSteps.{row_start}
-use Rattle.match_rows.proofs.Gathering.{Gathering, gathering_start, in_rows, last_in_rows, low, tail_below, lighter, between, heavier, set_aside, gathering_end}
+use Rattle.match_rows.proofs.Gathering.{Gathering}
 use Rattle.match_rows.proofs.part.gather_exposed.Given as goal
 
 abbrev pub invariant-loop-i : goal.invariant-loop-i

@@ -1,5 +1,4 @@
 use native.Mathlib.Omega.{arith}
-use borrow.Author.Rules.{rules}
 use lib.ListN.{length-set}
 use Rattle.match_rows.proofs.OtherOrder.{notes}
 use Rattle.match_rows.proofs.part.note.Goals as goal

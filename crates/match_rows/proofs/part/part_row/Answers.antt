@@ -1,5 +1,4 @@
 use native.Mathlib.Omega.{arith}
-use borrow.Author.Rules.{rules}
 use Rattle.arc_index.proofs.Columns.{heads_len}
 use Rattle.match_rows.proofs.StillExposed.{may_look, fits, last_found, next_found}
 use Rattle.match_rows.proofs.part.part_row.Goals as goal

@@ -1,22 +1,18 @@
 -- The loop's invariant: the records from e on decide.
 use mathlib.Core.Path.{refl, sym, ◌∙◌}
-use Prim.Native.Nat.{◌-◌}
-use lib.ListN.{length}
-use borrow.Author.Rules.{rules}
-use borrow.Author.Tests.{not-true, not-false}
-use Rattle.packed_arcs.proofs.ListLoops.{Undecided, all_more, all_fails, all_end}
+use Rattle.packed_arcs.proofs.ListLoops.{all_more, all_fails, all_end}
 use Rattle.order_path.specs.Search.{joins_below}
 use Rattle.order_acyclicity.proofs.limits.each_joins_below.Goals as goal
 
 pub returns-then-not-joins_below : goal.returns-then-not-joins_below
 returns-then-not-joins_below c =
     all_fails (joins_below c.args.n) c.args.records.now c.loop-e.e c.loop-e-test.true
-    (sym c.joins_below.ensures ∙ not-true _ c.if-not-joins_below.true) c.loop-e.invariant
+    (sym c.joins_below.ensures ∙ c.if-not-joins_below.true) c.loop-e.invariant
 
 pub loop-e-preserved : goal.loop-e-preserved
 loop-e-preserved c =
     all_more (joins_below c.args.n) c.args.records.now c.loop-e.e c.loop-e-test.true
-    (sym c.joins_below.ensures ∙ not-false _ c.if-not-joins_below.false) c.loop-e.invariant
+    (sym c.joins_below.ensures ∙ c.if-not-joins_below.false) c.loop-e.invariant
 
 pub returns : goal.returns
 returns c =

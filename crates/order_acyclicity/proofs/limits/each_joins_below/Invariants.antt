@@ -1,10 +1,7 @@
 -- The loop's invariant: the records from e on decide.
-use mathlib.Core.Path.{refl, sym, ◌∙◌}
 use Prim.Native.Nat.{◌-◌}
 use lib.ListN.{length}
-use borrow.Author.Rules.{rules}
-use borrow.Author.Tests.{not-true, not-false}
-use Rattle.packed_arcs.proofs.ListLoops.{Undecided, all_more, all_fails, all_end}
+use Rattle.packed_arcs.proofs.ListLoops.{Undecided}
 use Rattle.order_path.specs.Search.{joins_below}
 use Rattle.order_acyclicity.proofs.limits.each_joins_below.Given as goal
 

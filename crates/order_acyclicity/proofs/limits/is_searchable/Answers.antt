@@ -1,4 +1,3 @@
-use borrow.Author.Rules.{rules}
 use Rattle.prelude.proofs.Tested.{tested}
 use Rattle.order_acyclicity.proofs.limits.is_searchable.Goals as goal
 

@@ -10,8 +10,8 @@ use Rattle.order_path.proofs.path.climb.Goals as goal
 use Rattle.order_path.proofs.path.climb.Goals.{After-look-e, At-loop-root}
 
 -- the last vertex of the path is one of the vertices
-last-vertex : (c : At-loop-root) → c.loop-root.len - 1 < length c.args.ranks.now
-last-vertex c = omega (arith, c.loop-root.invariant.1, c.loop-root.invariant.0.on_path.count)
+last_vertex : (c : At-loop-root) → c.loop-root.len - 1 < length c.args.ranks.now
+last_vertex c = omega (arith, c.loop-root.invariant.1, c.loop-root.invariant.0.on_path.count)
 
 here : (c : After-look-e)
     → TopLooked c.args.records.now c.args.links.now c.args.ranks.now c.loop-root.into c.loop-root.path c.loop-root.spot c.look-e.new.into c.loop-root.len (entry c.loop-root.path (c.loop-root.len - 1)) c.look-e.result
@@ -57,10 +57,10 @@ pub overflow_sub-top : goal.overflow_sub-top
 overflow_sub-top c = c.loop-root.invariant.1
 
 pub offset_bounds-path-len : goal.offset_bounds-path-len
-offset_bounds-path-len c = omega (arith, last-vertex (goal.at.offset_bounds-path-len c).At-loop-root, c.requires.chained.arcs.vertices)
+offset_bounds-path-len c = omega (arith, last_vertex (goal.at.offset_bounds-path-len c).At-loop-root, c.requires.chained.arcs.vertices)
 
 pub bounds-path-len : goal.bounds-path-len
-bounds-path-len c = omega (arith, last-vertex (goal.at.bounds-path-len c).At-loop-root, c.loop-root.invariant.0.on_path.path_len)
+bounds-path-len c = omega (arith, last_vertex (goal.at.bounds-path-len c).At-loop-root, c.loop-root.invariant.0.on_path.path_len)
 
 pub shape_of-into-then-e-ge-NONE : goal.shape_of-into-then-e-ge-NONE
 shape_of-into-then-e-ge-NONE c = (moved_on (here (goal.at.shape_of-into-then-e-ge-NONE c).After-look-e)).watch.len ∙ sym c.requires.searching.watch.len

@@ -1,7 +1,5 @@
 -- `reference::arcs::write` is safe and ends: it goes through the records.
-use Prim.Native.Nat.{◌-◌}
-use native.Mathlib.Omega.{arith}
-use borrow.Author.Rules.{rules}
+use Rattle.std.proofs.Common.{arith}
 use Rattle.reference.proofs.arcs.write.Goals as goal
 
 pub loop-i-init : goal.loop-i-init

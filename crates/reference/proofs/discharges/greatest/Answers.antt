@@ -1,7 +1,5 @@
 -- `reference::discharges::greatest` is safe and ends: it takes 1000000 paths at most.
-use Prim.Native.Nat.{◌-◌}
-use native.Mathlib.Omega.{arith}
-use borrow.Author.Rules.{rules}
+use Rattle.std.proofs.Common.{arith}
 use Rattle.reference.proofs.discharges.greatest.Goals as goal
 
 pub loop-i-init : goal.loop-i-init

@@ -1,7 +1,5 @@
 -- `reference::discharges::greatest` is safe and ends: it takes 1000000 paths at most.
-use Prim.Native.Nat.{◌-◌}
-use native.Mathlib.Omega.{arith}
-use borrow.Author.Rules.{rules}
+use Rattle.std.proofs.Common.{◌-◌}
 use Rattle.reference.proofs.discharges.greatest.Given as goal
 
 abbrev pub invariant-loop-i : goal.invariant-loop-i

@@ -1,7 +1,5 @@
 -- `reference::discharges::scan` is safe and ends: it goes through the vertices.
-use Prim.Native.Nat.{◌-◌}
-use native.Mathlib.Omega.{arith}
-use borrow.Author.Rules.{rules}
+use Rattle.std.proofs.Common.{◌-◌}
 use Rattle.reference.proofs.discharges.scan.Given as goal
 
 abbrev pub invariant-loop-v : goal.invariant-loop-v

@@ -1,7 +1,5 @@
 -- `reference::discharges::search` is safe and ends: it continues from 256 vertices at most.
-use Prim.Native.Nat.{◌-◌}
-use native.Mathlib.Omega.{arith}
-use borrow.Author.Rules.{rules}
+use Rattle.std.proofs.Common.{arith}
 use Rattle.reference.proofs.discharges.search.Goals as goal
 
 pub loop-i-init : goal.loop-i-init

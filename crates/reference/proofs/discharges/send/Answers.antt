@@ -1,7 +1,5 @@
 -- `reference::discharges::send` is safe and ends: it takes 256 arcs at most.
-use Prim.Native.Nat.{◌-◌}
-use native.Mathlib.Omega.{arith}
-use borrow.Author.Rules.{rules}
+use Rattle.std.proofs.Common.{arith}
 use Rattle.reference.proofs.discharges.send.Goals as goal
 
 pub loop-i-init : goal.loop-i-init

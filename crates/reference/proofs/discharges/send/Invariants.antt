@@ -1,7 +1,5 @@
 -- `reference::discharges::send` is safe and ends: it takes 256 arcs at most.
-use Prim.Native.Nat.{◌-◌}
-use native.Mathlib.Omega.{arith}
-use borrow.Author.Rules.{rules}
+use Rattle.std.proofs.Common.{◌-◌}
 use Rattle.reference.proofs.discharges.send.Given as goal
 
 abbrev pub invariant-loop-i : goal.invariant-loop-i

@@ -1,7 +1,5 @@
 -- `reference::loops::pass` is safe and ends: it goes through the records.
-use Prim.Native.Nat.{◌-◌}
-use native.Mathlib.Omega.{arith}
-use borrow.Author.Rules.{rules}
+use Rattle.std.proofs.Common.{◌-◌}
 use Rattle.reference.proofs.loops.pass.Given as goal
 
 abbrev pub invariant-loop-i : goal.invariant-loop-i

@@ -1,7 +1,5 @@
 -- `reference::loops::zero_or_none` is safe and ends: it makes as many passes at most as there are vertices.
-use Prim.Native.Nat.{◌-◌}
-use native.Mathlib.Omega.{arith}
-use borrow.Author.Rules.{rules}
+use Rattle.std.proofs.Common.{arith}
 use Rattle.reference.proofs.loops.zero_or_none.Goals as goal
 
 pub loop-i-init : goal.loop-i-init

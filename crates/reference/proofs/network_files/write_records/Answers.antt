@@ -1,7 +1,5 @@
 -- `reference::network_files::write_records` is safe and ends: it goes through the records.
-use Prim.Native.Nat.{◌-◌}
-use native.Mathlib.Omega.{arith}
-use borrow.Author.Rules.{rules}
+use Rattle.std.proofs.Common.{arith}
 use Rattle.reference.proofs.network_files.write_records.Goals as goal
 
 pub loop-i-init : goal.loop-i-init

@@ -1,7 +1,5 @@
 -- `reference::pairings::change` is safe and ends: it goes through 256 pumps at most.
-use Prim.Native.Nat.{◌-◌}
-use native.Mathlib.Omega.{arith}
-use borrow.Author.Rules.{rules}
+use Rattle.std.proofs.Common.{arith}
 use Rattle.reference.proofs.pairings.change.Goals as goal
 
 pub loop-i-init : goal.loop-i-init

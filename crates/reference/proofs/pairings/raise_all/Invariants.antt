@@ -1,7 +1,5 @@
 -- `reference::pairings::raise_all` is safe and ends: it goes through the pumps.
-use Prim.Native.Nat.{◌-◌}
-use native.Mathlib.Omega.{arith}
-use borrow.Author.Rules.{rules}
+use Rattle.std.proofs.Common.{◌-◌}
 use Rattle.reference.proofs.pairings.raise_all.Given as goal
 
 abbrev pub invariant-loop-p : goal.invariant-loop-p

@@ -1,7 +1,5 @@
 -- `reference::pairings::scan` is safe and ends: it goes through the pumps.
-use Prim.Native.Nat.{◌-◌}
-use native.Mathlib.Omega.{arith}
-use borrow.Author.Rules.{rules}
+use Rattle.std.proofs.Common.{arith}
 use Rattle.reference.proofs.pairings.scan.Goals as goal
 
 pub loop-p-init : goal.loop-p-init

@@ -1,7 +1,5 @@
 -- `reference::pairings::search` is safe and ends: it continues from 256 pumps at most.
-use Prim.Native.Nat.{◌-◌}
-use native.Mathlib.Omega.{arith}
-use borrow.Author.Rules.{rules}
+use Rattle.std.proofs.Common.{◌-◌}
 use Rattle.reference.proofs.pairings.search.Given as goal
 
 abbrev pub invariant-loop-i : goal.invariant-loop-i

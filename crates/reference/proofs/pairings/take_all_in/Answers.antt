@@ -1,7 +1,5 @@
 -- `reference::pairings::take_all_in` is safe and ends: it goes through the sites.
-use Prim.Native.Nat.{◌-◌}
-use native.Mathlib.Omega.{arith}
-use borrow.Author.Rules.{rules}
+use Rattle.std.proofs.Common.{arith}
 use Rattle.reference.proofs.pairings.take_all_in.Goals as goal
 
 pub loop-q-init : goal.loop-q-init

@@ -1,7 +1,5 @@
 -- `reference::pairings::take_all_in` is safe and ends: it goes through the sites.
-use Prim.Native.Nat.{◌-◌}
-use native.Mathlib.Omega.{arith}
-use borrow.Author.Rules.{rules}
+use Rattle.std.proofs.Common.{◌-◌}
 use Rattle.reference.proofs.pairings.take_all_in.Given as goal
 
 abbrev pub invariant-loop-q : goal.invariant-loop-q

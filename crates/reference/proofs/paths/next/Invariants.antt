@@ -1,7 +1,5 @@
 -- `reference::paths::next` is safe and ends: it goes through the vertices.
-use Prim.Native.Nat.{◌-◌}
-use native.Mathlib.Omega.{arith}
-use borrow.Author.Rules.{rules}
+use Rattle.std.proofs.Common.{◌-◌}
 use Rattle.reference.proofs.paths.next.Given as goal
 
 abbrev pub invariant-loop-v : goal.invariant-loop-v

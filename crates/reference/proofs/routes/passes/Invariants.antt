@@ -1,7 +1,5 @@
 -- `reference::routes::passes` is safe and ends: it makes as many passes as there are vertices.
-use Prim.Native.Nat.{◌-◌}
-use native.Mathlib.Omega.{arith}
-use borrow.Author.Rules.{rules}
+use Rattle.std.proofs.Common.{◌-◌}
 use Rattle.reference.proofs.routes.passes.Given as goal
 
 abbrev pub invariant-loop-i : goal.invariant-loop-i

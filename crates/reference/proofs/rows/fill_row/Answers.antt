@@ -1,7 +1,5 @@
 -- `reference::rows::fill_row` is safe and ends: it counts to 256.
-use Prim.Native.Nat.{◌-◌}
-use native.Mathlib.Omega.{arith}
-use borrow.Author.Rules.{rules}
+use Rattle.std.proofs.Common.{arith}
 use Rattle.reference.proofs.rows.fill_row.Goals as goal
 
 pub loop-i-init : goal.loop-i-init

@@ -1,7 +1,5 @@
 -- `reference::rows::fill_row` is safe and ends: it counts to 256.
-use Prim.Native.Nat.{◌-◌}
-use native.Mathlib.Omega.{arith}
-use borrow.Author.Rules.{rules}
+use Rattle.std.proofs.Common.{◌-◌}
 use Rattle.reference.proofs.rows.fill_row.Given as goal
 
 abbrev pub invariant-loop-i : goal.invariant-loop-i

@@ -1,8 +1,5 @@
 -- `session_cases::cases::run` is safe and ends: it goes through the script.
-use Prim.Native.Nat.{◌-◌}
-use native.Mathlib.Omega.{arith}
-use lib.ListN.{length}
-use borrow.Author.Rules.{rules}
+use Rattle.std.proofs.Common.{◌-◌, length}
 use Rattle.session_cases.proofs.cases.run.Given as goal
 
 abbrev pub invariant-loop-i : goal.invariant-loop-i

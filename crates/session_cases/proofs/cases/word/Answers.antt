@@ -1,7 +1,5 @@
 -- `session_cases::cases::word` is safe and ends: it counts to a number.
-use Prim.Native.Nat.{◌-◌, ◌≤◌}
-use native.Mathlib.Omega.{arith}
-use borrow.Author.Rules.{rules}
+use Rattle.std.proofs.Common.{arith}
 use Rattle.session_cases.proofs.cases.word.Goals as goal
 
 pub overflow_add-i : goal.overflow_add-i

@@ -1,7 +1,5 @@
 -- `session_cases::cases::words` is safe and ends: it goes through the line.
-use Prim.Native.Nat.{◌-◌}
-use native.Mathlib.Omega.{arith}
-use borrow.Author.Rules.{rules}
+use Rattle.std.proofs.Common.{◌-◌}
 use Rattle.session_cases.proofs.cases.words.Given as goal
 
 abbrev pub invariant-loop-i : goal.invariant-loop-i

@@ -1,5 +1,5 @@
 -- `testing::changes::repeat` is safe and ends: it goes through the bytes that are added.
-use Rattle.std.proofs.Common.{◌-◌, arith, rules}
+use Rattle.std.proofs.Common.{arith}
 use Rattle.testing.proofs.changes.repeat.Goals as goal
 
 pub loop-i-init : goal.loop-i-init

@@ -1,5 +1,5 @@
 -- `testing::files::copy_front` is safe and ends: it goes through the bytes.
-use Rattle.std.proofs.Common.{◌≡◌, ◌-◌, length, arith, rules}
+use Rattle.std.proofs.Common.{arith}
 use Rattle.testing.proofs.files.copy_front.Goals as goal
 
 pub overflow_add-i : goal.overflow_add-i

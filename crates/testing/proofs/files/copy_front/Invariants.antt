@@ -1,5 +1,5 @@
 -- `testing::files::copy_front` is safe and ends: it goes through the bytes.
-use Rattle.std.proofs.Common.{◌≡◌, ◌-◌, length, arith, rules}
+use Rattle.std.proofs.Common.{◌≡◌, ◌-◌, length}
 use Rattle.testing.proofs.files.copy_front.Given as goal
 
 abbrev pub invariant-loop-i : goal.invariant-loop-i

@@ -1,5 +1,5 @@
 -- `testing::files::fill` is safe and ends: it goes through the annotation's part.
-use Rattle.std.proofs.Common.{◌-◌, arith, rules}
+use Rattle.std.proofs.Common.{arith}
 use Rattle.testing.proofs.files.fill.Goals as goal
 
 pub loop-i-init : goal.loop-i-init

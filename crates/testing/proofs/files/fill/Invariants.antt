@@ -1,5 +1,5 @@
 -- `testing::files::fill` is safe and ends: it goes through the annotation's part.
-use Rattle.std.proofs.Common.{◌-◌, arith, rules}
+use Rattle.std.proofs.Common.{◌-◌}
 use Rattle.testing.proofs.files.fill.Given as goal
 
 abbrev pub invariant-loop-i : goal.invariant-loop-i

@@ -1,5 +1,5 @@
 -- `testing::files::kept` is safe and ends: it goes through the annotation's part from an index on.
-use Rattle.std.proofs.Common.{◌-◌, arith, rules}
+use Rattle.std.proofs.Common.{arith}
 use Rattle.testing.proofs.files.kept.Goals as goal
 
 pub loop-i-init : goal.loop-i-init

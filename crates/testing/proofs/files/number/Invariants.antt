@@ -1,5 +1,5 @@
 -- `testing::files::number` is safe and ends: it goes through the bytes.
-use Rattle.std.proofs.Common.{◌-◌, arith, rules}
+use Rattle.std.proofs.Common.{◌-◌}
 use Rattle.testing.proofs.files.number.Given as goal
 
 abbrev pub invariant-loop-k : goal.invariant-loop-k

@@ -1,5 +1,5 @@
 -- `testing::files::put_number` is safe and ends: it goes through the bytes.
-use Rattle.std.proofs.Common.{◌-◌, arith, rules}
+use Rattle.std.proofs.Common.{arith}
 use Rattle.testing.proofs.files.put_number.Goals as goal
 
 pub loop-k-init : goal.loop-k-init

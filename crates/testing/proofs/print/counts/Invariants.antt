@@ -1,5 +1,5 @@
 -- `testing::print::counts` is safe and ends: it goes through the names.
-use Rattle.std.proofs.Common.{◌-◌, ◌≤◌, arith, rules}
+use Rattle.std.proofs.Common.{◌-◌, ◌≤◌}
 use Rattle.testing.proofs.print.counts.Given as goal
 
 abbrev pub invariant-loop-k : goal.invariant-loop-k

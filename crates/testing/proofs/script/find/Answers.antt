@@ -1,5 +1,5 @@
 -- `testing::script::find` is safe and ends: it goes through the script from a place on.
-use Rattle.std.proofs.Common.{◌-◌, length, arith, rules}
+use Rattle.std.proofs.Common.{arith}
 use Rattle.testing.proofs.script.find.Goals as goal
 
 pub loop-i-init : goal.loop-i-init

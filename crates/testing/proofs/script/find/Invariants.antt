@@ -1,5 +1,5 @@
 -- `testing::script::find` is safe and ends: it goes through the script from a place on.
-use Rattle.std.proofs.Common.{◌-◌, length, arith, rules}
+use Rattle.std.proofs.Common.{◌-◌, length}
 use Rattle.testing.proofs.script.find.Given as goal
 
 abbrev pub invariant-loop-i : goal.invariant-loop-i

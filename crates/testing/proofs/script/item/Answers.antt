@@ -1,5 +1,5 @@
 -- `testing::script::item` is safe and ends: it passes k commas.
-use Rattle.std.proofs.Common.{◌-◌, ◌≤◌, arith, rules}
+use Rattle.std.proofs.Common.{arith}
 use Rattle.testing.proofs.script.item.Goals as goal
 
 pub overflow_add-i : goal.overflow_add-i

@@ -1,5 +1,5 @@
 -- `testing::script::item` is safe and ends: it passes k commas.
-use Rattle.std.proofs.Common.{◌-◌, ◌≤◌, arith, rules}
+use Rattle.std.proofs.Common.{◌-◌, ◌≤◌}
 use Rattle.testing.proofs.script.item.Given as goal
 
 abbrev pub invariant-loop-i : goal.invariant-loop-i

@@ -1,5 +1,5 @@
 -- `testing::script::write_hex` is safe and ends: it goes through the script from a place on.
-use Rattle.std.proofs.Common.{◌≡◌, ◌-◌, length, arith, rules}
+use Rattle.std.proofs.Common.{arith}
 use Rattle.testing.proofs.script.write_hex.Goals as goal
 
 pub overflow_add-i : goal.overflow_add-i
