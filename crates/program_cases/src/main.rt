@@ -45,7 +45,13 @@ fn print_drawn<R: Files + RandomSource>(rt: &R, name: &[u8]) {
     io::write_all(1, &text[..n]);
 }
 
-fn print_scheduled<R: Files>(files: &R, argument: &[u8], table_name: &[u8], net_name: &[u8], out_name: &[u8]) {
+fn print_scheduled<R: Files>(
+    files: &R,
+    argument: &[u8],
+    table_name: &[u8],
+    net_name: &[u8],
+    out_name: &[u8],
+) {
     let mut table = [0u8; 32769];
     let mut net = front::room();
     let mut out = front::room();

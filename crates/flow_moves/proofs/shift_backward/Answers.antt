@@ -1,6 +1,5 @@
 use native.Mathlib.Omega.{arith}
 use Rattle.flow_moves.proofs.Conserving.{ArcFacts, arc_facts, backward_moves}
-use borrow.Author.Rules.{rules}
 use Rattle.flow_moves.proofs.shift_backward.Goals as goal
 use Rattle.flow_moves.proofs.shift_backward.Goals.{Start}
 

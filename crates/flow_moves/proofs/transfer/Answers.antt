@@ -1,5 +1,4 @@
 use Rattle.flow_moves.proofs.Conserving.{transfer_fits}
-use borrow.Author.Rules.{rules}
 use Rattle.flow_moves.proofs.transfer.Goals as goal
 
 pub overflow_add-left : goal.overflow_add-left

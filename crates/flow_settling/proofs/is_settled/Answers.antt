@@ -1,4 +1,3 @@
-use borrow.Author.Rules.{rules}
 use Rattle.flow_settling.proofs.Settled.{same_vertex, left_over, costs_decide}
 use Rattle.flow_settling.proofs.is_settled.Goals as goal
 

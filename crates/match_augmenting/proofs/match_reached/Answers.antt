@@ -1,6 +1,5 @@
 use mathlib.Core.Path.{refl}
 use native.Mathlib.Omega.{arith}
-use borrow.Author.Rules.{rules}
 use Rattle.match_augmenting.proofs.Reached.{path_found, augmented}
 use Rattle.match_augmenting.proofs.match_reached.Goals as goal
 

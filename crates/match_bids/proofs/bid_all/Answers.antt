@@ -1,4 +1,3 @@
-use borrow.Author.Rules.{rules}
 use Rattle.match_bids.proofs.Bidding.{sized, resized}
 use Rattle.match_bids.proofs.bid_all.Goals as goal
 

@@ -1,11 +1,6 @@
 -- The loop's invariant: the state.
 use mathlib.Core.Path.{sym, ◌∙◌}
-use Prim.Native.Nat.{◌-◌, ◌≤◌}
 use native.Mathlib.Omega.{arith}
-use borrow.Author.Rules.{rules}
-use lib.ListN.{length}
-use Rattle.arc_index.specs.Columns.{record_tails, record_heads, record_weights}
-use Rattle.match_state.specs.Matching.{State}
 use Rattle.match_bids.proofs.Bidding.{sized, resized}
 use Rattle.match_bids.proofs.bid_round.Goals as goal
 

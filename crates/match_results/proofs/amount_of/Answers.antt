@@ -1,6 +1,5 @@
 use mathlib.Core.Path.{◌≡◌, refl, ap, ◌∙◌}
 use Prim.Native.Nat.{ℕ}
-use borrow.Author.Rules.{rules}
 use Rattle.packed_arcs.specs.Entries.{entry}
 use Rattle.prelude.proofs.Choice.{via_eqb_on, via_eqb_off}
 use Rattle.arc_index.specs.Columns.{record_heads}

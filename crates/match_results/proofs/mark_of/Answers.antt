@@ -1,7 +1,6 @@
 use mathlib.Core.Path.{refl, sym, ap, subst, ◌∙◌}
 use Prim.Native.Nat.{ℕ, ◌<◌, ◌≤◌}
 use native.Mathlib.Omega.{arith}
-use borrow.Author.Rules.{rules}
 use lib.ListN.{length}
 use Rattle.prelude.proofs.Choice.{ltb_on, ltb_off, eqb_on, eqb_off, leb_on, leb_off}
 use Rattle.packed_arcs.specs.Entries.{entry}

@@ -1,13 +1,10 @@
 -- The loop's invariant: the amounts below e are written.
-use mathlib.Core.Path.{◌≡◌, sym, ◌∙◌}
+use mathlib.Core.Path.{◌≡◌}
 use Prim.Native.Nat.{◌-◌}
-use native.Mathlib.Omega.{arith}
 use lib.ListN.{length}
-use borrow.Author.Rules.{rules}
-use Rattle.prelude.proofs.Filling.{Filling, fill_start, fill_turn, fill_end}
+use Rattle.prelude.proofs.Filling.{Filling}
 use Rattle.arc_index.specs.Columns.{record_heads}
 use Rattle.match_state.specs.Amounts.{matched_amount}
-use Rattle.arc_index.proofs.Columns.{heads_len}
 use Rattle.match_results.proofs.write_amounts.Given as goal
 
 abbrev pub invariant-loop-e : goal.invariant-loop-e

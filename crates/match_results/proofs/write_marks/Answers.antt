@@ -1,13 +1,11 @@
 -- The loop's invariant: the vertices below v have their marks.
-use mathlib.Core.Path.{◌≡◌, sym, subst}
-use Prim.Native.Nat.{ℕ, ◌-◌}
+use mathlib.Core.Path.{sym, subst}
+use Prim.Native.Nat.{ℕ}
 use native.Mathlib.Omega.{arith}
 use lib.ListN.{length}
-use borrow.Author.Rules.{rules}
-use Rattle.prelude.proofs.Filling.{Filling, fill_start, fill_turn, fill_end}
+use Rattle.prelude.proofs.Filling.{fill_start, fill_turn, fill_end}
 use Rattle.arc_index.specs.Columns.{record_tails, record_heads, record_weights}
 use Rattle.match_state.specs.Matching.{Bipartite, Matching}
-use Rattle.match_results.specs.Results.{unreached_mark}
 use Rattle.match_results.proofs.write_marks.Goals as goal
 
 pub loop-v-init : goal.loop-v-init

@@ -1,5 +1,4 @@
 use mir.Facts.{to_z-of_z}
-use borrow.Author.Rules.{rules}
 use Rattle.rules.proofs.Signed.{signed}
 use Rattle.totals.proofs.assignment_balance.Goals as goal
 

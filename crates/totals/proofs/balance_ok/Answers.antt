@@ -1,5 +1,4 @@
 use mir.Facts.{to_z-of_z}
-use borrow.Author.Rules.{rules}
 use Rattle.totals.proofs.balance_ok.Goals as goal
 
 pub returns-in-PathValue : goal.returns-in-PathValue

@@ -1,17 +1,9 @@
 -- The loop's invariant: the vertices passed have balances that they may have.
-use mathlib.Core.Path.{sym, ◌∙◌}
 use Prim.Native.Nat.{◌≤◌, ◌-◌}
-use native.Mathlib.Omega.{arith}
 use lib.Dec.{T}
-use mir.Syntax.{w64}
-use borrow.Author.Rules.{rules}
-use borrow.Author.Tests.{not-true, not-false}
 use Rattle.prelude.specs.Lists.{at}
 use Rattle.prelude.specs.Sums.{all_to}
-use Rattle.prelude.proofs.Booleans.{true→T}
-use Rattle.words.proofs.Signs.{back}
 use Rattle.checks.specs.Held.{asked, rules_held}
-use Rattle.totals.proofs.Totals.{all_more, all_fails, all_end}
 use Rattle.totals.proofs.balances_ok.Given as goal
 
 abbrev pub invariant-loop-v : goal.invariant-loop-v

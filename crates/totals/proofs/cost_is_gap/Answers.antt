@@ -1,6 +1,5 @@
 use mir.Syntax.{w64}
 use mir.Facts.{to_z-of_z}
-use borrow.Author.Rules.{rules}
 use Rattle.rules.proofs.Signed.{returned}
 use Rattle.totals.proofs.cost_is_gap.Goals as goal
 

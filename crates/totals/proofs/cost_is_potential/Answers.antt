@@ -1,7 +1,6 @@
 use mathlib.Core.Path.{◌∙◌}
 use mir.Syntax.{w32, w64}
 use mir.Facts.{to_z-of_z}
-use borrow.Author.Rules.{rules}
 use Rattle.rules.proofs.Signed.{returned}
 use Rattle.totals.proofs.cost_is_potential.Goals as goal
 

@@ -1,5 +1,4 @@
 use native.Mathlib.Omega.{arith}
-use borrow.Author.Rules.{rules}
 use Prim.Native.Nat.{◌+◌, ◌-◌}
 use Rattle.prelude.proofs.Counts.{count_not}
 use Rattle.words.specs.Marks.{is_marked}

@@ -1,5 +1,4 @@
 use native.Mathlib.Nat.{zero-add, sub-zero}
-use borrow.Author.Rules.{rules}
 use Rattle.totals.proofs.more_sites_unmarked.Goals as goal
 
 pub returns : goal.returns

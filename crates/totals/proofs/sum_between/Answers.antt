@@ -1,10 +1,9 @@
 -- The loop's invariant: the sum of the numbers passed.
 use mathlib.Core.Path.{◌≡◌, ◌∙◌}
-use Prim.Native.Nat.{◌+◌, ◌-◌, ◌≤◌, max}
+use Prim.Native.Nat.{◌-◌}
 use native.Mathlib.Omega.{arith}
 use mir.Syntax.{w32, w64}
 use mir.Val.{to_z}
-use borrow.Author.Rules.{rules}
 use Rattle.prelude.specs.Lists.{at}
 use Rattle.prelude.specs.Sums.{sum_to_ℤ}
 use Rattle.words.proofs.Signs.{back}

@@ -1,15 +1,8 @@
 -- The loop's invariant: the sum of the numbers passed.
-use mathlib.Core.Path.{◌≡◌, ◌∙◌}
+use mathlib.Core.Path.{◌≡◌}
 use Prim.Native.Nat.{◌+◌, ◌-◌, ◌≤◌, max}
-use native.Mathlib.Omega.{arith}
-use mir.Syntax.{w32, w64}
-use mir.Val.{to_z}
-use borrow.Author.Rules.{rules}
 use Rattle.prelude.specs.Lists.{at}
 use Rattle.prelude.specs.Sums.{sum_to_ℤ}
-use Rattle.words.proofs.Signs.{back}
-use Rattle.rules.proofs.Signed.{returned}
-use Rattle.totals.proofs.Totals.{each_sized, sum_more}
 use Rattle.totals.proofs.sum_between.Given as goal
 
 abbrev pub invariant-loop-v : goal.invariant-loop-v

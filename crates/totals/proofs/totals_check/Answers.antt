@@ -1,5 +1,4 @@
 use mir.Facts.{to_z-of_z}
-use borrow.Author.Rules.{rules}
 use Rattle.prelude.proofs.Tested.{tested}
 use Rattle.totals.proofs.totals_check.Goals as goal
 

@@ -1,6 +1,5 @@
 use mathlib.Core.Path.{sym, ◌∙◌, ap}
 use native.Mathlib.Omega.{arith}
-use borrow.Author.Rules.{rules}
 use lib.IntN.{ℤ, pos}
 use lib.ListN.{set}
 use lib.Seq.{set_out}
@@ -15,4 +14,4 @@ returns-then-balances-i c = sym (set_out c.args.balances.now c.args.v (bounded_s
 
 pub returns : goal.returns
 returns c = ap (λ (u : ℤ). set c.args.balances.now c.args.v u)
-    (back w64 c.increase.result c.increase.type_inv ∙ c.increase.ensures ∙ ap (λ (z : ℤ). bounded_sum z (pos c.args.x)) (back w64 (at c.args.balances.now c.args.v) c.b-1.given))
+    (back w64 c.increase.result c.increase.type_inv ∙ c.increase.ensures ∙ ap (λ (z : ℤ). bounded_sum z (pos c.args.x)) (back w64 (at c.args.balances.now c.args.v) (omega arith)))

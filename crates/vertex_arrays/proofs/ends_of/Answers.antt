@@ -1,6 +1,5 @@
 use mathlib.Core.Path.{◌∙◌}
 use mir.Syntax.{w32}
-use borrow.Author.Rules.{rules}
 use Rattle.words.proofs.Signs.{back}
 use Rattle.vertex_arrays.proofs.ends_of.Goals as goal
 

@@ -1,6 +1,5 @@
 use mathlib.Core.List.{List}
 use mathlib.Core.Path.{◌∙◌, ap}
-use borrow.Author.Rules.{rules}
 use lib.IntN.{ℤ}
 use Rattle.vertex_arrays.specs.Arrays.{taken_at, moved}
 use Rattle.vertex_arrays.proofs.move_amount.Goals as goal

@@ -1,5 +1,4 @@
 use mathlib.Core.Path.{sym}
-use borrow.Author.Rules.{rules}
 use lib.Seq.{set_out}
 use native.Mathlib.Omega.{arith}
 use Rattle.vertex_arrays.proofs.store_at.Goals as goal

@@ -1,12 +1,9 @@
 use mathlib.Core.Path.{ap}
-use Prim.Native.Nat.{ℕ, ◌<◌, ◌≤◌}
+use Prim.Native.Nat.{ℕ}
 use native.Mathlib.Omega.{arith}
-use lib.ListN.{length, set, length-set}
-use borrow.Author.Rules.{rules}
+use lib.ListN.{set, length-set}
 use Rattle.packed_arcs.specs.Entries.{entry}
-use Rattle.arc_index.specs.ArcIndex.{no_arc}
-use Rattle.arc_index.specs.Columns.{record_tails, record_heads, record_weights}
-use Rattle.match_augmenting.specs.Augmenting.{Alternating}
+use Rattle.arc_index.specs.Columns.{record_tails, record_heads}
 use Rattle.arc_index.proofs.Columns.{tails_len}
 use Rattle.match_augmenting.proofs.Augmentation.{next, b_below, augmented, freed_arc, a'_left, shorter, alternates, still}
 use Rattle.match_augmenting.proofs.augment.augment.Goals as goal

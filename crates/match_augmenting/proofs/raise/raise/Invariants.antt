@@ -1,10 +1,7 @@
 use Prim.Native.Nat.{◌-◌}
-use native.Mathlib.Omega.{arith}
 use lib.ListN.{length}
-use borrow.Author.Rules.{rules}
 use Rattle.arc_index.specs.Columns.{record_tails}
-use Rattle.arc_index.proofs.Columns.{tails_len}
-use Rattle.match_augmenting.proofs.RaiseLoop.{Rising, rising_start, low_pair, rising_turn, root_low, raised}
+use Rattle.match_augmenting.proofs.RaiseLoop.{Rising}
 use Rattle.match_augmenting.proofs.raise.raise.Given as goal
 
 abbrev pub invariant-loop-a : goal.invariant-loop-a
