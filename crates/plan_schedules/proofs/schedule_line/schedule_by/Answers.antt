@@ -1,6 +1,5 @@
 -- The list of bytes is what was read.
 use mathlib.Core.Path.{ap}
-use borrow.Author.Rules.{rules}
 use Rattle.format.specs.Replies.{WriterSaid}
 use Rattle.program_io.proofs.Lines.{same_in}
 use Rattle.written_files.specs.ReplyLine.{reply_line}

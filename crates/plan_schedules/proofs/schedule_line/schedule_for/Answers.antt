@@ -4,7 +4,6 @@ use mathlib.Core.List.{[]}
 use native.Mathlib.Omega.{arith}
 use lib.ListN.{length}
 use lib.Seq.{length-take-le}
-use borrow.Author.Rules.{rules}
 use Rattle.tide_table.specs.TideTable.{windows_of}
 use Rattle.plan_schedules.specs.ScheduleLine.{bad_line, table_outcome, table_buffer}
 use Rattle.plan_schedules.proofs.Outcomes.{rows_length, rows_handed, undone, done_same, table_bad, table_fine}

@@ -1,6 +1,5 @@
 use mathlib.Core.List.{[]}
 use lib.ListN.{length, take}
-use borrow.Author.Rules.{rules}
 use borrow.Author.Tests.{not-true, not-false}
 use Rattle.plan_schedules.specs.ScheduleLine.{untabled, table_outcome, table_buffer, front_outcome, front_buffer}
 use Rattle.plan_schedules.proofs.Outcomes.{undone, done_same, front_missing, front_there}
