@@ -98,7 +98,16 @@ fn schedule_for<R: Files>(
         return undone(line::numbered(b"bad line ", bad as u64, text));
     }
     let n = rows_kept(found.count);
-    schedule_by(files, &rows[..n], minute, net_name, out_name, net, out, text)
+    schedule_by(
+        files,
+        &rows[..n],
+        minute,
+        net_name,
+        out_name,
+        net,
+        out,
+        text,
+    )
 }
 
 // The same by what came of reading a tide table into a buffer.
@@ -122,7 +131,16 @@ fn schedule_front<R: Files>(
         return undone(line::plain(b"no windows\n", text));
     }
     let n = front.size;
-    schedule_for(files, &table[..n], minute, net_name, out_name, net, out, text)
+    schedule_for(
+        files,
+        &table[..n],
+        minute,
+        net_name,
+        out_name,
+        net,
+        out,
+        text,
+    )
 }
 
 // Whether the tide table could be read, how many bytes of it were read into its buffer, and what was done.

@@ -8,7 +8,7 @@ use plan_schedules::schedule_line;
 use program_io::front;
 use std::env::{Env, FillError};
 
-// Whether the program is called with so many arguments or more.
+// Whether there is an argument of this number; the name of the program is number 0.
 fn is_given<R: Env>(env: &R, i: usize) -> bool {
     match env.arg(i, &mut []) {
         Ok(_) | Err(FillError::TooLong) => true,

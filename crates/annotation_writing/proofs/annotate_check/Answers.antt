@@ -2,7 +2,6 @@ use mathlib.Core.Path.{◌≡◌, subst}
 use mathlib.Core.List.{List, [], ◌∷◌}
 use Prim.Native.Nat.{ℕ, ◌≤◌, ◌<◌}
 use lib.Dec.{leb}
-use borrow.Author.Rules.{rules}
 use borrow.Author.Tests.{le-leb, lt-leb}
 use Rattle.prelude.specs.Checks.{Check, ◌unless◌, first_broken}
 use Rattle.prelude.proofs.Settle.{part_refused, part_passed}

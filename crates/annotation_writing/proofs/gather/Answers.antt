@@ -1,10 +1,8 @@
 -- The loop's invariant: the records below e are those of the file.
 use mathlib.Core.Path.{◌≡◌}
-use Prim.Native.Nat.{◌-◌}
 use native.Mathlib.Omega.{arith}
 use lib.ListN.{length}
-use borrow.Author.Rules.{rules}
-use Rattle.prelude.proofs.Filling.{Filling, fill_start, fill_turn, fill_end}
+use Rattle.prelude.proofs.Filling.{fill_start, fill_turn, fill_end}
 use Rattle.arc_records.specs.Arcs.{word_arc}
 use Rattle.format.specs.Files.{arc_in}
 use Rattle.annotation_writing.proofs.WrittenParts.{gathered}

@@ -1,7 +1,6 @@
 use mathlib.Core.List.{flat_map}
 use Prim.Native.Nat.{◌*◌}
 use lib.ListN.{length}
-use borrow.Author.Rules.{rules}
 use Rattle.arc_records.specs.Arcs.{word_arcs}
 use Rattle.network.specs.Network.{loads_of}
 use Rattle.file_fields.specs.Bytes.{byte32}

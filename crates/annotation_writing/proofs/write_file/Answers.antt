@@ -1,6 +1,5 @@
 use mathlib.Core.Path.{refl}
 use mathlib.Core.List.{◌++◌, flat_map}
-use borrow.Author.Rules.{rules}
 use Rattle.arc_records.specs.Arcs.{word_arcs}
 use Rattle.network.specs.Network.{loads_of}
 use Rattle.file_fields.specs.Bytes.{byte32}

@@ -1,13 +1,11 @@
 -- The loop's invariant: the records below e are written.
-use Prim.Native.Nat.{◌-◌}
 use lib.ListN.{length}
-use borrow.Author.Rules.{rules}
 use Rattle.arc_records.specs.Arcs.{word_arcs}
 use Rattle.network.specs.Network.{loads_of}
 use Rattle.format.specs.Files.{load_bytes, load_at}
 use Rattle.format.specs.Promises.{LoadFits}
 use Rattle.format.proofs.Codings.{loads_coded}
-use Rattle.annotation_writing.proofs.WrittenParts.{Loading, load_among, loads_listed, write_none, write_turn, write_length, write_end}
+use Rattle.annotation_writing.proofs.WrittenParts.{load_among, loads_listed, write_none, write_turn, write_length, write_end}
 use Rattle.annotation_writing.proofs.write_loads.Goals as goal
 
 pub loop-e-preserved : goal.loop-e-preserved

@@ -1,6 +1,5 @@
 use mathlib.Core.Path.{◌∙◌, ap}
 use Prim.Native.Nat.{ℕ}
-use borrow.Author.Rules.{rules}
 use Rattle.prelude.specs.Checks.{first_broken}
 use Rattle.prelude.proofs.Settle.{part_refused, part_passed}
 use Rattle.format.specs.Files.{count_in}

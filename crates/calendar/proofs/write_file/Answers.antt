@@ -1,4 +1,3 @@
-use borrow.Author.Rules.{rules}
 use Rattle.tide_windows.specs.Windows.{windows_in}
 use Rattle.calendar.proofs.MinuteFile.{file-written}
 use Rattle.calendar.proofs.write_file.Goals as goal

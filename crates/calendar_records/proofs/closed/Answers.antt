@@ -1,5 +1,4 @@
 use mathlib.Core.Path.{sym, ap}
-use borrow.Author.Rules.{rules}
 use Rattle.checks.specs.Held.{question_held}
 use Rattle.checks.specs.declared.rows.Question.{Question}
 use Rattle.arc_records.specs.Arcs.{arc_held}

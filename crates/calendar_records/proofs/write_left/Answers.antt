@@ -1,4 +1,3 @@
-use borrow.Author.Rules.{rules}
 use Rattle.calendar_records.proofs.LeftRecords.{one_written, none_written}
 use Rattle.calendar_records.proofs.write_left.Goals as goal
 

@@ -1,5 +1,4 @@
 use mathlib.Core.Path.{◌∙◌, ap}
-use borrow.Author.Rules.{rules}
 use Rattle.network.specs.Question.{question_of, asks}
 use Rattle.format.specs.Files.{setting_in, arc_in}
 use Rattle.tide_windows.specs.Windows.{windows_in, is_open}

@@ -1,11 +1,9 @@
 -- The loop's invariant: what is left of the records below e is written, k records.
 use Prim.Native.Nat.{◌-◌}
-use native.Mathlib.Omega.{arith}
-use borrow.Author.Rules.{rules}
 use Rattle.network.specs.Question.{asks}
 use Rattle.format.specs.Files.{setting_in, arc_in}
 use Rattle.tide_windows.specs.Windows.{windows_in, is_open}
-use Rattle.calendar_records.proofs.LeftRecords.{LeftTo, left_none, left_within, left_size, left_turn, left_end}
+use Rattle.calendar_records.proofs.LeftRecords.{LeftTo}
 use Rattle.calendar_records.proofs.write_records.Given as goal
 
 abbrev pub invariant-loop-e : goal.invariant-loop-e

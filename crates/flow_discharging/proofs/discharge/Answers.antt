@@ -1,6 +1,5 @@
 use native.Mathlib.Omega.{arith}
 use Rattle.flow_moves.proofs.Conserving.{sizes, ready_then}
-use borrow.Author.Rules.{rules}
 use Rattle.flow_discharging.proofs.discharge.Goals as goal
 
 pub relabel-requires : goal.relabel-requires

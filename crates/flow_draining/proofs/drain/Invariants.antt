@@ -1,6 +1,4 @@
 use Rattle.flow_moves.specs.Preflow.{Moves}
-use Rattle.flow_moves.proofs.Conserving.{moves_none, moves_then, ready_then}
-use borrow.Author.Rules.{rules}
 use Rattle.flow_draining.proofs.drain.Given as goal
 
 abbrev pub invariant-loop-fuel : goal.invariant-loop-fuel

@@ -1,6 +1,3 @@
-use Prim.Native.Nat.{◌-◌}
-use lib.ListN.{length}
-use borrow.Author.Rules.{rules}
 use Rattle.flow_draining.proofs.fill_buckets.Goals as goal
 
 pub loop-v-init : goal.loop-v-init

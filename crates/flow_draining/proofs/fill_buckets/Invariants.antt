@@ -1,6 +1,5 @@
 use Prim.Native.Nat.{◌-◌}
 use lib.ListN.{length}
-use borrow.Author.Rules.{rules}
 use Rattle.flow_draining.proofs.fill_buckets.Given as goal
 
 abbrev pub invariant-loop-v : goal.invariant-loop-v

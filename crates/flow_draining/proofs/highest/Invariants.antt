@@ -1,4 +1,3 @@
-use borrow.Author.Rules.{rules}
 use Rattle.flow_draining.proofs.highest.Given as goal
 
 abbrev pub invariant-loop-top : goal.invariant-loop-top

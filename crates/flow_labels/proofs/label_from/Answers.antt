@@ -1,5 +1,3 @@
-use Prim.Native.Nat.{◌-◌, ◌≤◌}
-use borrow.Author.Rules.{rules}
 use Rattle.flow_labels.proofs.label_from.Goals as goal
 
 pub reach_starts-many-requires : goal.reach_starts-many-requires

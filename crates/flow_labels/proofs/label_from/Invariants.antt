@@ -1,5 +1,4 @@
 use Prim.Native.Nat.{◌-◌, ◌≤◌}
-use borrow.Author.Rules.{rules}
 use Rattle.flow_labels.proofs.label_from.Given as goal
 
 abbrev pub invariant-loop-done : goal.invariant-loop-done

@@ -1,6 +1,4 @@
-use Prim.Native.Nat.{◌-◌}
 use native.Mathlib.Omega.{arith}
-use borrow.Author.Rules.{rules}
 use Rattle.flow_labels.proofs.lowest_end.Goals as goal
 
 pub first_arc-e-requires : goal.first_arc-e-requires

@@ -1,6 +1,4 @@
 use Prim.Native.Nat.{◌-◌, ◌≤◌}
-use native.Mathlib.Omega.{arith}
-use borrow.Author.Rules.{rules}
 use Rattle.flow_labels.proofs.reach_starts.Given as goal
 
 abbrev pub invariant-loop-e : goal.invariant-loop-e

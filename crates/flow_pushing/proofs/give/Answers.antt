@@ -1,4 +1,3 @@
-use borrow.Author.Rules.{rules}
 use native.Mathlib.Omega.{arith}
 use Rattle.flow_moves.proofs.Conserving.{ArcFacts, arc_facts, moves_none, end_inside}
 use Rattle.flow_pushing.proofs.give.Goals as goal

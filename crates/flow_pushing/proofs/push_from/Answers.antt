@@ -1,4 +1,3 @@
-use borrow.Author.Rules.{rules}
 use Rattle.flow_moves.proofs.Conserving.{moves_then, ready_then}
 use Rattle.flow_pushing.proofs.push_from.Goals as goal
 

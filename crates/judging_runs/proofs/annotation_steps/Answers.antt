@@ -3,7 +3,6 @@ use borrow.Author.Rules.{rules}
 use Rattle.judging_runs.proofs.AnnotationReturns.{at_end, at_claim, at_numbers, at_repeats, at_finish, at_answer}
 use Rattle.judging_runs.proofs.annotation_steps.Goals as goal
 
--- In each answer: s is where the arguments are, e where reading is ended, k where the claim is made, v where the node numbers are given, r where the arcs are repeated, f where finishing is checked.
 pub returns-then-at_end-ne0 : goal.returns-then-at_end-ne0
 returns-then-at_end-ne0 c =
     at_end c.args.x c.args.n c.args.file.now c.end_reading-ended.result c.end_reading-ended.ensures

@@ -26,7 +26,6 @@ pub loop-v-init : goal.loop-v-init
 loop-v-init c =
     none_yet number (number_in c.args.file.now) (numbered c.args.potentials.now c.args.x) c.args.n
 
--- t is where the node number is given, l where the loop stands, s where the arguments are
 pub returns-then-why-ne0 : goal.returns-then-why-ne0
 returns-then-why-ne0 c =
     let y = numbered c.loop-v.potentials c.loop-v.y in

@@ -19,7 +19,7 @@ use Rattle.judging_runs.proofs.StepLoops.{AcceptedTo, none_yet, one_accepted, on
 use Rattle.judging_runs.proofs.number_all.Given as goal
 
 abbrev pub invariant-loop-v : goal.invariant-loop-v
-invariant-loop-v l = AcceptedTo number (number_in l.file) (numbered l.initial.potentials l.initial.y) l.m (numbered l.potentials l.y) l.v
+invariant-loop-v l = AcceptedTo number (number_in l.file) (joined (with_potentials zero_arrays l.initial.potentials) l.initial.y) l.m (joined (with_potentials zero_arrays l.potentials) l.y) l.v
 
 abbrev pub decreases-loop-v : goal.decreases-loop-v
 decreases-loop-v l = l.m - l.v

@@ -18,7 +18,6 @@ pub loop-e-init : goal.loop-e-init
 loop-e-init c =
     none_yet read (arc_in c.args.file.now) (fresh c.args.x) c.count-m.result
 
--- t is where the arc is read, l where the loop stands, k where the count is found, s where the arguments are
 pub returns-then-why-ne0 : goal.returns-then-why-ne0
 returns-then-why-ne0 c =
     let y = fresh c.loop-e.y in

@@ -33,7 +33,6 @@ pub loop-e-init : goal.loop-e-init
 loop-e-init c =
     none_yet repeat (load_in c.args.n c.args.file.now) (held c.args.potentials.now c.args.balances.now c.args.x) c.count-m.result
 
--- t is where the arc is repeated, l where the loop stands, k where the count is found, s where the arguments are
 pub returns-then-why-ne0 : goal.returns-then-why-ne0
 returns-then-why-ne0 c =
     let ys = c.args.potentials.now in

@@ -22,7 +22,7 @@ use Rattle.judging_runs.proofs.StepLoops.{AcceptedTo, none_yet, one_accepted, on
 use Rattle.judging_runs.proofs.repeat_all.Given as goal
 
 abbrev pub invariant-loop-e : goal.invariant-loop-e
-invariant-loop-e l = AcceptedTo repeat (load_in l.n l.file) (held l.potentials l.initial.balances l.initial.y) l.m (held l.potentials l.balances l.y) l.e
+invariant-loop-e l = AcceptedTo repeat (load_in l.n l.file) (joined (arrays_of l.potentials l.initial.balances) l.initial.y) l.m (joined (arrays_of l.potentials l.balances) l.y) l.e
 
 abbrev pub decreases-loop-e : goal.decreases-loop-e
 decreases-loop-e l = l.m - l.e

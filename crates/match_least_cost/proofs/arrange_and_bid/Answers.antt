@@ -1,5 +1,4 @@
 use native.Mathlib.Omega.{arith}
-use borrow.Author.Rules.{rules}
 use Rattle.arc_index.proofs.Columns.{tails_len}
 use Rattle.match_least_cost.proofs.Finding.{begun}
 use Rattle.match_least_cost.proofs.arrange_and_bid.Goals as goal

@@ -1,5 +1,4 @@
 use mathlib.Core.Path.{refl, sym, ◌∙◌}
-use borrow.Author.Rules.{rules}
 use Rattle.match_rounds.proofs.Serving.{state_at, pass_at}
 use Rattle.match_least_cost.proofs.Finding.{bipartite_at, outcome_at}
 use Rattle.match_least_cost.proofs.find.Goals as goal

@@ -3,7 +3,6 @@ use mathlib.Core.List.{List}
 use Prim.Native.Nat.{ℕ, ◌+◌, ◌≤◌}
 use native.Mathlib.Omega.{arith}
 use lib.ListN.{length, length-replicate}
-use borrow.Author.Rules.{rules}
 use Rattle.packed_arcs.specs.Entries.{zero_list}
 use Rattle.packed_arcs.proofs.LentParts.{zero_list_length}
 use Rattle.arc_index.specs.Columns.{record_tails, record_heads, record_weights}

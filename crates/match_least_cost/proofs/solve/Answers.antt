@@ -1,6 +1,5 @@
 use mathlib.Core.Path.{refl, sym, ap, ◌∙◌}
 use lib.ListN.{length}
-use borrow.Author.Rules.{rules}
 use Rattle.packed_arcs.specs.Entries.{zero_list}
 use Rattle.arc_index.proofs.Columns.{tails_len}
 use Rattle.match_least_cost.specs.Outcome.{MatchOutcome}

@@ -1,6 +1,5 @@
 use mathlib.Core.Path.{sym, ap, ◌∙◌}
 use native.Mathlib.Omega.{arith}
-use borrow.Author.Rules.{rules}
 use Rattle.packed_arcs.specs.Entries.{zero_list}
 use Rattle.arc_index.proofs.Columns.{tails_len}
 use Rattle.match_rounds.proofs.Serving.{pass_state}

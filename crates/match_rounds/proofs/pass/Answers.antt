@@ -1,11 +1,8 @@
 use mathlib.Core.Path.{◌≡◌, refl, sym, subst, ◌∙◌}
-use Prim.Native.Nat.{◌-◌}
 use native.Mathlib.Omega.{arith}
 use lib.ListN.{length}
-use Rattle.arc_index.specs.Columns.{record_tails, record_heads, record_weights}
-use Rattle.match_state.specs.Rows.{Rows}
 use Rattle.match_rounds.specs.Serving.{Served}
-use Rattle.match_rounds.proofs.Serving.{state_at, Passing, pass_start, pass_on, pass_stuck, pass_end}
+use Rattle.match_rounds.proofs.Serving.{state_at, pass_start, pass_on, pass_stuck, pass_end}
 use Rattle.match_rounds.proofs.pass.Goals as goal
 
 pub loop-t-init : goal.loop-t-init

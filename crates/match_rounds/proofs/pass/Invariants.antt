@@ -1,12 +1,9 @@
-use mathlib.Core.Path.{◌≡◌, refl, sym, subst, ◌∙◌}
+use mathlib.Core.Path.{◌≡◌}
 use Prim.Native.Nat.{◌-◌}
-use native.Mathlib.Omega.{arith}
 use lib.ListN.{length}
-use borrow.Author.Tests.{not-true, not-false}
 use Rattle.arc_index.specs.Columns.{record_tails, record_heads, record_weights}
 use Rattle.match_state.specs.Rows.{Rows}
-use Rattle.match_rounds.specs.Serving.{Served}
-use Rattle.match_rounds.proofs.Serving.{state_at, Passing, pass_start, pass_on, pass_stuck, pass_end}
+use Rattle.match_rounds.proofs.Serving.{Passing}
 use Rattle.match_rounds.proofs.pass.Given as goal
 
 abbrev pub invariant-loop-t : goal.invariant-loop-t

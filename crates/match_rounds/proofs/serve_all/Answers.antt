@@ -2,9 +2,7 @@
 use mathlib.Core.Path.{◌≡◌, refl, ◌∙◌}
 use native.Mathlib.Omega.{arith}
 use lib.ListN.{length}
-use Rattle.arc_index.specs.Columns.{record_tails, record_heads, record_weights}
-use Rattle.match_state.specs.Rows.{Rows}
-use Rattle.match_rounds.proofs.Serving.{state_at, Passed, next_step, passes_start, passes_on, passes_end, pass_state, pass_failed, pass_at}
+use Rattle.match_rounds.proofs.Serving.{state_at, next_step, passes_start, passes_on, passes_end, pass_state, pass_failed, pass_at}
 use Rattle.match_rounds.proofs.serve_all.Goals as goal
 
 pub loop-step-init : goal.loop-step-init

@@ -1,10 +1,9 @@
 -- The loop's invariant: no vertex is stuck, and after a pass with the step 1 all are matched.
-use mathlib.Core.Path.{◌≡◌, refl, ◌∙◌}
-use native.Mathlib.Omega.{arith}
+use mathlib.Core.Path.{◌≡◌}
 use lib.ListN.{length}
 use Rattle.arc_index.specs.Columns.{record_tails, record_heads, record_weights}
 use Rattle.match_state.specs.Rows.{Rows}
-use Rattle.match_rounds.proofs.Serving.{state_at, Passed, next_step, passes_start, passes_on, passes_end, pass_state, pass_failed, pass_at}
+use Rattle.match_rounds.proofs.Serving.{Passed}
 use Rattle.match_rounds.proofs.serve_all.Given as goal
 
 abbrev pub invariant-loop-step : goal.invariant-loop-step

@@ -1,5 +1,4 @@
 use mathlib.Core.Path.{refl}
-use borrow.Author.Rules.{rules}
 use Rattle.match_state.proofs.Pairs.{is_exposed}
 use Rattle.match_rounds.proofs.Serving.{was_matched}
 use Rattle.match_rounds.proofs.serve_exposed.Goals as goal

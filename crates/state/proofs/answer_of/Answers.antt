@@ -1,6 +1,5 @@
 use mathlib.Core.Path.{◌∙◌, ap}
 use mir.Facts.{to_z-of_z}
-use borrow.Author.Rules.{rules}
 use Rattle.prelude.specs.Integers.{natural}
 use Rattle.state.specs.declared.Response.TheVariants.{Value}
 use Rattle.state.proofs.answer_of.Goals as goal

@@ -1,15 +1,10 @@
 -- The loop's invariant: the arcs below e are those of the records, packed.
-use mathlib.Core.Path.{◌≡◌, sym, ap, ◌∙◌}
-use mathlib.Core.List.{map}
+use mathlib.Core.Path.{◌≡◌}
 use Prim.Native.Nat.{◌-◌}
-use native.Mathlib.Omega.{arith}
-use lib.ListN.{length, get_or, length-map, get_or-map}
-use borrow.Author.Rules.{rules}
-use Rattle.network.specs.Question.{Question}
+use lib.ListN.{length, get_or}
 use Rattle.checks.specs.Held.{question_held}
 use Rattle.cert_instances.specs.Certify.{packed_for}
-use Rattle.prelude.proofs.Filling.{Filling, fill_start, fill_turn}
-use Rattle.packed_arcs.proofs.ListLoops.{filled_as}
+use Rattle.prelude.proofs.Filling.{Filling}
 use Rattle.cert_instances.proofs.records.pack.Given as goal
 
 abbrev pub invariant-loop-e : goal.invariant-loop-e

@@ -1,7 +1,6 @@
 use mathlib.Core.Path.{ap, ◌∙◌}
 use Prim.Native.Nat.{ℕ}
 use lib.Dec.{eqb}
-use borrow.Author.Rules.{rules}
 use Rattle.prelude.specs.Checks.{first_broken}
 use Rattle.arc_records.specs.Arcs.{Arc}
 use Rattle.network.specs.Tests.{arc_checks}

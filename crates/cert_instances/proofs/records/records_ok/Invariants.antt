@@ -1,12 +1,9 @@
 -- The loop's invariant: the records from e on decide.
-use mathlib.Core.Path.{refl, sym, ◌∙◌}
 use Prim.Native.Nat.{◌-◌}
 use lib.ListN.{length}
-use borrow.Author.Rules.{rules}
-use borrow.Author.Tests.{not-true, not-false}
 use Rattle.checks.specs.Held.{asked}
 use Rattle.cert_instances.specs.Certify.{record_ok}
-use Rattle.packed_arcs.proofs.ListLoops.{Undecided, all_more, all_fails, all_end}
+use Rattle.packed_arcs.proofs.ListLoops.{Undecided}
 use Rattle.cert_instances.proofs.records.records_ok.Given as goal
 
 abbrev pub invariant-loop-e : goal.invariant-loop-e

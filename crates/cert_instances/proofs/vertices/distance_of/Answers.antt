@@ -1,4 +1,3 @@
-use borrow.Author.Rules.{rules}
 use Rattle.cert_instances.proofs.vertices.distance_of.Goals as goal
 
 pub returns-then-is_reached : goal.returns-then-is_reached

@@ -1,5 +1,4 @@
 use mathlib.Core.Path.{sym, ap, ◌∙◌}
-use borrow.Author.Rules.{rules}
 use Rattle.cert_instances.specs.declared.vertices.NumberKind.{NumberKind}
 use Rattle.cert_instances.specs.Instance.{number_of}
 use Rattle.cert_instances.proofs.vertices.number_of.Goals as goal

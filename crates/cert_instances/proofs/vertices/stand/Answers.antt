@@ -1,9 +1,6 @@
 use mathlib.Core.Path.{◌≡◌}
-use Prim.Native.Nat.{◌-◌}
 use native.Mathlib.Omega.{arith}
-use lib.ListN.{length}
-use borrow.Author.Rules.{rules}
-use Rattle.prelude.proofs.Filling.{Filling, fill_start, fill_turn, fill_end}
+use Rattle.prelude.proofs.Filling.{fill_start, fill_turn, fill_end}
 use Rattle.cert_instances.specs.Instance.{single}
 use Rattle.cert_instances.proofs.vertices.stand.Goals as goal
 

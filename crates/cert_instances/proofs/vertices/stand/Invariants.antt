@@ -1,9 +1,7 @@
 use mathlib.Core.Path.{◌≡◌}
 use Prim.Native.Nat.{◌-◌}
-use native.Mathlib.Omega.{arith}
 use lib.ListN.{length}
-use borrow.Author.Rules.{rules}
-use Rattle.prelude.proofs.Filling.{Filling, fill_start, fill_turn, fill_end}
+use Rattle.prelude.proofs.Filling.{Filling}
 use Rattle.cert_instances.specs.Instance.{single}
 use Rattle.cert_instances.proofs.vertices.stand.Given as goal
 

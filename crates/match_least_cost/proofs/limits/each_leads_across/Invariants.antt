@@ -1,8 +1,6 @@
-use mathlib.Core.Path.{refl, sym, ◌∙◌}
 use Prim.Native.Nat.{◌-◌}
 use lib.ListN.{length}
-use borrow.Author.Rules.{rules}
-use Rattle.packed_arcs.proofs.ListLoops.{Undecided, all_more, all_fails, all_end}
+use Rattle.packed_arcs.proofs.ListLoops.{Undecided}
 use Rattle.match_least_cost.specs.Outcome.{leads_across}
 use Rattle.match_least_cost.proofs.limits.each_leads_across.Given as goal
 

@@ -1,4 +1,3 @@
-use borrow.Author.Rules.{rules}
 use Rattle.prelude.proofs.Tested.{tested}
 use Rattle.match_least_cost.proofs.limits.is_matchable.Goals as goal
 

@@ -8,9 +8,9 @@ use Rattle.plan_annotations.specs.AnnotationLine.{AnnotatedFiles}
 use Rattle.plan_annotations.proofs.annotation_line.annotate_files.Goals as goal
 
 pub returns : goal.returns
-returns c =
+returns g c =
     let size : length c.args.ann.now ≡ 32768 = omega arith in
     subst
-    (λ (room : ℕ). AnnotatedFiles room c.annotate_read.new.1.1.0 c.args.ann.now c.annotate_read.new.1.1.1.0 c.args.text.now c.annotate_read.result c.annotate_read.new.1.1.1.1.0)
+    (λ (room : ℕ). AnnotatedFiles room c.annotate_read.new.net c.args.ann.now c.annotate_read.new.ann c.args.text.now c.annotate_read.result c.annotate_read.new.text)
     size
     c.annotate_read.ensures

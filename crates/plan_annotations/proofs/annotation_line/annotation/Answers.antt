@@ -11,7 +11,8 @@ use Rattle.plan_annotations.proofs.annotation_line.annotation.Goals as goal
 pub returns : goal.returns
 unfolding file_reply
 returns c =
-    subst
-    (λ (net : List ℕ). (writer_said c.annotate.result ≡ annotated net (length c.args.ann.now)) × BufferAfter (writer_said c.annotate.result) net c.args.ann.now c.annotate.new.1.0)
-    c.counted-n.ensures.file_value
-    c.annotate.ensures
+    let is = c.counted-n.ensures.file_value in
+    record {
+      result_value = subst (λ (net : List ℕ). writer_said c.annotate.result ≡ annotated net (length c.args.ann.now)) is c.annotate.ensures.0;
+      buffer_after = subst (λ (net : List ℕ). BufferAfter (writer_said c.annotate.result) net c.args.ann.now c.annotate.new.buffer) is c.annotate.ensures.1;
+    }

@@ -3,7 +3,7 @@ use borrow.Author.Rules.{rules}
 use Rattle.plan_files.proofs.answer_line.judge_read.Goals as goal
 
 pub returns : goal.returns
-returns c =
+returns g c =
     record {
       point_read = c.read_front-p.ensures;
       net_read = c.read_if-n.ensures;

@@ -12,12 +12,6 @@ pub returns : goal.returns
 returns c =
     let ws = windows_in c.args.windows.now in
     subst
-    (λ (net : List ℕ). (writer_said c.schedule.result ≡ schedule_reply net ws c.args.minute (length c.args.out.now)) × (c.schedule.new.1.1.1.0 ≡ buffer_after net ws c.args.minute c.args.out.now))
+    (λ (net : List ℕ). (writer_said c.schedule.result ≡ schedule_reply net ws c.args.minute (length c.args.out.now)) × (c.schedule.new.buffer ≡ buffer_after net ws c.args.minute c.args.out.now))
     c.counted-n.ensures.file_value
     c.schedule.ensures
-
-pub counted-n-requires : goal.counted-n-requires
-counted-n-requires c = tt
-
-pub schedule-requires : goal.schedule-requires
-schedule-requires c = tt

@@ -7,22 +7,10 @@ use Rattle.written_files.specs.ReplyLine.{reply_line}
 use Rattle.plan_schedules.proofs.schedule_line.schedule_by.Goals as goal
 
 pub returns : goal.returns
-returns c =
+returns g c =
     record {
       net_read = c.read_front-n.ensures;
       out_is = c.minute_file-reply.ensures.1;
       line_made = c.line_for-k.ensures.prefix_len;
       line_is = same_in _ _ _ (ap (λ (s : WriterSaid). reply_line s c.save_reply-saved.result) c.minute_file-reply.ensures.0) c.line_for-k.ensures.line_in;
     }
-
-pub read_front-n-requires : goal.read_front-n-requires
-read_front-n-requires c = tt
-
-pub minute_file-reply-requires : goal.minute_file-reply-requires
-minute_file-reply-requires c = tt
-
-pub save_reply-saved-requires : goal.save_reply-saved-requires
-save_reply-saved-requires c = tt
-
-pub line_for-k-requires : goal.line_for-k-requires
-line_for-k-requires c = tt

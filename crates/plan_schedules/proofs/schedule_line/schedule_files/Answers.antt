@@ -7,12 +7,9 @@ use Rattle.plan_schedules.specs.ScheduleLine.{ScheduledFiles}
 use Rattle.plan_schedules.proofs.schedule_line.schedule_files.Goals as goal
 
 pub returns : goal.returns
-returns c =
+returns g c =
     let size : length c.args.out.now ≡ 32768 = omega arith in
     subst
-    (λ (room : ℕ). ScheduledFiles room c.args.argument.now c.schedule_read.new.1.1.1.1.0 c.schedule_read.new.1.1.1.1.1.0 c.args.out.now c.schedule_read.new.1.1.1.1.1.1.0 c.args.text.now c.schedule_read.result c.schedule_read.new.1.1.1.1.1.1.1.0)
+    (λ (room : ℕ). ScheduledFiles room c.args.argument.now c.schedule_read.new.table c.schedule_read.new.net c.args.out.now c.schedule_read.new.out c.args.text.now c.schedule_read.result c.schedule_read.new.text)
     size
     c.schedule_read.ensures
-
-pub schedule_read-requires : goal.schedule_read-requires
-schedule_read-requires c = tt

@@ -14,9 +14,9 @@ use Rattle.plan_schedules.proofs.Outcomes.{undone, done_same, not_called, called
 use Rattle.plan_schedules.proofs.schedule_line.schedule_read.Goals as goal
 
 pub returns-then-not-minute : goal.returns-then-not-minute
-returns-then-not-minute c = 
+returns-then-not-minute g c =
     let table = take 0 c.args.table.now in
-    let off = not_called c.args.argument.now false table c.args.out.now [] (length c.args.out.now) (sym c.number-minute.ensures.is_number ∙ not-true _ c.if-not-minute.true) in
+    let off = not_called c.args.argument.now false table c.args.out.now [] (length c.args.out.now) (sym c.number-minute.ensures.number_is ∙ not-true _ c.if-not-minute.true) in
     record {
       table_read = prefix_len_of_le 0 c.args.table.now (omega arith);
       done = undone (schedule_outcome c.args.argument.now false table (length c.args.out.now)) (schedule_buffer c.args.argument.now false table c.args.out.now) miscalled _ c.args.out.now c.args.text.now c.plain.result c.undone-done.result _
@@ -24,14 +24,14 @@ returns-then-not-minute c =
     }
 
 pub returns : goal.returns
-returns c = 
-    let table = take c.read_file-front.result.size c.read_file-front.new.1.0 in
-    let on : is_number c.args.argument.now ≡ true = sym c.number-minute.ensures.is_number ∙ not-false _ c.if-not-minute.false in
+returns g c =
+    let table = take c.read_file-front.result.size c.read_file-front.new.buffer in
+    let on : is_number c.args.argument.now ≡ true = sym c.number-minute.ensures.number_is ∙ not-false _ c.if-not-minute.false in
     let is = c.number-minute.ensures.value ∙ ap (λ (b : Bool). pick b (value c.args.argument.now) 0) on in
     let room = length c.args.out.now in
     record {
       table_read = c.read_file-front.ensures;
-      (goal.at.returns c).After-schedule_front-done = done_same (front_outcome c.read_file-front.result.is_read table c.number-minute.result.value room) (schedule_outcome c.args.argument.now c.read_file-front.result.is_read table room)
+      done = done_same (front_outcome c.read_file-front.result.is_read table c.number-minute.result.value room) (schedule_outcome c.args.argument.now c.read_file-front.result.is_read table room)
           (front_buffer c.read_file-front.result.is_read table c.number-minute.result.value c.args.out.now) (schedule_buffer c.args.argument.now c.read_file-front.result.is_read table c.args.out.now) _ _ c.args.text.now _ _
           (λ l. (called c.args.argument.now c.read_file-front.result.is_read table c.args.out.now l room c.number-minute.result.value on is).0)
           (λ l. (called c.args.argument.now c.read_file-front.result.is_read table c.args.out.now l room c.number-minute.result.value on is).1)

@@ -2,7 +2,6 @@ use mathlib.Core.Path.{◌∙◌}
 use Rattle.session.proofs.TurnsToSteps.{claim_replies, by_state}
 use Rattle.session.proofs.Session.claim.Goals as goal
 
--- u is the turn of the state, s where the arguments are
 pub returns : goal.returns
 returns c =
     c.reply_to.ensures ∙ by_state (claim_replies c.args.self c.args.claim c.claim-turn.result c.claim-turn.ensures)

@@ -2,7 +2,6 @@ use mathlib.Core.Path.{◌∙◌}
 use Rattle.session.proofs.TurnsToSteps.{end_replies, by_state}
 use Rattle.session.proofs.Session.end_reading.Goals as goal
 
--- u is the turn of the state, s where the arguments are
 pub returns : goal.returns
 returns c =
     c.reply_to.ensures ∙ by_state (end_replies c.args.self c.end_reading-turn.result c.end_reading-turn.ensures)

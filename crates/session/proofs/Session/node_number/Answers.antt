@@ -9,7 +9,6 @@ use Rattle.session.specs.Session.{with_potentials}
 use Rattle.session.proofs.TurnsToSteps.{number_replies, touched, one_way}
 use Rattle.session.proofs.Session.node_number.Goals as goal
 
--- e is where the session is known to be over or not, t where the turn of the state is made, s where the arguments are
 pub returns : goal.returns
 returns c =
     let back = to_z-of_z c.ranges.y in

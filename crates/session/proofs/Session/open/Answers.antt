@@ -6,7 +6,6 @@ use Rattle.session.specs.declared.Session.{Session}
 use Rattle.session.proofs.TurnsToSteps.{open_refused, open_accepted}
 use Rattle.session.proofs.Session.open.Goals as goal
 
--- f is where the session is made, u the turn of its state, s where the arguments are
 pub returns-then-why-ne0 : goal.returns-then-why-ne0
 returns-then-why-ne0 c =
     let u = c.open-turn in

@@ -3,7 +3,6 @@ use Rattle.arc_records.specs.Arcs.{arc_of}
 use Rattle.session.proofs.TurnsToSteps.{read_replies, by_state}
 use Rattle.session.proofs.Session.read_channel.Goals as goal
 
--- u is the turn of the state, s where the arguments are
 pub returns : goal.returns
 returns c =
     c.reply_to.ensures ∙ by_state (read_replies c.args.self (arc_of c.args.a c.args.b c.args.w) c.read_channel-turn.result c.read_channel-turn.ensures)

@@ -5,7 +5,6 @@ use Rattle.session.specs.Session.{with_balances}
 use Rattle.session.proofs.TurnsToSteps.{repeat_replies, touched, one_way}
 use Rattle.session.proofs.Session.repeat_channel.Goals as goal
 
--- e is where the session is known to be over or not, t where the turn of the state is made, s where the arguments are
 pub returns : goal.returns
 returns c =
     let bs = c.args.self.arrays.balances in

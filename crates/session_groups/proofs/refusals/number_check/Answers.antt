@@ -1,6 +1,5 @@
 use mir.Facts.{to_z-of_z}
 use Rattle.prelude.proofs.Tested.{tested}
-use borrow.Author.Rules.{rules}
 use Rattle.session_groups.proofs.refusals.number_check.Goals as goal
 
 pub returns-then-phase-ne-CLAIMED : goal.returns-then-phase-ne-CLAIMED

@@ -2,7 +2,6 @@ use mathlib.Core.Path.{◌∙◌, ap, ap₂}
 use native.Mathlib.Omega.{arith}
 use lib.IntN.{ℤ, pos}
 use mir.Syntax.{w64}
-use borrow.Author.Rules.{rules}
 use Rattle.words.proofs.Signs.{back}
 use Rattle.arc_records.specs.Arcs.{arc_held}
 use Rattle.network.specs.Network.{load_held}

@@ -1,4 +1,3 @@
-use borrow.Author.Rules.{rules}
 use Rattle.state.proofs.additions.with_arc.Goals as goal
 
 pub returns : goal.returns

@@ -1,7 +1,6 @@
 use Rattle.prelude.proofs.Choice.{checks}
 use Rattle.words.proofs.Signs.{signs}
 use Rattle.session_groups.proofs.GroupLaws.{number_done}
-use borrow.Author.Rules.{rules}
 use Rattle.state.proofs.additions.with_number.Goals as goal
 
 pub returns-then-y-eq1 : goal.returns-then-y-eq1
