@@ -1,4 +1,3 @@
-use borrow.Author.Rules.{rules}
 use Rattle.cert_instances.proofs.CertifyCases.{one_each, lent}
 use Rattle.cert_path.proofs.certify_path.Goals as goal
 

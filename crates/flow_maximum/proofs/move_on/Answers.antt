@@ -1,4 +1,3 @@
-use borrow.Author.Rules.{rules}
 use mathlib.Core.Path.{◌∙◌, sym}
 use Rattle.flow_maximum.proofs.PhasesAfter.{prepared_state, finished}
 use Rattle.flow_maximum.proofs.move_on.Goals as goal

@@ -1,4 +1,3 @@
-use borrow.Author.Rules.{rules}
 use mathlib.Core.Path.{sym}
 use Rattle.prelude.proofs.Tested.{not_on, not_off}
 use Rattle.flow_maximum.proofs.CallOutcomes.{solve_refused, solve_ready, left_size, by_tail, by_head, solve_ends}

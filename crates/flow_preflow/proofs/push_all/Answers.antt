@@ -1,4 +1,3 @@
-use borrow.Author.Rules.{rules}
 use native.Mathlib.Omega.{arith}
 use Rattle.flow_moves.specs.Preflow.{Links}
 use Rattle.flow_moves.proofs.Conserving.{moves_then, ready_then, out_links, into_links}

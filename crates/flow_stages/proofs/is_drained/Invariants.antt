@@ -1,6 +1,5 @@
 use Prim.Native.Nat.{◌-◌}
 use lib.ListN.{length}
-use borrow.Author.Rules.{rules}
 use Rattle.flow_stages.proofs.is_drained.Given as goal
 
 abbrev pub invariant-loop-v : goal.invariant-loop-v

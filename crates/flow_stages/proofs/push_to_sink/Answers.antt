@@ -1,4 +1,3 @@
-use borrow.Author.Rules.{rules}
 use native.Mathlib.Omega.{arith}
 use Rattle.flow_moves.proofs.Conserving.{sizes, moves_then, ready_then}
 use Rattle.flow_stages.proofs.push_to_sink.Goals as goal

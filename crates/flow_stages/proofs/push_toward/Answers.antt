@@ -1,7 +1,5 @@
 use native.Mathlib.Omega.{arith}
-use Rattle.flow_moves.specs.Preflow.{Moves}
 use Rattle.flow_moves.proofs.Conserving.{moves_none, moves_then, ready_then}
-use borrow.Author.Rules.{rules}
 use Rattle.flow_stages.proofs.push_toward.Goals as goal
 
 pub loop-fuel-init : goal.loop-fuel-init

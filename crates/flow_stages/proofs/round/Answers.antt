@@ -1,4 +1,3 @@
-use borrow.Author.Rules.{rules}
 use native.Mathlib.Omega.{arith}
 use Rattle.flow_moves.proofs.Conserving.{sizes}
 use Rattle.flow_stages.proofs.round.Goals as goal

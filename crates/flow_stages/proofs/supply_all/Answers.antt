@@ -1,6 +1,4 @@
-use Prim.Native.Nat.{◌-◌}
 use native.Mathlib.Omega.{arith}
-use Rattle.flow_moves.specs.Preflow.{Moves}
 use Rattle.flow_moves.proofs.Conserving.{moves_none, moves_then, ready_then}
 use Rattle.flow_stages.proofs.supply_all.Goals as goal
 

@@ -1,7 +1,5 @@
 use Prim.Native.Nat.{◌-◌}
-use native.Mathlib.Omega.{arith}
 use Rattle.flow_moves.specs.Preflow.{Moves}
-use Rattle.flow_moves.proofs.Conserving.{moves_none, moves_then, ready_then}
 use Rattle.flow_stages.proofs.supply_all.Given as goal
 
 abbrev pub invariant-loop-e : goal.invariant-loop-e

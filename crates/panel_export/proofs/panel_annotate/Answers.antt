@@ -6,4 +6,4 @@ use Rattle.panel_export.proofs.panel_annotate.Goals as goal
 
 pub returns : goal.returns
 returns c =
-    (c.written_code.ensures ∙ ap reply_code c.annotate.ensures.0, subst (λ (d : WriterSaid). BufferAfter d c.args.net.now c.args.buffer.now c.annotate.new.1.0) c.annotate.ensures.0 c.annotate.ensures.1)
+    (c.written_code.ensures ∙ ap reply_code c.annotate.ensures.0, subst (λ (d : WriterSaid). BufferAfter d c.args.net.now c.args.buffer.now c.annotate.new.buffer) c.annotate.ensures.0 c.annotate.ensures.1)

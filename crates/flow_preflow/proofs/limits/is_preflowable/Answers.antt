@@ -1,4 +1,3 @@
-use borrow.Author.Rules.{rules}
 use Rattle.prelude.proofs.Tested.{tested}
 use Rattle.flow_preflow.proofs.limits.is_preflowable.Goals as goal
 
