@@ -1,5 +1,4 @@
 -- At each place where it ends, what it gives is what the steps come out as.
-use borrow.Author.Rules.{rules}
 use Rattle.judging_runs.proofs.AnnotationReturns.{at_end, at_claim, at_numbers, at_repeats, at_finish, at_answer}
 use Rattle.judging_runs.proofs.annotation_steps.Goals as goal
 

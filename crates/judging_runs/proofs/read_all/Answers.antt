@@ -1,9 +1,8 @@
 -- The loop's invariant: the arcs below e were accepted and left y.
 use mathlib.Core.Path.{◌∙◌, ap, subst}
 use mathlib.Core.List.{map}
-use Prim.Native.Nat.{ℕ, ◌-◌}
+use Prim.Native.Nat.{ℕ}
 use native.Mathlib.Omega.{arith}
-use borrow.Author.Rules.{rules}
 use Rattle.session.specs.Session.{fresh}
 use Rattle.state.specs.Turns.{read_turn}
 use Rattle.session.proofs.TurnsToSteps.{read_replies}
@@ -11,7 +10,7 @@ use Rattle.runs.specs.Run.{read}
 use Rattle.prelude.specs.Lists.{list_to}
 use Rattle.format.specs.Files.{arc_in}
 use Rattle.judging_runs.specs.RunsTo.{RunsTo}
-use Rattle.judging_runs.proofs.StepLoops.{AcceptedTo, none_yet, one_accepted, one_refused, all_accepted}
+use Rattle.judging_runs.proofs.StepLoops.{none_yet, one_accepted, one_refused, all_accepted}
 use Rattle.judging_runs.proofs.read_all.Goals as goal
 
 pub loop-e-init : goal.loop-e-init

@@ -1,10 +1,9 @@
 -- The loop's invariant: the loads below e were accepted and left the balances and y.
 use mathlib.Core.Path.{◌≡◌, ◌∙◌, ap, subst}
 use mathlib.Core.List.{List, map}
-use Prim.Native.Nat.{ℕ, ◌-◌}
+use Prim.Native.Nat.{ℕ}
 use native.Mathlib.Omega.{arith}
 use lib.IntN.{ℤ}
-use borrow.Author.Rules.{rules}
 use Rattle.prelude.specs.Lists.{at}
 use Rattle.network.specs.Network.{Load}
 use Rattle.session.specs.Session.{arrays_of, joined, accept}
@@ -18,7 +17,7 @@ use Rattle.runs.specs.Run.{repeat}
 use Rattle.prelude.specs.Lists.{list_to}
 use Rattle.format.specs.Files.{load_in}
 use Rattle.judging_runs.specs.RunsTo.{RunsTo}
-use Rattle.judging_runs.proofs.StepLoops.{AcceptedTo, none_yet, one_accepted, one_refused, all_accepted}
+use Rattle.judging_runs.proofs.StepLoops.{none_yet, one_accepted, one_refused, all_accepted}
 use Rattle.judging_runs.proofs.repeat_all.Goals as goal
 
 -- the session of node numbers, balances and a state
