@@ -1,7 +1,5 @@
 -- `session_speed::rounds` is safe and ends: it goes through the bytes.
 use Prim.Native.Nat.{◌-◌, ◌≤◌}
-use native.Mathlib.Omega.{arith}
-use borrow.Author.Rules.{rules}
 use lib.ListN.{length}
 use Rattle.session_speed.proofs.rounds.Given as goal
 
