@@ -40,7 +40,8 @@ returns-then-why-ne0 c =
 
 pub write_annotation-requires : goal.write_annotation-requires
 write_annotation-requires c =
-    taken c.args.net.now (length c.args.buffer.now) c.annotate_check-why.result c.annotate_check-why.ensures c.if-why-ne0.false
+    let r = taken c.args.net.now (length c.args.buffer.now) c.annotate_check-why.result c.annotate_check-why.ensures c.if-why-ne0.false in
+    record { accepted_file = r.0; net_in_bounds = r.1 }
 
 pub returns : goal.returns
 returns c = (

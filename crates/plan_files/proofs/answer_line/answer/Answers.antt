@@ -1,7 +1,6 @@
 -- A short point is refused, and what counts of the files is judged at a whole one.
 use mathlib.Core.Path.{refl, ◌∙◌}
 use native.Mathlib.Omega.{arith}
-use borrow.Author.Rules.{rules}
 use lib.ListN.{length}
 use Rattle.prelude.proofs.Choice.{leb_on, leb_off}
 use Rattle.state.specs.Answers.{Said}

@@ -1,5 +1,4 @@
 use mathlib.Core.Path.{ap}
-use borrow.Author.Rules.{rules}
 use Rattle.program_io.proofs.Lines.{same_in}
 use Rattle.plan_files.specs.AnswerLine.{answer_line}
 use Rattle.plan_files.proofs.answer_line.judge_line.Goals as goal

@@ -1,5 +1,4 @@
 -- The three lists of bytes are what was read.
-use borrow.Author.Rules.{rules}
 use Rattle.plan_files.proofs.answer_line.judge_read.Goals as goal
 
 pub returns : goal.returns

@@ -1,7 +1,6 @@
 -- Of the bytes only the first eight are read.
 use mathlib.Core.Path.{sym, ap₂, ◌∙◌}
 use native.Mathlib.Omega.{arith}
-use borrow.Author.Rules.{rules}
 use Rattle.points.specs.Points.{pair}
 use Rattle.file_fields.proofs.Reading.{read32_front}
 use Rattle.plan_files.proofs.answer_line.point_in.Goals as goal
