@@ -31,10 +31,10 @@ pub record Taken : Type 0 where
   pub residue : ℕ
   pub point : ℕ
 
-infix 68 ◌at-point◌
+infix 68 ◌at_point◌
 -- The fingerprint f, taken at the point r.
-abbrev pub ◌at-point◌ : ℕ → ℕ → Taken
-◌at-point◌ f r = record { residue = f; point = r }
+abbrev pub ◌at_point◌ : ℕ → ℕ → Taken
+◌at_point◌ f r = record { residue = f; point = r }
 
 -- An arc, its key, and fingerprints of the list that holds the arc alone.
 pub record Product : Type 0 where
