@@ -1,4 +1,3 @@
-use borrow.Author.Rules.{rules}
 use Rattle.checks.specs.Held.{asked}
 use Rattle.cert_instances.proofs.Solutions.{flow_solution}
 use Rattle.cert_instances.proofs.FlowInputs.{flow_run, marks_writable}

@@ -1,4 +1,3 @@
--- The loop's invariant: the state.
 use mathlib.Core.Path.{sym, ◌∙◌}
 use native.Mathlib.Omega.{arith}
 use Rattle.match_bids.proofs.Bidding.{sized, resized}

@@ -1,4 +1,3 @@
--- The loop's invariant: the two cheapest of the arcs in the row before i.
 use mathlib.Core.Path.{◌≡◌, sym, ◌∙◌}
 use mathlib.Core.List.{List}
 use Prim.Native.Nat.{ℕ}

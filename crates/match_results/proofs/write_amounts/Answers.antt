@@ -1,4 +1,3 @@
--- The loop's invariant: the amounts below e are written.
 use mathlib.Core.Path.{sym, ◌∙◌}
 use native.Mathlib.Omega.{arith}
 use Rattle.prelude.proofs.Filling.{fill_start, fill_turn, fill_end}

@@ -1,4 +1,3 @@
--- The loop's invariant: the vertices below v have their marks.
 use mathlib.Core.Path.{sym, subst}
 use Prim.Native.Nat.{ℕ}
 use native.Mathlib.Omega.{arith}

@@ -1,4 +1,3 @@
--- The loop's invariant: no vertex is stuck, and after a pass with the step 1 all are matched.
 use mathlib.Core.Path.{◌≡◌, refl, ◌∙◌}
 use native.Mathlib.Omega.{arith}
 use lib.ListN.{length}

@@ -1,4 +1,3 @@
--- The loop's invariant: the arcs of the chain before e are copied to the positions below i.
 use mathlib.Core.Path.{sym, subst, subst₂}
 use Prim.Native.Nat.{ℕ, ◌+◌, ◌<◌}
 use native.Mathlib.Omega.{arith}

@@ -1,4 +1,3 @@
--- The loop's invariant: the rows of the vertices below v are copied.
 use mathlib.Core.Path.{ap, ◌∙◌}
 use Prim.Native.Nat.{ℕ, ◌+◌}
 use native.Mathlib.Omega.{arith}

@@ -1,4 +1,3 @@
--- The loop's invariant: the least of what is noted for the exposed vertices below a.
 use native.Mathlib.Omega.{arith}
 use Rattle.match_slack.proofs.Extremes.{floor_turn}
 use Rattle.match_slack.proofs.floor_of.Goals as goal

@@ -1,4 +1,3 @@
--- The loop's invariant: the greatest weight stands below a.
 use mathlib.Core.Path.{refl}
 use native.Mathlib.Omega.{arith}
 use lib.ListN.{length-replicate, get_or-replicate}

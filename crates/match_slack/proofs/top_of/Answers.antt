@@ -1,4 +1,3 @@
--- The loop's invariant: the greatest potential of the matched vertices from h on and below b.
 use native.Mathlib.Omega.{arith}
 use Rattle.match_slack.proofs.Extremes.{top_turn}
 use Rattle.match_slack.proofs.top_of.Goals as goal

@@ -1,4 +1,3 @@
--- The loop's invariant: no arc below e weighs less than what is noted for its tail.
 use mathlib.Core.Path.{◌≡◌, refl, ap, ◌∙◌}
 use mathlib.Core.List.{List}
 use Prim.Native.Nat.{ℕ, ◌<◌, ◌≤◌}

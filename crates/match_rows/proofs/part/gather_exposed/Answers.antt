@@ -1,4 +1,3 @@
--- The loop's invariant: the arcs before i come from exposed vertices, and the two lightest of them are known.
 use mathlib.Core.Path.{sym, ap, ◌∙◌}
 use native.Mathlib.Omega.{arith}
 use Rattle.packed_arcs.specs.Entries.{entry}

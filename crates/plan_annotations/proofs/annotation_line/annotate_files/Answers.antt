@@ -2,7 +2,6 @@
 use mathlib.Core.Path.{◌≡◌, subst}
 use Prim.Native.Nat.{ℕ}
 use native.Mathlib.Omega.{arith}
-use borrow.Author.Rules.{rules}
 use lib.ListN.{length}
 use Rattle.plan_annotations.specs.AnnotationLine.{AnnotatedFiles}
 use Rattle.plan_annotations.proofs.annotation_line.annotate_files.Goals as goal

@@ -2,7 +2,6 @@
 use mathlib.Core.Path.{ap, subst}
 use mathlib.Core.List.{List}
 use Prim.Native.Nat.{ℕ}
-use borrow.Author.Rules.{rules}
 use lib.ListN.{take}
 use Rattle.program_io.proofs.Lines.{same_in}
 use Rattle.format.specs.Replies.{WriterSaid}

@@ -1,7 +1,6 @@
 use mathlib.Core.Path.{◌≡◌, subst}
 use mathlib.Core.List.{List}
 use Prim.Native.Nat.{ℕ}
-use borrow.Author.Rules.{rules}
 use lib.ListN.{length}
 use Rattle.format.specs.Replies.{writer_said}
 use Rattle.helper.specs.Helper.{annotated, BufferAfter}
