@@ -1,5 +1,5 @@
 -- `random_networks::all` is safe and ends: it counts to 1920.
-use Rattle.std.proofs.Common.{◌-◌, arith, rules}
+use Rattle.std.proofs.Common.{arith}
 use Rattle.random_networks.proofs.all.Goals as goal
 
 pub loop-seed-init : goal.loop-seed-init

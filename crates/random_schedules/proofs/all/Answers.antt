@@ -1,5 +1,5 @@
 -- `random_schedules::all` is safe and ends: it counts to 640.
-use Rattle.std.proofs.Common.{◌-◌, arith, rules}
+use Rattle.std.proofs.Common.{arith}
 use Rattle.random_schedules.proofs.all.Goals as goal
 
 pub loop-seed-init : goal.loop-seed-init

@@ -1,5 +1,5 @@
 -- `random_networks::collisions::stands` is safe and ends: it goes through the records.
-use Rattle.std.proofs.Common.{◌-◌, arith, rules}
+use Rattle.std.proofs.Common.{◌-◌}
 use Rattle.random_networks.proofs.collisions.stands.Given as goal
 
 abbrev pub invariant-loop-i : goal.invariant-loop-i

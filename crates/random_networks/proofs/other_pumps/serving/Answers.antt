@@ -1,5 +1,5 @@
 -- `random_networks::other_pumps::serving` is safe and ends: it goes through the records.
-use Rattle.std.proofs.Common.{◌-◌, arith, rules}
+use Rattle.std.proofs.Common.{arith}
 use Rattle.random_networks.proofs.other_pumps.serving.Goals as goal
 
 pub loop-i-init : goal.loop-i-init

@@ -1,5 +1,5 @@
 -- `random_networks::other_pumps::uses` is safe and ends: it goes through the records.
-use Rattle.std.proofs.Common.{◌-◌, arith, rules}
+use Rattle.std.proofs.Common.{◌-◌}
 use Rattle.random_networks.proofs.other_pumps.uses.Given as goal
 
 abbrev pub invariant-loop-i : goal.invariant-loop-i

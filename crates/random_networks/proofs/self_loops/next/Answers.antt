@@ -1,5 +1,5 @@
 -- `random_networks::self_loops::next` is safe and ends: it goes through the records.
-use Rattle.std.proofs.Common.{◌-◌, arith, rules}
+use Rattle.std.proofs.Common.{arith}
 use Rattle.random_networks.proofs.self_loops.next.Goals as goal
 
 pub loop-k-init : goal.loop-k-init

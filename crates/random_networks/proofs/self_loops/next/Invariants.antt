@@ -1,5 +1,5 @@
 -- `random_networks::self_loops::next` is safe and ends: it goes through the records.
-use Rattle.std.proofs.Common.{◌-◌, arith, rules}
+use Rattle.std.proofs.Common.{◌-◌}
 use Rattle.random_networks.proofs.self_loops.next.Given as goal
 
 abbrev pub invariant-loop-k : goal.invariant-loop-k

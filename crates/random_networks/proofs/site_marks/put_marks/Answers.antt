@@ -1,5 +1,5 @@
 -- `random_networks::site_marks::put_marks` is safe and ends: it goes through vertices.
-use Rattle.std.proofs.Common.{◌-◌, arith, rules}
+use Rattle.std.proofs.Common.{arith}
 use Rattle.random_networks.proofs.site_marks.put_marks.Goals as goal
 
 pub loop-v-init : goal.loop-v-init

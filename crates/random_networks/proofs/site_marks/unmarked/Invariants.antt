@@ -1,5 +1,5 @@
 -- `random_networks::site_marks::unmarked` is safe and ends: it goes through vertices.
-use Rattle.std.proofs.Common.{◌-◌, arith, rules}
+use Rattle.std.proofs.Common.{◌-◌}
 use Rattle.random_networks.proofs.site_marks.unmarked.Given as goal
 
 abbrev pub invariant-loop-v : goal.invariant-loop-v

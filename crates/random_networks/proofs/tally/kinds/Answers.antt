@@ -1,5 +1,5 @@
 -- `random_networks::tally::kinds` is safe and ends: it counts to 8.
-use Rattle.std.proofs.Common.{◌-◌, arith, rules}
+use Rattle.std.proofs.Common.{arith}
 use Rattle.random_networks.proofs.tally.kinds.Goals as goal
 
 pub loop-k-init : goal.loop-k-init

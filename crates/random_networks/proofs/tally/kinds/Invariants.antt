@@ -1,5 +1,5 @@
 -- `random_networks::tally::kinds` is safe and ends: it counts to 8.
-use Rattle.std.proofs.Common.{◌-◌, arith, rules}
+use Rattle.std.proofs.Common.{◌-◌}
 use Rattle.random_networks.proofs.tally.kinds.Given as goal
 
 abbrev pub invariant-loop-k : goal.invariant-loop-k

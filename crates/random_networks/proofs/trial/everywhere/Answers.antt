@@ -1,5 +1,5 @@
 -- `random_networks::trial::everywhere` is safe and ends: it counts to 6.
-use Rattle.std.proofs.Common.{◌-◌, arith, rules}
+use Rattle.std.proofs.Common.{arith}
 use Rattle.random_networks.proofs.trial.everywhere.Goals as goal
 
 pub loop-i-init : goal.loop-i-init

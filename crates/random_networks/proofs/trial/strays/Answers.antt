@@ -1,5 +1,5 @@
 -- `random_networks::trial::strays` is safe and ends: it goes through the vertices.
-use Rattle.std.proofs.Common.{◌-◌, arith, rules}
+use Rattle.std.proofs.Common.{arith}
 use Rattle.random_networks.proofs.trial.strays.Goals as goal
 
 pub loop-v-init : goal.loop-v-init

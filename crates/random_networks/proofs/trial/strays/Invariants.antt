@@ -1,5 +1,5 @@
 -- `random_networks::trial::strays` is safe and ends: it goes through the vertices.
-use Rattle.std.proofs.Common.{◌-◌, arith, rules}
+use Rattle.std.proofs.Common.{◌-◌}
 use Rattle.random_networks.proofs.trial.strays.Given as goal
 
 abbrev pub invariant-loop-v : goal.invariant-loop-v

@@ -1,5 +1,5 @@
 -- `random_networks::trial::twist_all` is safe and ends: it counts to 24.
-use Rattle.std.proofs.Common.{◌-◌, arith, rules}
+use Rattle.std.proofs.Common.{arith}
 use Rattle.random_networks.proofs.trial.twist_all.Goals as goal
 
 pub loop-t-init : goal.loop-t-init

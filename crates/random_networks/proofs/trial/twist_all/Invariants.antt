@@ -1,5 +1,5 @@
 -- `random_networks::trial::twist_all` is safe and ends: it counts to 24.
-use Rattle.std.proofs.Common.{◌-◌, arith, rules}
+use Rattle.std.proofs.Common.{◌-◌}
 use Rattle.random_networks.proofs.trial.twist_all.Given as goal
 
 abbrev pub invariant-loop-t : goal.invariant-loop-t

@@ -1,5 +1,5 @@
 -- `random_schedules::flags::pass_all` is safe and ends: it goes through the records.
-use Rattle.std.proofs.Common.{◌-◌, arith, rules}
+use Rattle.std.proofs.Common.{arith}
 use Rattle.random_schedules.proofs.flags.pass_all.Goals as goal
 
 pub loop-i-init : goal.loop-i-init

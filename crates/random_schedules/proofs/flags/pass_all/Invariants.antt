@@ -1,5 +1,5 @@
 -- `random_schedules::flags::pass_all` is safe and ends: it goes through the records.
-use Rattle.std.proofs.Common.{◌-◌, arith, rules}
+use Rattle.std.proofs.Common.{◌-◌}
 use Rattle.random_schedules.proofs.flags.pass_all.Given as goal
 
 abbrev pub invariant-loop-i : goal.invariant-loop-i

@@ -1,5 +1,5 @@
 -- `random_schedules::flags::see_all` is safe and ends: it counts the windows.
-use Rattle.std.proofs.Common.{◌-◌, arith, rules}
+use Rattle.std.proofs.Common.{arith}
 use Rattle.random_schedules.proofs.flags.see_all.Goals as goal
 
 pub loop-i-init : goal.loop-i-init

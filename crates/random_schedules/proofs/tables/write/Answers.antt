@@ -1,5 +1,5 @@
 -- `random_schedules::tables::write` is safe and ends: it counts the windows.
-use Rattle.std.proofs.Common.{◌-◌, arith, rules}
+use Rattle.std.proofs.Common.{arith}
 use Rattle.random_schedules.proofs.tables.write.Goals as goal
 
 pub loop-i-init : goal.loop-i-init

@@ -1,5 +1,5 @@
 -- `random_schedules::tables::write` is safe and ends: it counts the windows.
-use Rattle.std.proofs.Common.{◌-◌, arith, rules}
+use Rattle.std.proofs.Common.{◌-◌}
 use Rattle.random_schedules.proofs.tables.write.Given as goal
 
 abbrev pub invariant-loop-i : goal.invariant-loop-i

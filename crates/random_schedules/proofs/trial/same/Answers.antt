@@ -1,5 +1,5 @@
 -- `random_schedules::trial::same` is safe and ends: it goes through the annotation's part.
-use Rattle.std.proofs.Common.{◌-◌, arith, rules}
+use Rattle.std.proofs.Common.{arith}
 use Rattle.random_schedules.proofs.trial.same.Goals as goal
 
 pub loop-i-init : goal.loop-i-init

@@ -1,5 +1,5 @@
 -- `random_schedules::trial::to_front` is safe and ends: it goes through the annotation's part.
-use Rattle.std.proofs.Common.{◌-◌, arith, rules}
+use Rattle.std.proofs.Common.{arith}
 use Rattle.random_schedules.proofs.trial.to_front.Goals as goal
 
 pub loop-i-init : goal.loop-i-init

@@ -1,5 +1,5 @@
 -- `random_schedules::trial::to_front` is safe and ends: it goes through the annotation's part.
-use Rattle.std.proofs.Common.{◌-◌, arith, rules}
+use Rattle.std.proofs.Common.{◌-◌}
 use Rattle.random_schedules.proofs.trial.to_front.Given as goal
 
 abbrev pub invariant-loop-i : goal.invariant-loop-i
