@@ -3,14 +3,16 @@
 
 ghost use Rattle.std.specs.Prelude.{◌≡◌};
 ghost use Rattle.prelude.specs.Checks.{first_broken};
+ghost use Rattle.refusals.specs.Refusals.{why};
 ghost use Rattle.network.specs.Tests.{reading_all};
-ghost use Rattle.checks.specs.Held.{handed, asked};
+ghost use Rattle.checks.specs.Held.{asked};
 ghost use Rattle.format.specs.Files.{setting_in, arcs_in};
 ghost use Rattle.acceptance.specs.Acceptance.{acceptance_checks};
 
 use checks::{HeldSetting, Opening, opening_check};
 use format::network_file;
 use reading::reading_check;
+use refusals::Refusal;
 
 // What the header asks.
 pub fn setting(net: &[u8]) -> HeldSetting
@@ -28,47 +30,24 @@ pub fn setting(net: &[u8]) -> HeldSetting
     }
 }
 
-// The same as it is handed to opening.
-pub fn opening_of(st: HeldSetting) -> Opening
-    ensures { handed result ≡ asked st }
-{
-    Opening {
-        question: st.question as u32,
-        n: st.n as u32,
-        s: st.s as u32,
-        t: st.t as u32,
-    }
-}
-
-// 0, or the number of the first check that refuses a record: 6, 7 or 8.
-fn records_check(st: HeldSetting, net: &[u8]) -> u8
-    ensures { result ≡ first_broken (reading_all (asked st) 0 (arcs_in net.now)) }
+// The first check that refuses a record: 6, 7 or 8.
+fn records_check(st: HeldSetting, net: &[u8]) -> Result<(), Refusal>
+    ensures { why result ≡ first_broken (reading_all (asked st) 0 (arcs_in net.now)) }
 {
     let m = network_file::count(net) as u32;
-    let mut e: u32 = 0;
-    while e < m {
+    for e in 0..m {
         let arc = network_file::arc(net, e as usize);
-        let why = reading_check(st, e, arc);
-        if why != 0 {
-            return why;
-        }
-        e += 1;
+        reading_check(st, e, arc)?;
     }
-    0
+    Ok(())
 }
 
-// 0, or the number of the first check that refuses the file: of its layout, of its header, or of one of its records in turn.
-pub fn acceptance_check(net: &[u8]) -> u8
-    ensures { result ≡ first_broken (acceptance_checks net.now) }
+// The first check that refuses the file: of its layout, of its header, or of one of its records in turn.
+pub fn acceptance_check(net: &[u8]) -> Result<(), Refusal>
+    ensures { why result ≡ first_broken (acceptance_checks net.now) }
 {
-    let layout = network_file::network_check(net);
-    if layout != 0 {
-        return layout;
-    }
+    network_file::network_check(net)?;
     let st = setting(net);
-    let opening = opening_check(opening_of(st));
-    if opening != 0 {
-        return opening;
-    }
+    opening_check(Opening::from(st))?;
     records_check(st, net)
 }

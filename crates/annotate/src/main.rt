@@ -7,15 +7,12 @@ use program_io::front;
 fn main(rt: HostRuntime) {
     let mut net = front::room();
     let mut ann = front::room();
-    let mut text = [0u8; 32];
     let annotated = annotation_line::annotate_files(
         &rt,
         b"plan.drn",
         b"plan.dra",
         &mut net,
         &mut ann,
-        &mut text,
     );
-    let n = annotated.line;
-    io::write_all(1, &text[..n]);
+    io::write_all(1, annotated.line.as_bytes());
 }

@@ -5,6 +5,7 @@ ghost use Rattle.std.specs.Prelude.{◌≡◌, ◌+◌, ◌*◌, ◌≤◌, leng
 ghost use mathlib.Core.List.{flat_map, ◌++◌};
 ghost use Rattle.std.proofs.lemmas.List.Edits.{sets};
 ghost use Rattle.prelude.specs.Checks.{first_broken};
+ghost use Rattle.refusals.specs.Refusals.{why};
 ghost use Rattle.prelude.specs.Lists.{list_to};
 ghost use Rattle.arc_records.specs.Arcs.{word_arcs};
 ghost use Rattle.network.specs.Network.{loads_of};
@@ -14,39 +15,35 @@ ghost use Rattle.annotation_writing.specs.Requests.{size_for, annotate_checks};
 
 use acceptance::acceptance_check;
 use format::{annotation_file, network_file};
+use refusals::Refusal;
 
 // The length of the annotation of a network file.
 pub fn annotation_size(net: &[u8]) -> u32
     ensures { result ≡ size_for net.now }
 {
-    let n = network_file::vertices(net) as u32;
-    let m = network_file::count(net) as u32;
+    let n = u32::from(network_file::vertices(net));
+    let m = u32::from(network_file::count(net));
     8 + 4 * n + 6 * m
 }
 
-// 0, or the number of the first check that refuses the file or the room for its annotation.
-pub fn annotate_check(net: &[u8], room: usize) -> u8
-    ensures { result ≡ first_broken (annotate_checks net.now room) }
+// The first check that refuses the file or the room for its annotation.
+pub fn annotate_check(net: &[u8], room: usize) -> Result<(), Refusal>
+    ensures { why result ≡ first_broken (annotate_checks net.now room) }
 {
-    let why = acceptance_check(net);
-    if why != 0 {
-        return why;
-    }
+    acceptance_check(net)?;
     let size = annotation_size(net) as usize;
     if room < size {
-        return 20;
+        return Err(Refusal::BufferTooShort);
     }
-    0
+    Ok(())
 }
 
 // The records of the file, as many as there is room for, each as one number.
 pub fn gather(net: &[u8], records: &mut [u32])
     ensures { word_arcs records.new ≡ list_to (length records.old) (arc_in net.now) }
 {
-    let mut e = 0;
-    while e < records.len() {
-        records[e] = network_file::word(net, e);
-        e += 1;
+    for (e, record) in records.iter_mut().enumerate() {
+        *record = network_file::word(net, e);
     }
 }
 
@@ -54,10 +51,8 @@ pub fn gather(net: &[u8], records: &mut [u32])
 fn write_numbers(part: &mut [u8], numbers: &[i32])
     ensures { part.new ≡ sets part.old 0 (flat_map byte32 numbers.now) }
 {
-    let mut v = 0;
-    while v < numbers.len() {
-        annotation_file::write_number(part, v, numbers[v]);
-        v += 1;
+    for (v, number) in numbers.iter().enumerate() {
+        annotation_file::write_number(part, v, *number);
     }
 }
 
@@ -66,10 +61,8 @@ fn write_loads(part: &mut [u8], records: &[u32], amounts: &[u16])
     requires { length records.now ≡ length amounts.now }
     ensures { part.new ≡ sets part.old 0 (flat_map load_bytes (loads_of (word_arcs records.now) amounts.now)) }
 {
-    let mut e = 0;
-    while e < amounts.len() {
-        annotation_file::write_load(part, e, records[e], amounts[e]);
-        e += 1;
+    for (e, amount) in amounts.iter().enumerate() {
+        annotation_file::write_load(part, e, records[e], *amount);
     }
 }
 

@@ -4,31 +4,15 @@ use mathlib.Core.List.{List, [], ◌∷◌, ◌++◌}
 use Prim.Native.Nat.{ℕ, zero, suc, ◌+◌, ◌≤◌, ◌<◌}
 use native.Mathlib.Decide.{ℕ_discrete}
 use native.Mathlib.Omega.{arith}
-use lib.ListN.{length, set, replicate, length-replicate, get_or-replicate, get_or-append}
+use lib.ListN.{length, set, get_or-append}
 use lib.Seq.{get_or-append_seam}
 use Rattle.prelude.specs.Lists.{list_to}
 use Rattle.prelude.proofs.Filling.{Filling, fill_start, fill_turn}
 use Rattle.prelude.proofs.Lists.{list_to_length}
 use Rattle.packed_arcs.specs.Entries.{entry}
 use Rattle.packed_arcs.proofs.ListLoops.{filled_as}
-use Rattle.arc_index.specs.ArcIndex.{no_arc}
 
 -- ---- no arcs
-
--- l is as long as l₀, and no arc stands in it below e
-abbrev pub Clearing : List ℕ → List ℕ → ℕ → Type 0
-Clearing l₀ l e = Filling (λ i x. x ≡ no_arc) 0 l₀ l e
-
-pub clear_start : (l₀ : List ℕ) → Clearing l₀ l₀ 0
-clear_start l₀ = fill_start (λ i x. x ≡ no_arc) 0 l₀
-
-pub clear_turn : (l₀ l : List ℕ) (e : ℕ) → e < length l → Clearing l₀ l e → Clearing l₀ (set l e no_arc) (e + 1)
-clear_turn l₀ l e h F = fill_turn (λ i x. x ≡ no_arc) 0 l₀ l e no_arc (omega (arith, F.len)) refl F
-
-pub clear_end : (l₀ l : List ℕ) (e : ℕ) → length l ≤ e → Clearing l₀ l e → l ≡ replicate (length l₀) no_arc
-clear_end l₀ l e h F =
-    let n = length l₀ in
-    filled_as (λ i. no_arc) 0 l₀ l (replicate n no_arc) e (omega (arith, F.len)) (length-replicate n no_arc) (λ i b. get_or-replicate n i no_arc 0 b) F
 
 -- ---- each vertex at its own place
 

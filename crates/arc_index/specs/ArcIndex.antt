@@ -91,5 +91,5 @@ packed_ends Head arcs = heads_of arcs
 -- ---- of both
 
 -- What is indexed: few enough arcs, and links for the vertices and for each arc.
-abbrev pub indexable : List ℕ → List ℕ → Bool
+abbrev pub indexable : {A : Type 0} → List A → List ℕ → Bool
 indexable arcs links = leb (length arcs) no_arc && eqb (length links) (256 + length arcs)

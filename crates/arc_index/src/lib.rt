@@ -2,17 +2,17 @@
 // While it is built, last holds for each vertex the place in links where its next arc is noted; so chains are in file order.
 #![tactic(auto)]
 
-ghost use Rattle.std.specs.Prelude.{◌≡◌, ◌≤◌, length, replicate, set};
+ghost use Rattle.std.specs.Prelude.{◌≡◌, ℕ, ◌≤◌, length, map, replicate};
 ghost use Rattle.prelude.specs.Choice.{pick};
 ghost use Rattle.prelude.specs.Lists.{list_to};
 ghost use Rattle.arc_index.specs.ArcIndex.{no_arc, index_of, added_below, index_from, links_of, record_end, record_ends, indexable};
 
 use arc_records::arc_in;
-use packed_arcs::numbers::place;
+use words::entries::store;
 
 pub mod packed;
 
-// What stands where there is no arc.
+// What stands where there is no arc. Memory is fixed, and an Option would take twice the room in the links.
 pub const NO_ARC: u16 = 4096;
 
 // The end of an arc by which it is indexed.
@@ -22,14 +22,25 @@ pub enum End {
     Head,
 }
 
-// Notes no arc in every link.
-fn clear_links(links: &mut [u16])
-    ensures { links.new ≡ replicate (length links.old) no_arc }
-{
-    let mut i = 0;
-    while i < links.len() {
-        links[i] = NO_ARC;
-        i += 1;
+// An arc that is held in one number: the word of a record, or a packed arc.
+pub trait Arc: Copy {
+    ghost use Rattle.arc_index.specs.declared.End.{End};
+
+    ghost end_of: { End → Self → ℕ };
+
+    fn end(self, end: End) -> u8
+        ensures { result ≡ end_of end self };
+}
+
+impl Arc for u32 {
+    ghost end_of = { record_end };
+
+    fn end(self, end: End) -> u8 {
+        let arc = arc_in(self);
+        match end {
+            End::Tail => arc.tail as u8,
+            End::Head => arc.head as u8,
+        }
     }
 }
 
@@ -38,10 +49,8 @@ fn first_places() -> [u16; 256]
     ensures { result ≡ list_to 256 (λ v. v) }
 {
     let mut last = [0u16; 256];
-    let mut v = 0;
-    while v < 256 {
+    for v in 0..256 {
         last[v] = v as u16;
-        v += 1;
     }
     last
 }
@@ -50,17 +59,8 @@ fn first_places() -> [u16; 256]
 pub fn begin(links: &mut [u16], last: &mut [u16; 256])
     ensures { (links.new ≡ replicate (length links.old) no_arc) × (last.new ≡ list_to 256 (λ v. v)) }
 {
-    clear_links(links);
+    links.fill(NO_ARC);
     *last = first_places();
-}
-
-// Notes the arc e at a place in links, and nothing past the end.
-fn note(e: u16, at: usize, links: &mut [u16])
-    ensures { links.new ≡ set links.old at e }
-{
-    if at < links.len() {
-        links[at] = e;
-    }
 }
 
 // Adds the arc e, whose end is v, at the end of the chain of v. No arc has a number from NO_ARC on: then nothing is changed.
@@ -71,47 +71,41 @@ pub fn add(e: u16, v: u8, links: &mut [u16], last: &mut [u16; 256])
         return;
     }
     let i = v as usize;
-    let p = place(last[i]);
-    note(e, p, links);
+    let p = usize::from(last[i]);
+    store(links, p, e);
     last[i] = 256 + e;
 }
 
-// The end of the arc of a record.
-fn end_of(end: End, word: u32) -> u8
-    ensures { result ≡ record_end end word }
+// Adds the arcs one after the other to an index that has none.
+fn add_all<T: Arc>(arcs: &[T], end: End, links: &mut [u16], last: &mut [u16; 256])
+    requires { length arcs.now ≤ no_arc }
+    ensures { index_of links.new last.new ≡ index_from 0 (map (T.end_of end) arcs.now) (index_of links.old last.old) }
 {
-    let arc = arc_in(word);
-    match end {
-        End::Tail => arc.tail as u8,
-        End::Head => arc.head as u8,
+    for e in 0..arcs.len() {
+        let v = arcs[e].end(end);
+        add(e as u16, v, links, last);
     }
 }
 
-// Adds the arcs of the records one after the other to an index that has none.
-fn add_all(records: &[u32], end: End, links: &mut [u16], last: &mut [u16; 256])
-    requires { length records.now ≤ no_arc }
-    ensures { index_of links.new last.new ≡ index_from 0 (record_ends end records.now) (index_of links.old last.old) }
+// The links of the index of arcs by an end. Refused, and then nothing is changed, unless there are at most 4096 arcs, and 256 links and one for each.
+fn index_arcs<T: Arc>(arcs: &[T], end: End, links: &mut [u16]) -> bool
+    ensures { (result ≡ indexable arcs.now links.old) × (links.new ≡ pick (indexable arcs.now links.old) (links_of (map (T.end_of end) arcs.now)) links.old) }
 {
-    let mut e: u16 = 0;
-    while (e as usize) < records.len() {
-        let v = end_of(end, records[e as usize]);
-        add(e, v, links, last);
-        e += 1;
-    }
-}
-
-// The links of the index of the arcs of the records by an end. Refused, and then nothing is changed, unless there are at most 4096 records, and 256 links and one for each.
-pub fn index(records: &[u32], end: End, links: &mut [u16]) -> bool
-    ensures { (result ≡ indexable records.now links.old) × (links.new ≡ pick (indexable records.now links.old) (links_of (record_ends end records.now)) links.old) }
-{
-    if (NO_ARC as usize) < records.len() {
+    if usize::from(NO_ARC) < arcs.len() {
         return false;
     }
-    if links.len() != 256 + records.len() {
+    if links.len() != 256 + arcs.len() {
         return false;
     }
     let mut last = [0u16; 256];
     begin(links, &mut last);
-    add_all(records, end, links, &mut last);
+    add_all(arcs, end, links, &mut last);
     true
+}
+
+// The links of the index of the arcs of the records by an end, as index_arcs.
+pub fn index(records: &[u32], end: End, links: &mut [u16]) -> bool
+    ensures { (result ≡ indexable records.now links.old) × (links.new ≡ pick (indexable records.now links.old) (links_of (record_ends end records.now)) links.old) }
+{
+    index_arcs(records, end, links)
 }

@@ -4,6 +4,7 @@
 ghost use Rattle.std.specs.Prelude.{◌≡◌, ◌≤◌, length};
 ghost use Rattle.std.proofs.lemmas.List.Edits.{sets};
 ghost use Rattle.prelude.specs.Checks.{first_broken};
+ghost use Rattle.refusals.specs.Refusals.{why};
 ghost use Rattle.format.specs.Replies.{writer_said};
 ghost use Rattle.tide_windows.specs.Windows.{windows_in};
 ghost use Rattle.calendar_records.specs.MinuteNetwork.{arcs_at};
@@ -11,17 +12,15 @@ ghost use Rattle.calendar.specs.Schedule.{file_at, request_checks, schedule_repl
 
 use acceptance::acceptance_check;
 use calendar_records::write_records;
-use format::{Written, network_file};
+use format::network_file;
+use refusals::Refusal;
 use tide_windows::windows_check;
 
-// 0, or the number of the first check that refuses the file, the windows or the minute.
-fn request_check(net: &[u8], windows: &[[u32; 3]], minute: u32) -> u8
-    ensures { result ≡ first_broken (request_checks net.now (windows_in windows.now) minute) }
+// The first check that refuses the file, the windows or the minute.
+fn request_check(net: &[u8], windows: &[[u32; 3]], minute: u32) -> Result<(), Refusal>
+    ensures { why result ≡ first_broken (request_checks net.now (windows_in windows.now) minute) }
 {
-    let why = acceptance_check(net);
-    if why != 0 {
-        return why;
-    }
+    acceptance_check(net)?;
     windows_check(windows, minute, network_file::count(net) as u32)
 }
 
@@ -51,18 +50,20 @@ fn write_file(net: &[u8], windows: &[[u32; 3]], minute: u32, count: u16, buffer:
 }
 
 // Writes the network of the minute into the front of the buffer: its length, or the refusal, which leaves the buffer as it is.
-pub fn schedule(net: &[u8], windows: &[[u32; 3]], minute: u32, buffer: &mut [u8]) -> Written
+pub fn schedule(
+    net: &[u8],
+    windows: &[[u32; 3]],
+    minute: u32,
+    buffer: &mut [u8],
+) -> Result<u32, Refusal>
     ensures { (writer_said result ≡ schedule_reply net.now (windows_in windows.now) minute (length buffer.old)) × (buffer.new ≡ buffer_after net.now (windows_in windows.now) minute buffer.old) }
 {
-    let why = request_check(net, windows, minute);
-    if why != 0 {
-        return Written::Refused(why);
-    }
+    request_check(net, windows, minute)?;
     let count = count_left(net, windows, minute);
     let size = 11 + 4 * count;
     if buffer.len() < size {
-        return Written::Refused(20);
+        return Err(Refusal::BufferTooShort);
     }
     write_file(net, windows, minute, count as u16, buffer);
-    Written::Length(size as u32)
+    Ok(size as u32)
 }

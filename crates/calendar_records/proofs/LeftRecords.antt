@@ -20,20 +20,19 @@ use Rattle.format.proofs.Records.{flat_append, flat_length}
 use Rattle.format.proofs.Codings.{arcs_coded}
 use Rattle.calendar_records.specs.MinuteNetwork.{emptied, left_for, left_from}
 use Rattle.calendar_records.specs.Records.{left_held, RecordsIn}
-use Rattle.calendar_records.specs.declared.Left.{Left}
-use Rattle.calendar_records.specs.declared.Left.TheVariants.{One, Nothing}
+use Rattle.std.specs.Prelude.{Option, Some, None}
 use Rattle.calendar_records.proofs.LeftArcs.{left_length, left_one_more}
 
 -- ---- one arc
 
-module _ (left : Left) (k : ℕ) (before : List ℕ) where
-  pub one_written : (e : Record) (after : List ℕ) → left ≡ One e → after ≡ sets before (4 * k) (arc_bytes (low_arc (arc_held e))) → RecordsIn (map low_arc (left_held left)) k before (k + 1) after
+module _ (k : ℕ) (before : List ℕ) where
+  pub one_written : (e : Record) (after : List ℕ) → after ≡ sets before (4 * k) (arc_bytes (low_arc (arc_held e))) → RecordsIn (map low_arc (left_held (Some e))) k before (k + 1) after
   unfolding flat_map
-  one_written e after is w = subst (λ (l : Left). RecordsIn (map low_arc (left_held l)) k before (k + 1) after) (sym is) (record { count = refl; bytes = w })
+  one_written e after w = record { count = refl; bytes = w }
 
-  pub none_written : left ≡ Nothing → RecordsIn (map low_arc (left_held left)) k before k before
+  pub none_written : RecordsIn (map low_arc (left_held None)) k before k before
   unfolding flat_map
-  none_written is = subst (λ (l : Left). RecordsIn (map low_arc (left_held l)) k before k before) (sym is) (record { count = omega arith; bytes = refl })
+  none_written = record { count = omega arith; bytes = refl }
 
 -- the numbers of an arc that is read from four bytes fit their fields
 low_word : (w : ℕ) → low_arc (word_arc w) ≡ word_arc w

@@ -1,16 +1,15 @@
 -- What the functions of the calendar answer one another: what is left of a record, and records that were written.
-use Rattle.std.specs.Prelude.{◌≡◌, ℕ, ◌+◌, ◌*◌, length}
+use Rattle.std.specs.Prelude.{◌≡◌, ℕ, ◌+◌, ◌*◌, length, Option, Some, None}
 use mathlib.Core.List.{List, [], ◌∷◌, flat_map}
 use Rattle.std.proofs.lemmas.List.Edits.{sets}
 use Rattle.arc_records.specs.Arcs.{Arc, arc_held}
 use Rattle.format.specs.Files.{arc_bytes}
-use Rattle.calendar_records.specs.declared.Left.{Left}
-use Rattle.calendar_records.specs.declared.Left.TheVariants.{One, Nothing}
+use Rattle.arc_records.specs.declared.Record.{Record}
 
 -- What the code says is left of an arc.
-abbrev pub left_held : Left → List Arc
-left_held (One e) = arc_held e ∷ []
-left_held Nothing = []
+abbrev pub left_held : Option Record → List Arc
+left_held (Some e) = arc_held e ∷ []
+left_held None = []
 
 -- These arcs are written into a part behind its first k records, r is how many there are then, and all other bytes are as they were.
 pub record RecordsIn (arcs : List Arc) (k : ℕ) (before : List ℕ) (r : ℕ) (after : List ℕ) : Type 0 where

@@ -15,51 +15,41 @@ use checks::rows::{Question, question_of};
 use format::network_file;
 use tide_windows::is_open;
 
-// What is left of a record: one record, or nothing.
-#[derive(Clone, Copy)]
-pub enum Left {
-    One(Record),
-    Nothing,
-}
-
 // What is left of a record that is closed.
-fn closed(question: Question, arc: Record) -> Left
+fn closed(question: Question, arc: Record) -> Option<Record>
     ensures { left_held result ≡ closed_for (question_held question) (arc_held arc) }
 {
     match question {
-        Question::Path => Left::Nothing,
-        Question::Flow => Left::One(Record {
-            tail: arc.tail,
-            head: arc.head,
-            weight: 0,
-        }),
-        Question::Assignment => Left::Nothing,
-        Question::Acyclicity => Left::Nothing,
-        Question::Unasked => Left::Nothing,
+        Question::Path => None,
+        Question::Flow => Some(Record { weight: 0, ..arc }),
+        Question::Assignment => None,
+        Question::Acyclicity => None,
+        Question::Unasked => None,
     }
 }
 
 // What is left of a record that is open or closed.
-fn left_of(question: Question, opened: bool, arc: Record) -> Left
+fn left_of(question: Question, opened: bool, arc: Record) -> Option<Record>
     ensures { left_held result ≡ left_for (question_held question) opened (arc_held arc) }
 {
     if opened {
-        return Left::One(arc);
+        Some(arc)
+    } else {
+        closed(question, arc)
     }
-    closed(question, arc)
 }
 
-// Writes what is left of a record into the part, behind the first k records; how many there are then.
-fn write_left(part: &mut [u8], k: usize, left: Left) -> usize
+// Writes what is left of a record into the part, behind the first k records; how many there are then. No heap: the file stands in a lent buffer, and how far it goes is a number beside it.
+fn write_left(part: &mut [u8], k: usize, left: Option<Record>) -> usize
     requires { k < 65536 }
     ensures { RecordsIn (map low_arc (left_held left)) k part.old result part.new }
 {
     match left {
-        Left::One(arc) => {
+        Some(arc) => {
             network_file::write_arc(part, k, arc);
             k + 1
         }
-        Left::Nothing => k,
+        None => k,
     }
 }
 
@@ -75,7 +65,7 @@ fn write_record(
     requires { k < 65536 }
     ensures { RecordsIn (left_for (asks (setting_in net.now)) (is_open (windows_in windows.now) minute position) (arc_in net.now position)) k part.old result part.new }
 {
-    let asked = question_of(network_file::question(net) as u32);
+    let asked = question_of(u32::from(network_file::question(net)));
     let arc = arc_in(network_file::word(net, position as usize));
     let opened = is_open(windows, minute, position);
     write_left(part, k, left_of(asked, opened, arc))
@@ -85,12 +75,10 @@ fn write_record(
 pub fn write_records(net: &[u8], windows: &[[u32; 3]], minute: u32, part: &mut [u8]) -> usize
     ensures { RecordsIn (arcs_at net.now (windows_in windows.now) minute) 0 part.old result part.new }
 {
-    let m = network_file::count(net) as u32;
+    let m = u32::from(network_file::count(net));
     let mut k = 0;
-    let mut e: u32 = 0;
-    while e < m {
+    for e in 0..m {
         k = write_record(net, windows, minute, e, part, k);
-        e += 1;
     }
     k
 }

@@ -21,7 +21,9 @@ use Rattle.packed_arcs.proofs.LentParts.{zero_at}
 use Rattle.arc_index.specs.Columns.{record_tails, record_heads}
 use Rattle.order_path.specs.Search.{joins_below, searchable, Ordered, Circulation, SearchOutcome}
 use Rattle.order_path.specs.declared.Found.{Found}
-use Rattle.order_path.specs.declared.Found.TheVariants.{Order, Cycle, Refused}
+use Rattle.order_path.specs.declared.Found.TheVariants.{Order, Cycle}
+use Rattle.std.specs.Prelude.{Result, Ok, Err, IsOk}
+use Rattle.packed_arcs.specs.declared.OutOfLimits.{OutOfLimits}
 use Rattle.cert_instances.specs.Instance.{number_of}
 use Rattle.cert_instances.specs.Certify.{NodeNumbers, Solution}
 use Rattle.cert_instances.specs.declared.vertices.NumberKind.TheVariants.{Potential}
@@ -78,12 +80,12 @@ module _ (st : Setting) (rs : List ℕ) (a : Admissible st (word_arcs rs)) (q : 
     pub marks_len : length marks' ≡ length rs
     pub cycle : Circulation (record_tails rs) (record_heads rs) marks'
 
-  abbrev pub FoundCase : List ℕ → List ℕ → Found → Type 0
-  FoundCase ranks' marks' Order = InOrder ranks' marks'
-  FoundCase ranks' marks' Cycle = InCycle ranks' marks'
-  FoundCase ranks' marks' Refused = ⊥
+  abbrev pub FoundCase : List ℕ → List ℕ → Result Found OutOfLimits → Type 0
+  FoundCase ranks' marks' (Ok Order) = InOrder ranks' marks'
+  FoundCase ranks' marks' (Ok Cycle) = InCycle ranks' marks'
+  FoundCase ranks' marks' (Err e) = ⊥
 
-  pub found_case : {ranks marks ranks' marks' : List ℕ} {r : Found} → length ranks ≡ st.n → length marks ≡ length rs
+  pub found_case : {ranks marks ranks' marks' : List ℕ} {r : Result Found OutOfLimits} → length ranks ≡ st.n → length marks ≡ length rs
       → SearchOutcome rs ranks marks ranks' marks' r → FoundCase ranks' marks' r
   found_case en em (SearchOutcome.ordered ok len o z) =
       record { few = omega (arith, len, en, a.opened.sized.at_most); order = o; unmarked = z ∙ ap zero_list em }
@@ -91,12 +93,15 @@ module _ (st : Setting) (rs : List ℕ) (a : Admissible st (word_arcs rs)) (q : 
       record { no_ranks = z ∙ ap zero_list en; marks_len = c.len ∙ column_len (λ e. e.tail) (word_arcs rs) ∙ length-map rs word_arc; cycle = c }
   found_case {ranks} {marks} en em (SearchOutcome.refused off er em') = absurd (false≢true (sym off ∙ may_search ranks marks en em))
 
-  -- what is written is small
-  pub ranks_low : {ranks' marks' : List ℕ} → InOrder ranks' marks' → (v : ℕ) → v < length ranks' → number_of Potential (entry ranks' v) ≤ most_potential
-  ranks_low o v h = omega (arith, o.order.below v, o.few)
+  -- it is no refusal
+  pub is_found : (ranks' marks' : List ℕ) (r : Result Found OutOfLimits) → FoundCase ranks' marks' r → IsOk r
+  is_found ranks' marks' (Ok f) c = refl
+  is_found ranks' marks' (Err e) c = absurd c
 
-  pub zeros_low : {ranks' marks' : List ℕ} → InCycle ranks' marks' → (v : ℕ) → v < length ranks' → number_of Potential (entry ranks' v) ≤ most_potential
-  zeros_low c v h = rw c.no_ranks (omega (arith, zero_at st.n v))
+  -- what is written is small
+  pub found_low : (ranks' marks' : List ℕ) (f : Found) → FoundCase ranks' marks' (Ok f) → (v : ℕ) → v < length ranks' → number_of Potential (entry ranks' v) ≤ most_potential
+  found_low ranks' marks' Order o v h = omega (arith, o.order.below v, o.few)
+  found_low ranks' marks' Cycle c v h = rw c.no_ranks (omega (arith, zero_at st.n v))
 
   pub order_answer : {ranks' marks' : List ℕ} {ys : List ℤ} → InOrder ranks' marks' → NodeNumbers Potential ranks' ys → Solution st (word_arcs rs) ys marks' 1
   order_answer {ranks'} {marks'} {ys} o w = solution st (word_arcs rs) acyclicity q ys marks' (value 0) (by_ranks ranks' marks' ys w (value 0) certificate) tt

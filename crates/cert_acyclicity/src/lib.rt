@@ -5,10 +5,10 @@ ghost use Rattle.std.specs.Prelude.{◌≡◌, length};
 ghost use Rattle.arc_records.specs.Arcs.{word_arcs};
 ghost use Rattle.network.specs.Question.{acyclicity, asks, Admissible};
 ghost use Rattle.checks.specs.Held.{asked};
-ghost use Rattle.cert_instances.specs.Certify.{finding_number, Solution};
+ghost use Rattle.cert_instances.specs.Certify.{claimed, Solution};
 
 use arc_records::MOST_VERTICES;
-use cert_instances::Finding;
+use cert_instances::Claim;
 use cert_instances::vertices::{NumberKind, write};
 use checks::HeldSetting;
 use order_path::Found;
@@ -20,22 +20,16 @@ fn answer_acyclicity(
     ranks: &mut [u32],
     numbers: &mut [i32],
     amounts: &mut [u16],
-) -> Finding
+) -> Claim
     requires admissible { Admissible (asked st) (word_arcs records.now) × (asks (asked st) ≡ acyclicity) }
     requires amounts_len { (length amounts.old ≡ length records.now) × (length numbers.old ≡ st.n) × (length ranks.old ≡ st.n) }
-    ensures { Solution (asked st) (word_arcs records.now) numbers.new amounts.new (finding_number result) }
+    ensures { Solution (asked st) (word_arcs records.now) numbers.new amounts.new (claimed result) }
 {
-    let found = order_acyclicity::search(records, ranks, amounts);
+    let found = order_acyclicity::search(records, ranks, amounts).unwrap();
+    write(NumberKind::Potential, ranks, numbers);
     match found {
-        Found::Order => {
-            write(NumberKind::Potential, ranks, numbers);
-            Finding::Value
-        }
-        Found::Cycle => {
-            write(NumberKind::Potential, ranks, numbers);
-            Finding::None
-        }
-        Found::Refused => Finding::Refused,
+        Found::Order => Claim::Value,
+        Found::Cycle => Claim::None,
     }
 }
 
@@ -44,10 +38,10 @@ pub fn certify_acyclicity(
     records: &[u32],
     numbers: &mut [i32],
     amounts: &mut [u16],
-) -> Finding
+) -> Claim
     requires admissible { Admissible (asked st) (word_arcs records.now) × (asks (asked st) ≡ acyclicity) }
     requires amounts_len { (length amounts.old ≡ length records.now) × (length numbers.old ≡ st.n) }
-    ensures { Solution (asked st) (word_arcs records.now) numbers.new amounts.new (finding_number result) }
+    ensures { Solution (asked st) (word_arcs records.now) numbers.new amounts.new (claimed result) }
 {
     let n = numbers.len();
     let mut ranks = [0u32; MOST_VERTICES as usize];

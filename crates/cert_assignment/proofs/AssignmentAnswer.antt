@@ -9,6 +9,7 @@ use borrow.Author.Tests.{eq-eqb, lt-ltb, le-leb}
 use lib.Dec.{T, eqb, leb, ltb, lt→ltb}
 use lib.IntN.{ℤ, pos, neg_ℤ}
 use lib.ListN.{length}
+use Rattle.std.specs.Prelude.{Ok, Err}
 use Rattle.prelude.specs.Choice.{indicator}
 use Rattle.prelude.specs.Lists.{Every, all}
 use Rattle.prelude.specs.Sums.{sum_to, sum_to_ℤ}
@@ -29,8 +30,9 @@ use Rattle.packed_arcs.proofs.LentParts.{zero_at}
 use Rattle.arc_index.specs.Columns.{record_tails, record_heads, record_weights}
 use Rattle.match_results.specs.Results.{Saturating, Deficient}
 use Rattle.match_least_cost.specs.Outcome.{leads_across, matchable, FindOutcome, MatchOutcome}
+use Rattle.packed_arcs.specs.declared.OutOfLimits.{OutOfLimits}
 use Rattle.match_least_cost.specs.declared.Match.{Match}
-use Rattle.match_least_cost.specs.declared.Match.TheVariants.{Saturating as SaturatingMatch, Deficient as NoMatch, Refused}
+use Rattle.match_least_cost.specs.declared.Match.TheVariants.{Saturating as SaturatingMatch, Deficient as NoMatch}
 use Rattle.cert_instances.specs.Instance.{number_of}
 use Rattle.cert_instances.specs.Certify.{NodeNumbers, Solution}
 use Rattle.cert_instances.specs.declared.vertices.NumberKind.TheVariants.{Potential}
@@ -93,10 +95,11 @@ module _ (st : Setting) (rs : List ℕ) (a : Admissible st (word_arcs rs)) (q : 
   abbrev pub MatchCase : List ℕ → List ℕ → Match → Type 0
   MatchCase pi' x' SaturatingMatch = Saturating (pumps st) st.n (record_tails rs) (record_heads rs) (record_weights rs) x' pi'
   MatchCase pi' x' NoMatch = Deficient (pumps st) st.n (record_tails rs) (record_heads rs) pi' × (x' ≡ zero_list (length (record_tails rs)))
-  MatchCase pi' x' Refused = ⊥
 
-  pub match_case : {pi x pi' x' : List ℕ} {r : Match} → length pi ≡ st.n → length x ≡ length rs → MatchOutcome rs (pumps st) pi x pi' x' r → MatchCase pi' x' r
-  match_case {pi} {x} en em (MatchOutcome.refused off ep ex) = absurd (false≢true (sym off ∙ may_match pi x en em))
+  pub not_refused : {pi x pi' x' : List ℕ} {o : OutOfLimits} → length pi ≡ st.n → length x ≡ length rs → MatchOutcome rs (pumps st) pi x pi' x' (Err o) → ⊥
+  not_refused {pi} {x} en em (MatchOutcome.refused off ep ex) = false≢true (sym off ∙ may_match pi x en em)
+
+  pub match_case : {pi x pi' x' : List ℕ} {r : Match} → length pi ≡ st.n → length x ≡ length rs → MatchOutcome rs (pumps st) pi x pi' x' (Ok r) → MatchCase pi' x' r
   match_case {pi} {x} {pi'} {x'} {r} en em (MatchOutcome.found ok O) = go (subst (λ (n : ℕ). FindOutcome (pumps st) n (record_tails rs) (record_heads rs) (record_weights rs) pi' x' r) en O)
     where
       go : {s : Match} → FindOutcome (pumps st) st.n (record_tails rs) (record_heads rs) (record_weights rs) pi' x' s → MatchCase pi' x' s

@@ -5,10 +5,10 @@ ghost use Rattle.std.specs.Prelude.{◌≡◌, length};
 ghost use Rattle.arc_records.specs.Arcs.{word_arcs};
 ghost use Rattle.network.specs.Question.{maximum_flow, asks, Admissible};
 ghost use Rattle.checks.specs.Held.{asked};
-ghost use Rattle.cert_instances.specs.Certify.{finding_number, Solution};
+ghost use Rattle.cert_instances.specs.Certify.{claimed, Solution};
 
 use arc_records::{MOST_ARCS, MOST_VERTICES};
-use cert_instances::Finding;
+use cert_instances::Claim;
 use cert_instances::records::pack;
 use cert_instances::vertices::{NumberKind, write};
 use checks::HeldSetting;
@@ -24,18 +24,19 @@ fn answer_flow(
     key: &mut [u32],
     numbers: &mut [i32],
     amounts: &mut [u16],
-) -> Finding
+) -> Claim
     requires admissible { Admissible (asked st) (word_arcs records.now) × (asks (asked st) ≡ maximum_flow) }
     requires amounts_len { (length amounts.old ≡ length records.now) × (length numbers.old ≡ st.n) }
     requires arcs_len { (length arcs.old ≡ length records.now) × (length key.old ≡ st.n) }
-    ensures { Solution (asked st) (word_arcs records.now) numbers.new amounts.new (finding_number result) }
+    ensures { Solution (asked st) (word_arcs records.now) numbers.new amounts.new (claimed result) }
 {
     let s = st.s as usize;
     let t = st.t as usize;
     pack(st, records, arcs);
-    flow_maximum::solve(arcs, s, t, PLENTY, amounts, key);
+    // never refused: an admissible network is within the limits
+    let _ = flow_maximum::solve(arcs, s, t, PLENTY, amounts, key);
     write(NumberKind::Mark, key, numbers);
-    Finding::Value
+    Claim::Value
 }
 
 // The same, with arrays of its own to work in.
@@ -44,10 +45,10 @@ pub fn certify_flow(
     records: &[u32],
     numbers: &mut [i32],
     amounts: &mut [u16],
-) -> Finding
+) -> Claim
     requires admissible { Admissible (asked st) (word_arcs records.now) × (asks (asked st) ≡ maximum_flow) }
     requires amounts_len { (length amounts.old ≡ length records.now) × (length numbers.old ≡ st.n) }
-    ensures { Solution (asked st) (word_arcs records.now) numbers.new amounts.new (finding_number result) }
+    ensures { Solution (asked st) (word_arcs records.now) numbers.new amounts.new (claimed result) }
 {
     let n = numbers.len();
     let m = records.len();

@@ -1,5 +1,6 @@
 pub mod AgreeingMarks
 pub mod ColumnsAndLoads
+pub mod Standing
 pub mod FlowInstance
 pub mod PathInstance
 pub mod Solutions

@@ -1,5 +1,5 @@
 -- What the solver is handed and what it hands back: records of arcs, node numbers, amounts, and a claim.
-use Rattle.std.specs.Prelude.{◌≡◌, Bool, true, false, ◌&&◌, List, map, ℕ, ◌<◌, eqb, leb, ℤ, pos, length}
+use Rattle.std.specs.Prelude.{◌≡◌, Bool, true, false, ◌&&◌, List, map, ℕ, ◌<◌, eqb, leb, ℤ, pos, length, Result, Ok, Err}
 use Rattle.prelude.specs.Checks.{first_broken}
 use Rattle.prelude.specs.Lists.{all, at}
 use Rattle.arc_records.specs.Limits.{most_arcs, most_potential}
@@ -10,8 +10,9 @@ use Rattle.network.specs.Certificate.{Claim, of_value, of_none, claim_for, Certi
 use Rattle.network.specs.Tests.{claim_number, opening_checks, arc_checks}
 use Rattle.packed_arcs.specs.Entries.{entry}
 use Rattle.packed_arcs.specs.PackedArcs.{packed_arc}
-use Rattle.cert_instances.specs.declared.Finding.{Finding}
-use Rattle.cert_instances.specs.declared.Finding.TheVariants.{Value, None, Refused}
+use Rattle.cert_instances.specs.declared.Claim.{Claim as Claimed}
+use Rattle.cert_instances.specs.declared.Claim.TheVariants.{Value, None}
+use Rattle.cert_instances.specs.declared.Inadmissible.{Inadmissible}
 use Rattle.cert_instances.specs.declared.vertices.NumberKind.{NumberKind}
 use Rattle.cert_instances.specs.Instance.{toward, number_of}
 
@@ -76,11 +77,15 @@ LengthsFor assignment st net c y = Unit {0}
 LengthsFor acyclicity st net c y = Unit {0}
 LengthsFor unasked st net c y = Unit {0}
 
+-- The number of a claim.
+abbrev pub claimed : Claimed → ℕ
+claimed Value = 1
+claimed None = 2
+
 -- The number of the claim that was found; 0 for a refusal.
-abbrev pub finding_number : Finding → ℕ
-finding_number Value = 1
-finding_number None = 2
-finding_number Refused = 0
+abbrev pub finding_number : Result Claimed Inadmissible → ℕ
+finding_number (Ok c) = claimed c
+finding_number (Err e) = 0
 
 -- The annotation ys, xs is a certificate of the answer, and the reply its claim.
 pub record Solution (st : Setting) (net : List Arc) (ys : List ℤ) (xs : List ℕ) (reply : ℕ) : Type 0 where

@@ -18,9 +18,7 @@ fn capacity_of(question: Question, arc: Record) -> u32
     match question {
         Question::Path => 1,
         Question::Flow => arc.weight,
-        Question::Assignment => 0,
-        Question::Acyclicity => 0,
-        Question::Unasked => 0,
+        Question::Assignment | Question::Acyclicity | Question::Unasked => 0,
     }
 }
 
@@ -29,10 +27,10 @@ fn packed_arc(question: Question, word: u32) -> u64
     ensures { result ≡ packed_for (question_held question) word }
 {
     let arc = arc_in(word);
-    let tail = arc.tail as u64;
-    let head = arc.head as u64;
-    let cost = unit_cost(question, arc) as u64;
-    let capacity = capacity_of(question, arc) as u64;
+    let tail = u64::from(arc.tail);
+    let head = u64::from(arc.head);
+    let cost = u64::from(unit_cost(question, arc));
+    let capacity = u64::from(capacity_of(question, arc));
     tail + 256 * head + 65536 * cost + 4294967296 * capacity
 }
 
@@ -41,11 +39,9 @@ pub fn pack(st: HeldSetting, records: &[u32], arcs: &mut [u64])
     requires { length arcs.old ≡ length records.now }
     ensures { arcs.new ≡ map (packed_for (asks (asked st))) records.now }
 {
-    let question = question_of(st.question as u32);
-    let mut e = 0;
-    while e < records.len() {
-        arcs[e] = packed_arc(question, records[e]);
-        e += 1;
+    let question = question_of(u32::from(st.question));
+    for (e, word) in records.iter().enumerate() {
+        arcs[e] = packed_arc(question, *word);
     }
 }
 
@@ -53,45 +49,23 @@ pub fn pack(st: HeldSetting, records: &[u32], arcs: &mut [u64])
 fn record_ok(st: HeldSetting, word: u32) -> bool
     ensures { result ≡ record_ok (asked st) word }
 {
-    arc_check(st, arc_in(word)) == 0
+    arc_check(st, arc_in(word)).is_ok()
 }
 
 // Do they let every record through?
 fn records_ok(st: HeldSetting, records: &[u32]) -> bool
     ensures { result ≡ all (record_ok (asked st)) records.now }
 {
-    let mut e = 0;
-    while e < records.len() {
-        if !record_ok(st, records[e]) {
-            return false;
-        }
-        e += 1;
-    }
-    true
+    records.iter().all(|word| record_ok(st, *word))
 }
 
 // Is this what the solver answers?
 pub fn is_admissible(st: HeldSetting, records: &[u32], numbers: usize, amounts: usize) -> bool
     ensures { result ≡ admissible (asked st) records.now numbers amounts }
 {
-    let n = st.n;
-    let opening = Opening {
-        question: st.question as u32,
-        n: n as u32,
-        s: st.s as u32,
-        t: st.t as u32,
-    };
-    if opening_check(opening) != 0 {
-        return false;
-    }
-    if (MOST_ARCS as usize) < records.len() {
-        return false;
-    }
-    if numbers != (n as usize) {
-        return false;
-    }
-    if amounts != records.len() {
-        return false;
-    }
-    records_ok(st, records)
+    opening_check(Opening::from(st)).is_ok()
+        && records.len() <= MOST_ARCS as usize
+        && numbers == usize::from(st.n)
+        && amounts == records.len()
+        && records_ok(st, records)
 }

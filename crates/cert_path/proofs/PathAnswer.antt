@@ -20,8 +20,8 @@ use Rattle.flow_residual.specs.PackedNetwork.{residual_of, PackedPhaseState, Pac
 use Rattle.flow_residual.specs.Push.{Moved}
 use Rattle.flow_residual.specs.Phase.{SearchResult, PhaseState}
 use Rattle.flow_path.specs.Sending.{SearchAndPush, SendOutcome}
-use Rattle.flow_path.specs.declared.Sent.{Sent}
-use Rattle.flow_path.specs.declared.Sent.TheVariants.{Reached, Unreached, Refused}
+use Rattle.packed_arcs.specs.declared.OutOfLimits.{OutOfLimits}
+use Rattle.std.specs.Prelude.{Option, None, Some, Result, Ok, Err}
 use Rattle.packed_arcs.proofs.LentParts.{zero_at}
 use Rattle.prelude.proofs.Tested.{both_on}
 use Rattle.flow_residual.proofs.LastSearch.{near_enough}
@@ -104,16 +104,16 @@ module _ {st : Setting} {rs arcs x left key : List ℕ} (g : PathInputs st rs ar
     pub far : unreached ≤ entry key' st.t
     pub same_amounts : x' ≡ X
 
-  abbrev pub SentCase : List ℕ → List ℕ → List ℕ → Sent → Type 0
-  SentCase x' left' key' (Reached k) = Reach x' left' key' k
-  SentCase x' left' key' Unreached = Miss x' left' key'
-  SentCase x' left' key' Refused = ⊥
+  abbrev pub SentCase : List ℕ → List ℕ → List ℕ → Result (Option ℕ) OutOfLimits → Type 0
+  SentCase x' left' key' (Ok (Some k)) = Reach x' left' key' k
+  SentCase x' left' key' (Ok None) = Miss x' left' key'
+  SentCase x' left' key' (Err e) = ⊥
 
-  pub sent_case : {x' left' key' : List ℕ} {r : Sent} → SendOutcome arcs st.t 1 x left key x' left' key' r → SentCase x' left' key' r
+  pub sent_case : {x' left' key' : List ℕ} {r : Result (Option ℕ) OutOfLimits} → SendOutcome arcs st.t 1 x left key x' left' key' r → SentCase x' left' key' r
   sent_case (SendOutcome.refused off ex el ek) = absurd (false≢true (sym off ∙ may_send))
-  sent_case {x'} {left'} {key'} {r} (SendOutcome.answered ok S a) = go a
+  sent_case {x'} {left'} {key'} (SendOutcome.answered ok S a) = go a
     where
-      go : {q : Sent} → SearchAndPush arcs X Pi left x' left' key' st.t 1 q → SentCase x' left' key' q
+      go : {q : Option ℕ} → SearchAndPush arcs X Pi left x' left' key' st.t 1 q → SentCase x' left' key' (Ok q)
       go (SearchAndPush.away par F far ex el) = record { par = par; state = S; found = F; far = far; same_amounts = ex }
       go (SearchAndPush.reached par F near k M) = record { par = par; state = S; found = F; near = near; moved = M }
 

@@ -5,14 +5,13 @@ ghost use Rattle.std.specs.Prelude.{◌≡◌, length};
 ghost use Rattle.arc_records.specs.Arcs.{word_arcs};
 ghost use Rattle.network.specs.Question.{shortest_path, asks, Admissible};
 ghost use Rattle.checks.specs.Held.{asked};
-ghost use Rattle.cert_instances.specs.Certify.{finding_number, Solution};
+ghost use Rattle.cert_instances.specs.Certify.{claimed, Solution};
 
 use arc_records::{MOST_ARCS, MOST_VERTICES};
-use cert_instances::Finding;
+use cert_instances::Claim;
 use cert_instances::records::pack;
 use cert_instances::vertices::{NumberKind, stand, write};
 use checks::HeldSetting;
-use flow_path::Sent;
 
 // What is found, and numbers and amounts that certify it, for a path.
 fn answer_path(
@@ -22,28 +21,27 @@ fn answer_path(
     key: &mut [u32],
     numbers: &mut [i32],
     amounts: &mut [u16],
-) -> Finding
+) -> Claim
     requires admissible { Admissible (asked st) (word_arcs records.now) × (asks (asked st) ≡ shortest_path) }
     requires amounts_len { (length amounts.old ≡ length records.now) × (length numbers.old ≡ st.n) }
     requires left_len { (length left.old ≡ st.n) × (length key.old ≡ st.n) }
-    ensures { Solution (asked st) (word_arcs records.now) numbers.new amounts.new (finding_number result) }
+    ensures { Solution (asked st) (word_arcs records.now) numbers.new amounts.new (claimed result) }
 {
     let t = st.t as usize;
     let m = records.len();
     let mut arcs = [0u64; MOST_ARCS as usize];
     pack(st, records, &mut arcs[..m]);
     stand(st.s, left);
-    let sent = flow_path::send(&arcs[..m], t, 1, amounts, left, key);
-    match sent {
-        Sent::Reached(_) => {
+    match flow_path::send(&arcs[..m], t, 1, amounts, left, key) {
+        Ok(Some(_)) => {
             write(NumberKind::Distance, key, numbers);
-            Finding::Value
+            Claim::Value
         }
-        Sent::Unreached => {
+        Ok(None) => {
             write(NumberKind::Mark, key, numbers);
-            Finding::None
+            Claim::None
         }
-        Sent::Refused => Finding::Refused,
+        Err(_) => unreachable!(),
     }
 }
 
@@ -53,10 +51,10 @@ pub fn certify_path(
     records: &[u32],
     numbers: &mut [i32],
     amounts: &mut [u16],
-) -> Finding
+) -> Claim
     requires admissible { Admissible (asked st) (word_arcs records.now) × (asks (asked st) ≡ shortest_path) }
     requires amounts_len { (length amounts.old ≡ length records.now) × (length numbers.old ≡ st.n) }
-    ensures { Solution (asked st) (word_arcs records.now) numbers.new amounts.new (finding_number result) }
+    ensures { Solution (asked st) (word_arcs records.now) numbers.new amounts.new (claimed result) }
 {
     let n = numbers.len();
     let mut left = [0u32; MOST_VERTICES as usize];

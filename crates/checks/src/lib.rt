@@ -3,17 +3,19 @@
 
 ghost use Rattle.std.specs.Prelude.{◌≡◌};
 ghost use Rattle.prelude.specs.Checks.{first_broken};
+ghost use Rattle.refusals.specs.Refusals.{why};
 ghost use Rattle.network.specs.Question.{pumps};
 ghost use Rattle.network.specs.Tests.{is_asked, size_ok, two_vertices, both_zero, pumps_and_sites, ends_for, opening_checks};
 ghost use Rattle.checks.specs.Held.{handed, asked, question_held};
 
 use arc_records::MOST_VERTICES;
+use refusals::Refusal;
 use rows::{Question, question_of};
 
 pub mod rows;
 
 // What opening is handed but for the points: the question's number, how many vertices there are, the source and the sink.
-#[derive(Clone, Copy)]
+#[derive(Clone, Copy, Debug, PartialEq, Eq)]
 pub struct Opening {
     pub question: u32,
     pub n: u32,
@@ -22,12 +24,26 @@ pub struct Opening {
 }
 
 // The same once opening has accepted it: every number fits eight bits then.
-#[derive(Clone, Copy)]
+#[derive(Clone, Copy, Debug, PartialEq, Eq)]
 pub struct HeldSetting {
     pub question: u8,
     pub n: u8,
     pub s: u8,
     pub t: u8,
+}
+
+// The same as opening is handed it.
+impl From<HeldSetting> for Opening {
+    ghost from_gives = { λ st o. handed o ≡ asked st };
+
+    fn from(st: HeldSetting) -> Opening {
+        Opening {
+            question: u32::from(st.question),
+            n: u32::from(st.n),
+            s: u32::from(st.s),
+            t: u32::from(st.t),
+        }
+    }
 }
 
 // How many pumps there are.
@@ -41,66 +57,35 @@ pub fn pumps(st: HeldSetting) -> u8
 fn is_asked(question: Question) -> bool
     ensures { result ≡ is_asked (question_held question) }
 {
-    match question {
-        Question::Path => true,
-        Question::Flow => true,
-        Question::Assignment => true,
-        Question::Acyclicity => true,
-        Question::Unasked => false,
-    }
+    question != Question::Unasked
 }
 
 // 2: is n from 2 to 255?
 fn size_ok(o: Opening) -> bool
     ensures { result ≡ size_ok (handed o) }
 {
-    let n = o.n;
-    if n < 2 {
-        return false;
-    }
-    n <= MOST_VERTICES
+    2 <= o.n && o.n <= MOST_VERTICES
 }
 
 // 3: are s and t two different vertices?
 fn two_vertices(o: Opening) -> bool
     ensures { result ≡ two_vertices (handed o) }
 {
-    let n = o.n;
-    let s = o.s;
-    let t = o.t;
-    if n <= s {
-        return false;
-    }
-    if n <= t {
-        return false;
-    }
-    s != t
+    o.s < o.n && o.t < o.n && o.s != o.t
 }
 
 // 3: are s and t both 0?
 fn both_zero(o: Opening) -> bool
     ensures { result ≡ both_zero (handed o) }
 {
-    if o.s != 0 {
-        return false;
-    }
-    o.t == 0
+    o.s == 0 && o.t == 0
 }
 
 // 3: is s a number of pumps, one at least, that leaves a site, and t 0?
 fn pumps_and_sites(o: Opening) -> bool
     ensures { result ≡ pumps_and_sites (handed o) }
 {
-    let n = o.n;
-    let pump_count = o.s;
-    if pump_count < 1 {
-        return false;
-    }
-    if n <= pump_count {
-        return false;
-    }
-    let t = o.t;
-    t == 0
+    1 <= o.s && o.s < o.n && o.t == 0
 }
 
 // 3: are s and t what the question asks for?
@@ -108,27 +93,26 @@ fn ends_ok(question: Question, o: Opening) -> bool
     ensures { result ≡ ends_for (question_held question) (handed o) }
 {
     match question {
-        Question::Path => two_vertices(o),
-        Question::Flow => two_vertices(o),
+        Question::Path | Question::Flow => two_vertices(o),
         Question::Assignment => pumps_and_sites(o),
         Question::Acyclicity => both_zero(o),
         Question::Unasked => false,
     }
 }
 
-// 0, or the number of the first check that refuses the opening: 1, 2 or 3.
-pub fn opening_check(o: Opening) -> u8
-    ensures { result ≡ first_broken (opening_checks (handed o)) }
+// The first check that refuses the opening: 1, 2 or 3.
+pub fn opening_check(o: Opening) -> Result<(), Refusal>
+    ensures { why result ≡ first_broken (opening_checks (handed o)) }
 {
     let question = question_of(o.question);
     if !is_asked(question) {
-        return 1;
+        return Err(Refusal::UnknownQuestion);
     }
     if !size_ok(o) {
-        return 2;
+        return Err(Refusal::SizeOutOfRange);
     }
     if !ends_ok(question, o) {
-        return 3;
+        return Err(Refusal::EndsNotAllowed);
     }
-    0
+    Ok(())
 }

@@ -8,8 +8,8 @@ ghost use Rattle.checks.specs.Held.{question_held, rules_held};
 
 use arc_records::Record;
 
-// The four questions, and no question.
-#[derive(Clone, Copy)]
+// The four questions, and no question: no `Option`, since the definition has that case, and every match would wrap each arm.
+#[derive(Clone, Copy, Debug, PartialEq, Eq)]
 pub enum Question {
     Path,
     Flow,
@@ -18,8 +18,8 @@ pub enum Question {
     Unasked,
 }
 
-// The seven certificates, and no certificate.
-#[derive(Clone, Copy)]
+// The seven certificates, and no certificate: no `Option`, since the definition gives rules for that case, too, and every match would wrap each arm.
+#[derive(Clone, Copy, Debug, PartialEq, Eq)]
 pub enum Row {
     PathValue,
     FlowValue,
@@ -35,52 +35,28 @@ pub enum Row {
 pub fn question_of(number: u32) -> Question
     ensures { question_held result ≡ question_of number }
 {
-    if number == 1 {
-        return Question::Path;
+    match number {
+        1 => Question::Path,
+        2 => Question::Flow,
+        3 => Question::Assignment,
+        4 => Question::Acyclicity,
+        _ => Question::Unasked,
     }
-    if number == 2 {
-        return Question::Flow;
-    }
-    if number == 3 {
-        return Question::Assignment;
-    }
-    if number == 4 {
-        return Question::Acyclicity;
-    }
-    Question::Unasked
 }
 
 // The row of rules for a question and a claim.
 pub fn row_of(question: u8, claim: u32) -> Row
     ensures { rules_held result ≡ rules_for (question_of question) (claim_of claim) }
 {
-    let asked = question_of(question as u32);
-    match asked {
-        Question::Path => {
-            if claim == 1 {
-                return Row::PathValue;
-            }
-            Row::PathNone
-        }
-        Question::Flow => {
-            if claim == 1 {
-                return Row::FlowValue;
-            }
-            Row::Nothing
-        }
-        Question::Assignment => {
-            if claim == 1 {
-                return Row::AssignmentValue;
-            }
-            Row::AssignmentNone
-        }
-        Question::Acyclicity => {
-            if claim == 1 {
-                return Row::AcyclicityValue;
-            }
-            Row::AcyclicityNone
-        }
-        Question::Unasked => Row::Nothing,
+    match (question_of(u32::from(question)), claim == 1) {
+        (Question::Path, true) => Row::PathValue,
+        (Question::Path, false) => Row::PathNone,
+        (Question::Flow, true) => Row::FlowValue,
+        (Question::Assignment, true) => Row::AssignmentValue,
+        (Question::Assignment, false) => Row::AssignmentNone,
+        (Question::Acyclicity, true) => Row::AcyclicityValue,
+        (Question::Acyclicity, false) => Row::AcyclicityNone,
+        (Question::Flow, false) | (Question::Unasked, _) => Row::Nothing,
     }
 }
 
@@ -92,11 +68,9 @@ pub fn unit_cost(question: Question, arc: Record) -> u32
     ensures { result ≡ unit_cost (question_held question) (arc_held arc) }
 {
     match question {
-        Question::Path => arc.weight,
-        Question::Flow => 0,
-        Question::Assignment => arc.weight,
+        Question::Path | Question::Assignment => arc.weight,
         Question::Acyclicity => EACH_UNIT,
-        Question::Unasked => 0,
+        Question::Flow | Question::Unasked => 0,
     }
 }
 
@@ -105,10 +79,8 @@ pub fn units_most(question: Question, arc: Record) -> u32
     ensures { result ≡ units_most (question_held question) (arc_held arc) }
 {
     match question {
-        Question::Path => 1,
+        Question::Path | Question::Assignment | Question::Acyclicity => 1,
         Question::Flow => arc.weight,
-        Question::Assignment => 1,
-        Question::Acyclicity => 1,
         Question::Unasked => 0,
     }
 }

@@ -1,8 +1,7 @@
 -- One more key: what it does to the fingerprint of a list, and the laws by which the code that multiplies a factor in is proved.
 use mathlib.Core.Path.{◌≡◌, refl, ◌∙◌, ap}
 use mathlib.Core.List.{List, [], ◌∷◌, ◌++◌}
-use Prim.Native.Nat.{ℕ, ◌+◌, ◌*◌, ◌-◌, ◌%◌, ◌≤◌, ◌<◌}
-use native.Mathlib.Nat.{mul-le-mul}
+use Prim.Native.Nat.{ℕ, ◌+◌, ◌*◌, ◌-◌, ◌%◌}
 use native.Mathlib.Omega.{arith}
 use Rattle.field.specs.Field.{p, factor, product, fingerprint, extended}
 use Rattle.field.proofs.Modular.{same, back, mul, reduced}
@@ -20,13 +19,7 @@ product_snoc q r k (l ∷ ks) = omega (arith, ap (λ (n : ℕ). factor q r l * n
 pub fingerprint_snoc : (r k : ℕ) (ks : List ℕ) → fingerprint r (ks ++ (k ∷ [])) ≡ extended r (fingerprint r ks) k
 fingerprint_snoc r k ks = ap (λ (n : ℕ). n % p) (product_snoc p r k ks) ∙ product_reduced r k ks
 
--- ---- for the code: the factor is reduced first, so that the product fits 64 bits, and that changes no residue
-
-pub product_fits : (a f : ℕ) → f < 4294967296 → a % p * f < 18446744073709551616
-product_fits a f h =
-    let r : a % p ≤ 4294967296 = omega arith in
-    let s : f ≤ 4294967295 = omega arith in
-    omega (arith, mul-le-mul r s)
+-- ---- for the code: the factor is reduced first, and that changes no residue
 
 pub factor_reduced : (r g f k : ℕ) → g ≡ p - k → (r + g) % p * f % p ≡ extended r f k
 factor_reduced r g f k e = (mul (reduced (r + g)) (same f)).residues ∙ ap (λ (n : ℕ). (r + n) * f % p) e

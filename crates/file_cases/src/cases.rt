@@ -1,168 +1,95 @@
 // The lines of the script, and the words of a line.
-use super::files::{Sizes, size, sized};
-use super::outcomes::{helped, judged_at};
-use super::schedules::schedule;
-use super::sweeps::sweep;
-use super::windows::add;
-use file_fields::bytes::byte;
-use points::Point;
-use test_calls::scheduled_files::Windows;
-use testing::answers::NONE;
-use testing::changes::change;
-use testing::files::{Files, START, rest_kept};
-use testing::numbers::{minus, plus};
-use testing::print;
-use testing::script::{decimal, find, listed, starts_line, write_hex};
+use super::calls::{show_help, show_judged, show_scheduled};
+use super::files::{File, Files};
+use super::sweeps::{Target, show_changes, show_cuts};
+use std::alloc::{AllocError, Global};
+use std::io;
+use testing::script::{hexadecimal, number, numbers, repeated};
 
-// Where the two files that a case starts from stand in the script.
-#[derive(Clone, Copy)]
-struct Sources {
-    net: usize,
-    ann: usize,
+// What a case has come to: its files, its windows, and whether the line has shown a result.
+#[derive(Drop)]
+struct Case {
+    files: Files,
+    windows: Vec<[u32; 3]>,
+    shown: bool,
 }
 
-// What the helper replied, and whether it kept the bytes that it has to keep.
-fn show_help(code: usize, kept: bool) {
-    print::coded(b"length ", code);
-    if kept {
-        print::text(b" (rest kept)");
-        return;
+impl Case {
+    // A case that starts from two files, in hexadecimal.
+    fn start(alloc: Global, net: &str, ann: &str) -> Result<Case, AllocError> {
+        Ok(Case {
+            files: Files {
+                net: File::new(alloc, hexadecimal(alloc, net)?.as_slice())?,
+                ann: File::new(alloc, hexadecimal(alloc, ann)?.as_slice())?,
+            },
+            windows: Vec::new(alloc),
+            shown: false,
+        })
     }
-    print::text(b" (REST CHANGED)");
-}
 
-// Has the helper write the annotation into so many bytes; its length.
-fn help(room: usize, f: &mut Files, size: usize) -> usize {
-    let code = helped(f, size, room);
-    show_help(code, rest_kept(f, code));
-    if code < NONE {
-        return code;
+    // Adds a window, as often as the word says.
+    fn add_windows(&mut self, word: &str) -> Result<(), AllocError> {
+        let (list, times) = repeated(word);
+        for _ in 0..times {
+            self.windows.push(numbers(list))?;
+        }
+        Ok(())
     }
-    0
-}
 
-// Varies the file that the word at a place names: as often as it has bytes, or 256 times for each byte that the word says.
-fn vary(script: &[u8], at: usize, how: u8, f: &mut Files, s: Sizes) {
-    let kind = byte(script, at);
-    let mut end = size(kind, s);
-    if how == b'!' {
-        end = decimal(script, plus(at, 1)) % 256 * 256;
+    // Shows the result that a word asks for.
+    fn show<R: Print + AllocGlobal>(&mut self, rt: &R, letter: char, rest: &str) -> io::Result<()> {
+        rt.print(if self.shown { ", " } else { ": " })?;
+        self.shown = true;
+        let target = Target::named(rest.chars().next());
+        match letter {
+            '@' => show_judged(rt, rest, &self.files),
+            'h' => show_help(rt, rest, &mut self.files),
+            't' => show_scheduled(rt, rest, &mut self.files, self.windows.as_slice()),
+            '<' => show_cuts(rt, target, &self.files),
+            _ => {
+                let (_, front) = rest.split_at_checked(1).unwrap_or((rest, ""));
+                show_changes(rt, target, &mut self.files, number(front))
+            }
+        }
     }
-    sweep(how, kind, end, f, s);
-}
 
-// The two points that the word at a place says.
-fn said_points(script: &[u8], at: usize) -> Point {
-    Point {
-        first: listed(script, at, 0),
-        second: listed(script, at, 1),
-    }
-}
-
-// Shows the result that the word before a place asks for; the length of the annotation then, 0 where the calendar wrote over it.
-fn result(script: &[u8], at: usize, c: u8, f: &mut Files, windows: &Windows, s: Sizes) -> usize {
-    print::before(s.shown);
-    if c == b'@' {
-        print::answer(judged_at(f, s, said_points(script, at)));
-        return s.ann;
-    }
-    if c == b'h' {
-        return help(decimal(script, at), f, s.net);
-    }
-    if c == b't' {
-        schedule(script, at, f, windows, s);
-        return 0;
-    }
-    vary(script, at, c, f, s);
-    s.ann
-}
-
-// Does what the word at a place says.
-fn word(script: &[u8], at: usize, f: &mut Files, windows: &mut Windows, s: Sizes) -> Sizes {
-    let mut then = s;
-    let next = plus(at, 1);
-    let c = byte(script, at);
-    if c == b'n' || c == b'a' {
-        return sized(c, s, change(script, next, c, f, size(c, s)));
-    }
-    if c == b'w' {
-        then.windows = add(script, next, windows, s.windows);
-        return then;
-    }
-    then.ann = result(script, next, c, f, windows, s);
-    then.shown = plus(s.shown, 1);
-    then
-}
-
-// The word after a space.
-fn word_at(script: &[u8], at: usize, f: &mut Files, windows: &mut Windows, s: Sizes) -> Sizes {
-    if byte(script, at) == b' ' {
-        return word(script, plus(at, 1), f, windows, s);
-    }
-    s
-}
-
-// All words of a line, from its colon on.
-fn words(script: &[u8], from: usize, f: &mut Files, at_first: Sizes) {
-    let mut windows = [[0u32; 3]; 128];
-    let end = find(script, from, b'\n');
-    let mut s = at_first;
-    let mut i = from;
-    while i < end {
-        s = word_at(script, i, f, &mut windows, s);
-        i += 1;
-    }
-}
-
-// Writes the two files that a case starts from.
-fn start(script: &[u8], from: Sources, f: &mut Files) -> Sizes {
-    let net = write_hex(script, from.net, b'\n', f, 0);
-    let end = write_hex(script, from.ann, b'\n', f, START);
-    Sizes {
-        net: net,
-        ann: minus(end, START),
-        windows: 0,
-        shown: 0,
+    // Does what a word says.
+    fn word<R: Print + AllocGlobal>(&mut self, rt: &R, letter: char, rest: &str) -> io::Result<()> {
+        match letter {
+            'n' => self.files.net.change(rt.alloc(), rest, 4)?,
+            'a' => self.files.ann.change(rt.alloc(), rest, 6)?,
+            'w' => self.add_windows(rest)?,
+            _ => return self.show(rt, letter, rest),
+        }
+        Ok(())
     }
 }
 
 // One case: a label, a colon, and words.
-fn case(script: &[u8], at: usize, from: Sources) {
-    let mut f = [0u8; 65536];
-    let s = start(script, from, &mut f);
-    let colon = find(script, at, b':');
-    print::part(script, at, colon);
-    words(script, colon, &mut f, s);
-    print::text(b"\n");
+fn run_case<R: Print + AllocGlobal>(rt: &R, line: &str, net: &str, ann: &str) -> io::Result<()> {
+    let (label, words) = line.split_once(':').unwrap_or((line, ""));
+    let mut case = Case::start(rt.alloc(), net, ann)?;
+    rt.print(label)?;
+    for word in words.split_whitespace() {
+        let (first, rest) = word.split_at_checked(1).unwrap_or((word, ""));
+        if let Some(letter) = first.chars().next() {
+            case.word(rt, letter, rest)?;
+        }
+    }
+    println!(rt)
 }
 
-// One line: a network, an annotation, a comment or a case.
-fn line(script: &[u8], at: usize, from: Sources) -> Sources {
-    let mut s = from;
-    let c = byte(script, at);
-    match c {
-        b'N' => s.net = find(script, at, b' '),
-        b'A' => s.ann = find(script, at, b' '),
-        b'#' | b'\n' => return s,
-        _ => case(script, at, from),
+// All lines: a network, an annotation, a comment or a case.
+pub fn run<R: Print + AllocGlobal>(rt: &R, script: &str) -> io::Result<()> {
+    let (mut net, mut ann) = ("", "");
+    for line in script.lines() {
+        if let Some(bytes) = line.strip_prefix("NETWORK ") {
+            net = bytes;
+        } else if let Some(bytes) = line.strip_prefix("ANNOTATION ") {
+            ann = bytes;
+        } else if !line.is_empty() && !line.starts_with('#') {
+            run_case(rt, line, net, ann)?;
+        }
     }
-    s
-}
-
-// The line that starts at a place, if one does.
-fn line_at(script: &[u8], at: usize, from: Sources) -> Sources {
-    if starts_line(script, at) {
-        return line(script, at, from);
-    }
-    from
-}
-
-// All lines.
-pub fn run(script: &[u8]) {
-    let mut from = Sources { net: 0, ann: 0 };
-    let mut i = 0;
-    while i < script.len() {
-        from = line_at(script, i, from);
-        i += 1;
-    }
+    Ok(())
 }

@@ -3,16 +3,14 @@
 // The cases are lines of standard input, which says at its top how it is written; a line is printed for each.
 #![tactic(auto)]
 
+mod calls;
 mod cases;
 mod files;
-mod outcomes;
-mod print;
-mod schedules;
 mod sweeps;
-mod windows;
 
-fn main() {
-    let mut input = [0u8; 262144];
-    let n = io::read_full(0, &mut input);
-    cases::run(&input[..n]);
+use std::io;
+
+fn main(rt: HostRuntime) -> io::Result<()> {
+    let script = io::read_to_string(rt.alloc(), rt.reader())?;
+    cases::run(&rt, script.as_str())
 }

@@ -1,19 +1,18 @@
 -- What reading gives past the end and in a part of a file, and the bits of a signed number as the machine has them.
 use mathlib.Core.Path.{◌≡◌, refl, sym, ap, ap₂, ◌∙◌}
-use mathlib.Core.Bool.{Bool, true, false, false≢true}
+use mathlib.Core.Bool.{Bool, true, false}
 use mathlib.Core.List.{List}
 use Prim.Native.Nat.{ℕ, suc, ◌+◌, ◌-◌, ◌^◌, ◌≤◌, ◌<◌}
 use native.Mathlib.Nat.{add_assoc}
 use native.Mathlib.Omega.{arith}
-use lib.Dec.{T, ltb}
-use lib.IntN.{ℤ, pos, negsuc, nat_abs}
+use lib.Dec.{ltb}
+use lib.IntN.{ℤ, pos, negsuc}
 use lib.ListN.{length, take, drop, get_or-eq_default}
 use lib.Seq.{get_or-take, get_or-drop}
-use lib.Signed.{mag, lt_z, non_neg}
+use lib.Signed.{mag}
 use mir.Syntax.{w32}
-use mir.Val.{Fits, SFits, to_z, of_z, sel}
-use mir.Facts.{to_z_pos, to_z-of_z, of_z-to_z}
-use borrow.Author.Tests.{ltb-true}
+use mir.Val.{to_z, of_z, sel}
+use mir.Facts.{to_z-of_z, of_z-to_z}
 use Rattle.prelude.specs.Choice.{pick}
 use Rattle.file_fields.specs.Bytes.{byte_at, joined16, joined32, read16, read32, pattern_of, signed_of, read_signed}
 
@@ -57,31 +56,6 @@ pub pattern_is : (z : ℤ) → of_z w32 z ≡ pattern_of z
 unfolding pattern_of
 pattern_is (pos n) = refl
 pattern_is (negsuc n) = refl
-
--- the bits other than those of a negative number
-pub other_bits : (z : ℤ) → SFits w32 z → lt_z z (pos 0) ≡ true → to_z w32 (4294967295 - of_z w32 z) ≡ pos (mag z)
-other_bits (pos n) f h = absurd (omega (arith, ltb-true n 0 h))
-other_bits (negsuc n) f h =
-    let k = f.sfits in
-    let e : 4294967295 - (4294967296 - suc n) ≡ n = omega arith in
-    ap (to_z w32) e ∙ to_z_pos w32 k
-
-pub other_fits : (z : ℤ) → SFits w32 z → T (non_neg (pos (mag z))) × Fits w32 (nat_abs (pos (mag z)))
-other_fits z f = (tt, let k = f.sfits in omega arith)
-
-pub other_pattern : (z : ℤ) → lt_z z (pos 0) ≡ true → 4294967295 - nat_abs (pos (mag z)) ≡ pattern_of z
-unfolding pattern_of
-other_pattern (pos n) h = absurd (omega (arith, ltb-true n 0 h))
-other_pattern (negsuc n) h = omega arith
-
-pub pattern_fits : (z : ℤ) → SFits w32 z → lt_z z (pos 0) ≡ false → T (non_neg z) × Fits w32 (nat_abs z)
-pattern_fits (pos n) f h = (tt, let k = f.sfits in omega arith)
-pattern_fits (negsuc n) f h = absurd (false≢true (sym h))
-
-pub pattern_abs : (z : ℤ) → lt_z z (pos 0) ≡ false → nat_abs z ≡ pattern_of z
-unfolding pattern_of
-pattern_abs (pos n) h = refl
-pattern_abs (negsuc n) h = absurd (false≢true (sym h))
 
 -- the bits of a number and the number of bits
 pub pattern_signed : (k : ℕ) → k < 2 ^ 32 → pattern_of (signed_of k) ≡ k

@@ -1,14 +1,11 @@
 -- A run of stores: past the end it changes nothing, and one run after another is one run. The indices that the code adds up.
 use mathlib.Core.Path.{◌≡◌, refl, sym, ap, ap₂, ◌∙◌}
 use mathlib.Core.List.{List, [], ◌∷◌, ◌++◌}
-use Prim.Native.Nat.{ℕ, suc, ◌+◌, ◌/◌, ◌%◌, ◌≤◌}
+use Prim.Native.Nat.{ℕ, suc, ◌+◌, ◌≤◌}
 use native.Mathlib.Nat.{add-zero}
-use native.Mathlib.Numerals.{add-one}
 use native.Mathlib.Omega.{arith}
 use lib.ListN.{length, set}
 use lib.Seq.{set_out, sets}
-use Rattle.file_fields.specs.Bytes.{byte16}
-use Rattle.file_fields.specs.Layout.{mark_and_version}
 
 pub sets_past : (l : List ℕ) (i : ℕ) (vs : List ℕ) → length l ≤ i → l ≡ sets l i vs
 sets_past l i [] h = refl
@@ -23,14 +20,6 @@ sets_append l i (u ∷ us) vs =
 -- vs stored at j, right after us
 pub then_sets : (l : List ℕ) (i : ℕ) (us vs : List ℕ) (j : ℕ) {m n : List ℕ} → m ≡ sets l i us → j ≡ i + length us → n ≡ sets m j vs → n ≡ sets l i (us ++ vs)
 then_sets l i us vs j p e q = q ∙ ap₂ (λ (k : List ℕ) (h : ℕ). sets k h vs) p e ∙ sym (sets_append l i us vs)
-
--- the two bytes of v, one after the other
-pub halves_stored : (l : List ℕ) (i v : ℕ) {m n : List ℕ} → m ≡ set l i (v / 256) → n ≡ set m (i + 1) (v % 256) → n ≡ sets l i (byte16 v)
-halves_stored l i v p q = q ∙ ap₂ (λ (k : List ℕ) (j : ℕ). set k j (v % 256)) p (add-one i)
-
--- the mark, byte by byte, and the version
-pub mark_stored : (l : List ℕ) (third : ℕ) {k m n o : List ℕ} → k ≡ set l 0 68 → m ≡ set k 1 82 → n ≡ set m 2 third → o ≡ sets n 3 (byte16 1) → o ≡ sets l 0 (mark_and_version third)
-mark_stored l third p q r s = s ∙ ap (λ (h : List ℕ). sets h 3 (byte16 1)) (r ∙ ap (λ (h : List ℕ). set h 2 third) (q ∙ ap (λ (h : List ℕ). set h 1 82) p))
 
 pub two_more : (i : ℕ) → i + 2 ≡ suc (suc i)
 two_more i = omega arith

@@ -2,41 +2,42 @@
 ghost use Rattle.std.specs.Prelude.{◌≡◌};
 ghost use Rattle.std.proofs.lemmas.List.Edits.{sets};
 ghost use Rattle.prelude.specs.Checks.{first_broken};
-ghost use Rattle.file_fields.specs.Layout.{layout, mark_and_version};
+ghost use Rattle.refusals.specs.Refusals.{why};
+ghost use Rattle.file_fields.specs.Layout.{has_mark, layout, mark_and_version};
 
-use super::bytes::{byte, number16, put_byte, put16};
+use super::bytes::{byte, number16, put16};
+use refusals::Refusal;
+use words::entries::store;
 
-// 0, or the number of the first check that refuses the file, whose mark ends in the letter third.
-pub fn layout_check(file: &[u8], header: usize, third: u8, size: usize) -> u8
-    ensures { result ≡ first_broken (layout header third size file.now) }
+// Does the file begin with D, R and the letter third?
+fn has_mark(file: &[u8], third: u8) -> bool
+    ensures { result ≡ has_mark third file.now }
 {
-    if file.len() < header {
-        return 17;
-    }
-    if byte(file, 0) != b'D' {
-        return 17;
-    }
-    if byte(file, 1) != b'R' {
-        return 17;
-    }
-    if byte(file, 2) != third {
-        return 17;
+    byte(file, 0) == b'D' && byte(file, 1) == b'R' && byte(file, 2) == third
+}
+
+// The first check that refuses the file, whose mark ends in the letter third.
+pub fn layout_check(file: &[u8], header: usize, third: u8, size: usize) -> Result<(), Refusal>
+    ensures { why result ≡ first_broken (layout header third size file.now) }
+{
+    if file.len() < header || !has_mark(file, third) {
+        return Err(Refusal::WrongMark);
     }
     if number16(file, 3) != 1 {
-        return 18;
+        return Err(Refusal::WrongVersion);
     }
     if file.len() != size {
-        return 19;
+        return Err(Refusal::WrongLength);
     }
-    0
+    Ok(())
 }
 
 // The mark that ends in the letter third, and the version 1: five bytes.
 pub fn write_mark(buffer: &mut [u8], third: u8)
     ensures { buffer.new ≡ sets buffer.old 0 (mark_and_version third) }
 {
-    put_byte(buffer, 0, b'D');
-    put_byte(buffer, 1, b'R');
-    put_byte(buffer, 2, third);
+    store(buffer, 0, b'D');
+    store(buffer, 1, b'R');
+    store(buffer, 2, third);
     put16(buffer, 3, 1);
 }

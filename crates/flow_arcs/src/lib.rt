@@ -1,52 +1,50 @@
-// Links and residual arcs as the heuristic reads them: an arc after another at the same vertex, and an arc forward or back.
+// Arcs and links as the heuristic reads them: an arc after another at the same vertex, and a residual arc forward or back.
 #![tactic(auto)]
 
 ghost use Rattle.std.specs.Prelude.{◌≡◌, ◌+◌, ◌<◌, length};
-ghost use Rattle.prelude.specs.Choice.{pick};
-ghost use Rattle.packed_arcs.specs.Entries.{entry};
-ghost use Rattle.packed_arcs.specs.PackedArcs.{tail_of, head_of};
+ghost use Rattle.packed_arcs.specs.Entries.{entry as entry_at};
+ghost use Rattle.flow_arcs.specs.Links.{Links};
+ghost use Rattle.flow_arcs.specs.Directions.{links_by};
 
-use packed_arcs::arcs::{capacity_of, head_of, tail_of};
-use packed_arcs::numbers::place;
+use direction::Direction;
 
-// A label or a vertex as an index into an array of 256.
-pub fn index_of(l: u8) -> usize
-    ensures { result < 256 }
-{
-    l as usize
+pub mod direction;
+
+// Arcs, and links that chain them by tail and by head. They are only read, so they are lent all together.
+#[derive(Clone, Copy)]
+pub struct Network<'a> {
+    pub arcs: &'a [u64],
+    pub out: &'a [u16],
+    pub into: &'a [u16],
+    pub ghost out_links: { Links arcs.now out.now },
+    pub ghost into_links: { Links arcs.now into.now },
 }
 
-// The first arc at the vertex v.
-pub fn first_arc(v: usize, links: &[u16]) -> usize
-    requires { v < length links.now }
-{
-    place(links[v])
-}
-
-// The arc after e at the same vertex.
-pub fn next_arc(e: usize, links: &[u16]) -> usize
-    requires { 256 + e < length links.now }
-    ensures { result ≡ entry links.now (256 + e) }
-{
-    place(links[256 + e])
-}
-
-// ---- residual arcs, forward or back
-
-// Does the residual network have the arc, which carries the amount: forward where there is room, back where it carries something?
-pub fn is_residual(back: bool, arc: u64, amount: u16) -> bool {
-    if back {
-        return 0 < amount;
+impl<'a> Network<'a> {
+    // The links that chain the arcs by where they start, in this direction.
+    fn links(self, direction: Direction) -> &'a [u16]
+        ensures links { Links self.entry.arcs.now result.now }
+        ensures these { result.now ≡ links_by direction self.entry.out.now self.entry.into.now }
+    {
+        match direction {
+            Direction::Forward => self.out,
+            Direction::Back => self.into,
+        }
     }
-    amount < capacity_of(arc)
-}
 
-// The vertex that the residual arc leads to.
-pub fn far_end(back: bool, arc: u64) -> usize
-    ensures { (result ≡ pick back (tail_of arc) (head_of arc)) × (result < 256) }
-{
-    if back {
-        return tail_of(arc);
+    // The first arc that starts at the vertex v.
+    pub fn first_from(self, direction: Direction, v: usize) -> usize
+        requires { v < 256 }
+    {
+        usize::from(self.links(direction)[v])
     }
-    head_of(arc)
+
+    // The next arc that starts where e starts.
+    pub fn next_from(self, direction: Direction, e: usize) -> usize
+        requires { e < length self.arcs.now }
+        ensures later { e < result }
+        ensures link { result ≡ entry_at (links_by direction self.entry.out.now self.entry.into.now) (256 + e) }
+    {
+        usize::from(self.links(direction)[256 + e])
+    }
 }

@@ -1,232 +1,168 @@
 // Labels of the vertices: a breadth-first search back from a root over the residual arcs, the lowest label next to a vertex, and how many have a label.
-// No contract says what a label is: it is below 256, so it is an index by its type, and 255 stands for a vertex from which the root is not reached.
+// No contract says what a label is: it is below 256, so it is an index by its type.
 #![tactic(auto)]
 
 ghost use Rattle.std.specs.Prelude.{◌≡◌, ◌<◌, ◌≤◌, length};
-ghost use Rattle.flow_moves.specs.Preflow.{Links};
 
-use flow_arcs::{far_end, first_arc, index_of, is_residual, next_arc};
+use flow_arcs::Network;
+use flow_arcs::direction::Direction;
 
-// ---- the search
+// The label of a vertex from which the root is not reached. It is above every other, so that the lowest of labels is their `min`, and a label takes one byte.
+pub const NO_LABEL: u8 = 255;
 
-// The label of a vertex that is reached from one with the label l.
-fn above(l: u8) -> u8 {
-    if l < 254 {
-        return l + 1;
-    }
-    254
-}
-
-// No vertex has a label.
-fn clear_labels(label: &mut [u8; 256]) {
-    let mut v = 0;
-    while v < 256 {
-        label[v] = 255;
-        v += 1;
-    }
-}
-
-// Labels v and puts it at the end of the order, unless it has a label: how many are in the order.
-fn reach(v: usize, l: u8, found: usize, label: &mut [u8; 256], order: &mut [u8; 256]) -> usize
-    requires { (v < 256) × (found ≤ 256) }
-    ensures { result ≤ 256 }
-{
-    if label[v] != 255 {
-        return found;
-    }
-    if 255 < found {
-        return found;
-    }
-    label[v] = l;
-    order[found] = v as u8;
-    found + 1
-}
-
-// The start of the residual arc e, forward or back, is reached, where there is such an arc.
-fn reach_start(
-    back: bool,
-    e: usize,
-    l: u8,
+// The labels, the vertices in the order in which they are reached, and for each label how many vertices have it.
+#[derive(Drop)]
+pub struct Labels {
+    pub label: [u8; 256],
+    order: [u8; 256],
     found: usize,
-    arcs: &[u64],
-    x: &[u16],
-    label: &mut [u8; 256],
-    order: &mut [u8; 256],
-) -> usize
-    requires { (e < length arcs.now) × (length x.now ≡ length arcs.now) × (found ≤ 256) }
-    ensures { result ≤ 256 }
-{
-    let arc = arcs[e];
-    if is_residual(back, arc, x[e]) {
-        return reach(far_end(!back, arc), l, found, label, order);
-    }
-    found
+    count: [u8; 256],
+    ghost in_order: { found ≤ 256 },
 }
 
-// The starts of the residual arcs to v, forward along the arcs into it or back along those out of it, are reached with the label l: how many are in the order.
-fn reach_starts(
-    back: bool,
-    v: usize,
-    l: u8,
-    found: usize,
-    arcs: &[u64],
-    links: &[u16],
-    x: &[u16],
-    label: &mut [u8; 256],
-    order: &mut [u8; 256],
-) -> usize
-    requires v_bound { (v < 256) × (length x.now ≡ length arcs.now) × (found ≤ 256) }
-    requires links { Links arcs.now links.now }
-    ensures { result ≤ 256 }
-{
-    let mut many = found;
-    let mut e = first_arc(v, links);
-    while e < arcs.len() {
-        many = reach_start(back, e, l, many, arcs, x, label, order);
-        e = next_arc(e, links);
+impl Labels {
+    // No vertex has a label.
+    pub fn new() -> Self {
+        Labels {
+            label: [NO_LABEL; 256],
+            order: [0; 256],
+            found: 0,
+            count: [0; 256],
+        }
     }
-    many
-}
 
-// Labels every vertex by how many residual arcs lead from it to the root, and orders those that are reached: how many.
-pub fn label_from(
-    root: usize,
-    arcs: &[u64],
-    out: &[u16],
-    into: &[u16],
-    x: &[u16],
-    label: &mut [u8; 256],
-    order: &mut [u8; 256],
-) -> usize
-    requires { (root < 256) × (length x.now ≡ length arcs.now) × Links arcs.now out.now × Links arcs.now into.now }
-    ensures { result ≤ 256 }
-{
-    clear_labels(label);
-    label[root] = 0;
-    order[0] = root as u8;
-    let mut found = 1;
-    let mut done = 0;
-    while done < found {
-        let v = index_of(order[done]);
-        let l = above(label[v]);
-        let many = reach_starts(false, v, l, found, arcs, into, x, label, order);
-        found = reach_starts(true, v, l, many, arcs, out, x, label, order);
-        done += 1;
+    // ---- the search
+
+    // Labels v and puts it at the end of the order, unless it has a label.
+    fn reach(&mut self, v: usize, l: u8)
+        requires { v < 256 }
+    {
+        if self.label[v] == NO_LABEL && self.found < 256 {
+            self.label[v] = l;
+            self.order[self.found] = v as u8;
+            self.found += 1;
+        }
     }
-    found
-}
 
-// ---- the lowest label next to a vertex
-
-fn lesser_label(a: u8, b: u8) -> u8 {
-    if a < b {
-        return a;
+    // The start of the residual arc e is reached, where there is such an arc.
+    fn reach_start(&mut self, direction: Direction, e: usize, l: u8, net: Network<'_>, x: &[u16])
+        requires { (e < length net.arcs.now) × (length x.now ≡ length net.arcs.now) }
+    {
+        let arc = net.arcs[e];
+        if direction.room(arc, x[e]) != 0 {
+            self.reach(direction.start_of(arc), l);
+        }
     }
-    b
-}
 
-// The lower of low and the label of the end of the residual arc e, forward or back, where there is such an arc.
-fn lower_end(back: bool, e: usize, low: u8, arcs: &[u64], x: &[u16], label: &[u8; 256]) -> u8
-    requires { (e < length arcs.now) × (length x.now ≡ length arcs.now) }
-{
-    let arc = arcs[e];
-    if is_residual(back, arc, x[e]) {
-        return lesser_label(low, label[far_end(back, arc)]);
+    // The starts of the residual arcs to v, in this direction, are reached with the label l.
+    fn reach_starts(&mut self, direction: Direction, v: usize, l: u8, net: Network<'_>, x: &[u16])
+        requires { (v < 256) × (length x.now ≡ length net.arcs.now) }
+    {
+        let mut e = net.first_from(direction.reverse(), v);
+        while e < net.arcs.len() {
+            self.reach_start(direction, e, l, net, x);
+            e = net.next_from(direction.reverse(), e);
+        }
     }
-    low
-}
 
-// The lowest label at the ends of the residual arcs from v, forward along the arcs out of it or back along those into it.
-fn lowest_end(back: bool, v: usize, arcs: &[u64], links: &[u16], x: &[u16], label: &[u8; 256]) -> u8
-    requires { (v < 256) × (length x.now ≡ length arcs.now) × Links arcs.now links.now }
-{
-    let mut low = 255;
-    let mut e = first_arc(v, links);
-    while e < arcs.len() {
-        low = lower_end(back, e, low, arcs, x, label);
-        e = next_arc(e, links);
+    // Labels every vertex by how many residual arcs lead from it to the root, and orders those that are reached.
+    pub fn label_from(&mut self, root: usize, net: Network<'_>, x: &[u16])
+        requires { (root < 256) × (length x.now ≡ length net.arcs.now) }
+    {
+        self.label.fill(NO_LABEL);
+        self.found = 0;
+        self.reach(root, 0);
+        // no `for`: the vertices in the order grow while they are looked at
+        let mut done = 0;
+        while done < self.found {
+            let v = usize::from(self.order[done]);
+            let l = self.label[v].saturating_add(1).min(254);
+            self.reach_starts(Direction::Forward, v, l, net, x);
+            self.reach_starts(Direction::Back, v, l, net, x);
+            done += 1;
+        }
     }
-    low
-}
 
-// One more than the lowest label that a residual arc leads to from v; 255 where that is n, the number of vertices, or more.
-pub fn raised(
-    v: usize,
-    n: usize,
-    arcs: &[u64],
-    out: &[u16],
-    into: &[u16],
-    x: &[u16],
-    label: &[u8; 256],
-) -> u8
-    requires { (v < 256) × (length x.now ≡ length arcs.now) × Links arcs.now out.now × Links arcs.now into.now }
-{
-    let low = lesser_label(
-        lowest_end(false, v, arcs, out, x, label),
-        lowest_end(true, v, arcs, into, x, label),
-    );
-    if 253 < low {
-        return 255;
+    // ---- the lowest label next to a vertex
+
+    // The lower of low and the label of the end of the residual arc e, where there is such an arc.
+    fn lower_end(&self, direction: Direction, e: usize, low: u8, net: Network<'_>, x: &[u16]) -> u8
+        requires { (e < length net.arcs.now) × (length x.now ≡ length net.arcs.now) }
+    {
+        let arc = net.arcs[e];
+        if direction.room(arc, x[e]) == 0 {
+            return low;
+        }
+        low.min(self.label[direction.end_of(arc)])
     }
-    let l = low + 1;
-    if n <= index_of(l) {
-        return 255;
+
+    // The lowest label at the ends of the residual arcs from v, in this direction.
+    fn lowest_end(&self, direction: Direction, v: usize, net: Network<'_>, x: &[u16]) -> u8
+        requires { (v < 256) × (length x.now ≡ length net.arcs.now) }
+    {
+        let mut low = NO_LABEL;
+        let mut e = net.first_from(direction, v);
+        while e < net.arcs.len() {
+            low = self.lower_end(direction, e, low, net, x);
+            e = net.next_from(direction, e);
+        }
+        low
     }
-    l
-}
 
-// ---- how many have a label
-
-// One more vertex has the label l.
-pub fn count_one(l: u8, count: &mut [u8; 256]) {
-    let i = index_of(l);
-    let many = count[i];
-    if many < 255 {
-        count[i] = many + 1;
+    // One more than the lowest label that a residual arc leads to from v, if that is below n, the number of vertices.
+    pub fn raised(&self, v: usize, n: usize, net: Network<'_>, x: &[u16]) -> Option<u8>
+        requires { (v < 256) × (length x.now ≡ length net.arcs.now) }
+    {
+        let forward = self.lowest_end(Direction::Forward, v, net, x);
+        let back = self.lowest_end(Direction::Back, v, net, x);
+        forward
+            .min(back)
+            .checked_add(1)
+            .filter(|l| usize::from(*l) < n)
     }
-}
 
-// One vertex fewer has the label l: was it the last?
-pub fn was_last(l: u8, count: &mut [u8; 256]) -> bool {
-    let i = index_of(l);
-    let many = count[i];
-    if many < 2 {
-        count[i] = 0;
-        return true;
+    // ---- how many have a label
+
+    // One more vertex has the label l.
+    pub fn count_one(&mut self, l: u8) {
+        let i = usize::from(l);
+        self.count[i] = self.count[i].saturating_add(1);
     }
-    count[i] = many - 1;
-    false
-}
 
-// Counts the labels of the n vertices.
-pub fn count_labels(n: usize, label: &[u8; 256], count: &mut [u8; 256])
-    requires { n ≤ 256 }
-{
-    let mut v = 0;
-    while v < n {
-        count_one(label[v], count);
-        v += 1;
+    // One vertex fewer has the label l: was it the last?
+    pub fn was_last(&mut self, l: u8) -> bool {
+        let i = usize::from(l);
+        self.count[i] = self.count[i].saturating_sub(1);
+        self.count[i] == 0
     }
-}
 
-// Takes the label of v away where it is from or more.
-fn lift_one(v: usize, from: u8, label: &mut [u8; 256], count: &mut [u8; 256])
-    requires { v < 256 }
-{
-    let l = label[v];
-    if from <= l {
-        count[index_of(l)] = 0;
-        label[v] = 255;
+    // Counts the labels of the n vertices.
+    pub fn count_all(&mut self, n: usize)
+        requires { n ≤ 256 }
+    {
+        self.count.fill(0);
+        for v in 0..n {
+            self.count_one(self.label[v]);
+        }
     }
-}
 
-// Takes away every label that is from or more: no vertex is left one below, so none of these reaches the root.
-pub fn lift(from: u8, n: usize, label: &mut [u8; 256], count: &mut [u8; 256])
-    requires { n ≤ 256 }
-{
-    let mut v = 0;
-    while v < n {
-        lift_one(v, from, label, count);
-        v += 1;
+    // Takes the label of v away where it is from or more.
+    fn lift_one(&mut self, v: usize, from: u8)
+        requires { v < 256 }
+    {
+        let l = self.label[v];
+        if from <= l {
+            self.count[usize::from(l)] = 0;
+            self.label[v] = NO_LABEL;
+        }
+    }
+
+    // Takes away every label that is from or more: no vertex is left one below, so none of these reaches the root.
+    pub fn lift(&mut self, from: u8, n: usize)
+        requires { n ≤ 256 }
+    {
+        for v in 0..n {
+            self.lift_one(v, from);
+        }
     }
 }

@@ -1,6 +1,5 @@
 -- What moves over residual arcs is conserved: one step, and steps in a row.
 use mathlib.Core.Path.{◌≡◌, refl, sym, ap, ◌∙◌}
-use mathlib.Core.Bool.{Bool, true, false}
 use mathlib.Core.List.{List}
 use mathlib.Core.Logic.{⊎_elim}
 use Prim.Native.Nat.{ℕ, ◌+◌, ◌*◌, ◌-◌, ◌<◌, ◌≤◌, min}
@@ -10,15 +9,19 @@ use borrow.Author.Tests.{eq-eqb, ne_eqb}
 use lib.ListN.{length, set, length-set, length-map}
 use mir.Syntax.{w32}
 use mir.Val.{Fits}
-use Rattle.prelude.specs.Choice.{pick, indicator}
-use Rattle.packed_arcs.specs.Entries.{entry, sum}
+use Rattle.prelude.specs.Choice.{indicator}
+use Rattle.packed_arcs.specs.Entries.{entry, sum, flow_at}
 use Rattle.packed_arcs.specs.PackedArcs.{tail_of, head_of, capacity_of, tails_of, heads_of}
 use Rattle.packed_arcs.proofs.ArcColumns.{columns, listed, tail_at, head_at, capacity_at}
 use Rattle.packed_arcs.proofs.ColumnSums.{flow_add, flow_sub}
 use Rattle.packed_arcs.proofs.ListLoops.{set_cases}
 use Rattle.packed_arcs.proofs.Sums.{sum_at, entry_sum}
 use Rattle.arc_index.specs.Chains.{Chains, First}
-use Rattle.flow_moves.specs.Preflow.{Conserved, Ready, Moves, Links, transferred}
+use Rattle.flow_arcs.specs.Directions.{start_of, end_of, room, carried}
+use Rattle.flow_arcs.specs.Links.{Links}
+use Rattle.flow_arcs.specs.declared.direction.Direction.{Direction}
+use Rattle.flow_arcs.specs.declared.direction.Direction.TheVariants.{Forward, Back}
+use Rattle.flow_moves.specs.Preflow.{Conserved, PackedConserved, Ready, Moves, transferred}
 
 -- ---- what stands at the vertices
 
@@ -57,70 +60,49 @@ module _ (left : List ℕ) (a b g : ℕ) (ha : a < length left) (hb : b < length
 
 -- ---- one step
 
-module _ {from to cap start x left : List ℕ} (C : Conserved from to cap start x left) (e g : ℕ) (he : e < length from) where
-  x_at : e < length x
-  x_at = omega (arith, C.x_len)
+-- g moves from a to b, and the amounts become x', which say the same of what came and went at each vertex
+module _ {from to cap start x left x' : List ℕ} {a b g : ℕ} (C : Conserved from to cap start x left) (ha : a < length left) (hb : b < length left) (hg : g ≤ entry left a)
+    (len : length x' ≡ length x) (fits : (e : ℕ) → e < length from → entry x' e ≤ entry cap e)
+    (same : (w : ℕ) → flow_at from x' w + flow_at to x w + indicator (eqb b w) * g ≡ flow_at to x' w + flow_at from x w + indicator (eqb a w) * g) where
+  moved_conserved : Conserved from to cap start x' (transferred left a b g)
+  moved_conserved =
+      let kept = transferred_len left a b g ha hb hg in
+      record {
+        few = C.few;
+        to_len = C.to_len;
+        cap_len = C.cap_len;
+        x_len = len ∙ C.x_len;
+        left_len = kept ∙ C.left_len;
+        small = C.small;
+        tails = λ j h. omega (arith, C.tails j h, kept);
+        heads = λ j h. omega (arith, C.heads j h, kept);
+        within = fits;
+        balance = λ w. omega (arith, C.balance w, same w, transferred_at left a b g ha hb hg w);
+        total = transferred_sum left a b g ha hb hg ∙ C.total;
+        bounded = C.bounded;
+      }
 
-  pub forward_conserved : g ≤ entry left (entry from e) → g ≤ entry cap e - entry x e
+-- it moves along the residual arc e
+module _ {from to cap start x left : List ℕ} (C : Conserved from to cap start x left) (e g : ℕ) (he : e < length from) where
+  fits_at : (y : ℕ) → y ≤ entry cap e → (j : ℕ) → j < length from → entry (set x e y) j ≤ entry cap j
+  fits_at y h j hj = ⊎_elim (λ p. rw p.1 (omega (arith, ap (entry cap) p.0))) (λ p. rw p.1 (C.within j hj)) (set_cases x e y j (omega (arith, C.x_len)))
+
+  forward_conserved : g ≤ entry left (entry from e) → g ≤ entry cap e - entry x e
       → Conserved from to cap start (set x e (entry x e + g)) (transferred left (entry from e) (entry to e) g)
   forward_conserved hg hc =
-      let len = transferred_len left (entry from e) (entry to e) g (C.tails e he) (C.heads e he) hg in
-      record {
-        few = C.few;
-        to_len = C.to_len;
-        cap_len = C.cap_len;
-        x_len = length-set x e (entry x e + g) ∙ C.x_len;
-        left_len = len ∙ C.left_len;
-        small = C.small;
-        tails = λ j h. omega (arith, C.tails j h, len);
-        heads = λ j h. omega (arith, C.heads j h, len);
-        within = λ j h. ⊎_elim
-            (λ p. rw p.1 (omega (arith, ap (entry cap) p.0, C.within e he)))
-            (λ p. rw p.1 (C.within j h))
-            (set_cases x e (entry x e + g) j x_at);
-        balance = λ w. omega (
-          arith,
-          C.balance w,
-          flow_add from x e g w he C.x_len,
-          flow_add to x e g w (omega (arith, C.to_len)) (omega (arith, C.x_len, C.to_len)),
-          transferred_at left (entry from e) (entry to e) g (C.tails e he) (C.heads e he) hg w,
-        );
-        total = transferred_sum left (entry from e) (entry to e) g (C.tails e he) (C.heads e he) hg ∙ C.total;
-        bounded = C.bounded;
-      }
+      moved_conserved C (C.tails e he) (C.heads e he) hg (length-set x e (entry x e + g)) (fits_at (entry x e + g) (omega (arith, C.within e he)))
+      (λ w. omega (arith, flow_add from x e g w he C.x_len, flow_add to x e g w (omega (arith, C.to_len)) (omega (arith, C.x_len, C.to_len))))
 
-  pub backward_conserved : g ≤ entry left (entry to e) → g ≤ entry x e
+  backward_conserved : g ≤ entry left (entry to e) → g ≤ entry x e
       → Conserved from to cap start (set x e (entry x e - g)) (transferred left (entry to e) (entry from e) g)
   backward_conserved hg hc =
-      let len = transferred_len left (entry to e) (entry from e) g (C.heads e he) (C.tails e he) hg in
-      record {
-        few = C.few;
-        to_len = C.to_len;
-        cap_len = C.cap_len;
-        x_len = length-set x e (entry x e - g) ∙ C.x_len;
-        left_len = len ∙ C.left_len;
-        small = C.small;
-        tails = λ j h. omega (arith, C.tails j h, len);
-        heads = λ j h. omega (arith, C.heads j h, len);
-        within = λ j h. ⊎_elim
-            (λ p. rw p.1 (omega (arith, ap (entry cap) p.0, C.within e he)))
-            (λ p. rw p.1 (C.within j h))
-            (set_cases x e (entry x e - g) j x_at);
-        balance = λ w. omega (
-          arith,
-          C.balance w,
-          flow_sub from x e g w he C.x_len hc,
-          flow_sub to x e g w (omega (arith, C.to_len)) (omega (arith, C.x_len, C.to_len)) hc,
-          transferred_at left (entry to e) (entry from e) g (C.heads e he) (C.tails e he) hg w,
-        );
-        total = transferred_sum left (entry to e) (entry from e) g (C.heads e he) (C.tails e he) hg ∙ C.total;
-        bounded = C.bounded;
-      }
+      moved_conserved C (C.heads e he) (C.tails e he) hg (length-set x e (entry x e - g)) (fits_at (entry x e - g) (omega (arith, C.within e he)))
+      (λ w. omega (arith, flow_sub from x e g w he C.x_len hc, flow_sub to x e g w (omega (arith, C.to_len)) (omega (arith, C.x_len, C.to_len)) hc))
 
 -- ---- steps in a row
 
-pub moves_none : (arcs x left : List ℕ) → Moves arcs x left x left
-moves_none arcs x left = record { x_len = refl; left_len = refl; keeps = λ s c. c }
+pub moves_none : {arcs x left : List ℕ} → Moves arcs x left x left
+moves_none = record { x_len = refl; left_len = refl; keeps = λ s c. c }
 
 pub moves_then : {arcs x left x₁ left₁ x₂ left₂ : List ℕ} → Moves arcs x left x₁ left₁ → Moves arcs x₁ left₁ x₂ left₂ → Moves arcs x left x₂ left₂
 moves_then m k = record { x_len = k.x_len ∙ m.x_len; left_len = k.left_len ∙ m.left_len; keeps = λ s c. k.keeps s (m.keeps s c) }
@@ -140,8 +122,8 @@ pub record ArcFacts (arcs x left : List ℕ) (e : ℕ) : Type 0 where
   pub within : entry x e ≤ capacity_of (entry arcs e)
   pub bounded : sum left ≤ 2147483648
 
-pub arc_facts : (arcs x left : List ℕ) (e : ℕ) → e < length arcs → Ready arcs x left → ArcFacts arcs x left e
-arc_facts arcs x left e h r =
+pub arc_facts : {arcs x left : List ℕ} {e : ℕ} → e < length arcs → Ready arcs x left → ArcFacts arcs x left e
+arc_facts {arcs} {x} {left} {e} h r =
     let c = r.holds in
     record {
       few = omega (arith, c.few, columns arcs);
@@ -153,54 +135,53 @@ arc_facts arcs x left e h r =
       bounded = omega (arith, c.bounded, c.total);
     }
 
--- the end of a residual arc, back or forward
-pub end_inside : {arcs x left : List ℕ} {e : ℕ} → ArcFacts arcs x left e → (back : Bool) → pick back (tail_of (entry arcs e)) (head_of (entry arcs e)) < length left
-end_inside F true = F.tail
-end_inside F false = F.head
+-- both ends of a residual arc are vertices
+pub start_inside : {arcs x left : List ℕ} {e : ℕ} → ArcFacts arcs x left e → (d : Direction) → start_of d (entry arcs e) < length left
+start_inside F Forward = F.tail
+start_inside F Back = F.head
 
--- one step over a packed arc, from its tail a to its head b
-pub forward_moves : (arcs x left left' : List ℕ) (e a b k room g : ℕ) → e < length arcs → Ready arcs x left → a ≡ tail_of (entry arcs e) → b ≡ head_of (entry arcs e) → k ≡ capacity_of (entry arcs e)
-    → room ≡ k - entry x e → g ≡ min (entry left a) room → left' ≡ transferred left a b g → Moves arcs x left (set x e (entry x e + g)) left'
-forward_moves arcs x left left' e a b k room g h r ea eb ek er eg el =
-    let ta : entry (tails_of arcs) e ≡ a = tail_at arcs e ∙ sym ea in
-    let tb : entry (heads_of arcs) e ≡ b = head_at arcs e ∙ sym eb in
-    let f = arc_facts arcs x left e h r in
-    let len : length left' ≡ length left = ap length el ∙ transferred_len left a b g (omega (arith, f.tail)) (omega (arith, f.head)) (omega arith) in
-    record {
-      x_len = length-set x e (entry x e + g);
-      left_len = len;
-      keeps = λ s c. rw (el, ← ta, ← tb) (forward_conserved c e g (listed arcs e h) (omega (arith, ap (entry left) ta)) (omega (arith, capacity_at arcs e)));
-    }
+pub end_inside : {arcs x left : List ℕ} {e : ℕ} → ArcFacts arcs x left e → (d : Direction) → end_of d (entry arcs e) < length left
+end_inside F Forward = F.head
+end_inside F Back = F.tail
 
--- and back, from its head b to its tail a
-pub backward_moves : (arcs x left left' : List ℕ) (e a b room g : ℕ) → e < length arcs → Ready arcs x left → a ≡ tail_of (entry arcs e) → b ≡ head_of (entry arcs e)
-    → room ≡ entry x e → g ≡ min (entry left b) room → left' ≡ transferred left b a g → Moves arcs x left (set x e (entry x e - g)) left'
-backward_moves arcs x left left' e a b room g h r ea eb er eg el =
-    let ta : entry (tails_of arcs) e ≡ a = tail_at arcs e ∙ sym ea in
-    let tb : entry (heads_of arcs) e ≡ b = head_at arcs e ∙ sym eb in
-    let f = arc_facts arcs x left e h r in
-    let len : length left' ≡ length left = ap length el ∙ transferred_len left b a g (omega (arith, f.head)) (omega (arith, f.tail)) (omega arith) in
-    record {
-      x_len = length-set x e (entry x e - g);
-      left_len = len;
-      keeps = λ s c. rw (el, ← ta, ← tb) (backward_conserved c e g (listed arcs e h) (omega (arith, ap (entry left) tb)) (omega arith));
-    }
+-- one step along the residual arc e of packed arcs
+module _ {arcs x left : List ℕ} {e : ℕ} (h : e < length arcs) (r : Ready arcs x left) where
+  ends : (entry (tails_of arcs) e ≡ tail_of (entry arcs e)) × (entry (heads_of arcs) e ≡ head_of (entry arcs e))
+  ends = (tail_at arcs e, head_at arcs e)
+
+  step_conserved : (d : Direction) (g : ℕ) → g ≤ entry left (start_of d (entry arcs e)) → g ≤ room d (entry arcs e) (entry x e) → (s : List ℕ) → PackedConserved arcs s x left
+      → PackedConserved arcs s (set x e (carried d (entry x e) g)) (transferred left (start_of d (entry arcs e)) (end_of d (entry arcs e)) g)
+  step_conserved Forward g hg hr s c =
+      rw (← ends.0, ← ends.1) (forward_conserved c e g (listed arcs e h) (rw ends.0 hg) (omega (arith, capacity_at arcs e)))
+  step_conserved Back g hg hr s c =
+      rw (← ends.0, ← ends.1) (backward_conserved c e g (listed arcs e h) (rw ends.1 hg) hr)
+
+  pub step_moves : (d : Direction) {a b k g y : ℕ} {left' : List ℕ} → a ≡ start_of d (entry arcs e) → b ≡ end_of d (entry arcs e) → k ≡ room d (entry arcs e) (entry x e)
+      → g ≡ min (entry left a) k → y ≡ carried d (entry x e) g → left' ≡ transferred left a b g → Moves arcs x left (set x e y) left'
+  step_moves d {a} {b} {k} {g} {y} {left'} ea eb ek eg ey el =
+      let f = arc_facts h r in
+      let hg : g ≤ entry left a = omega arith in
+      record {
+        x_len = length-set x e y;
+        left_len = ap length el ∙ transferred_len left a b g (rw ea (start_inside f d)) (rw eb (end_inside f d)) hg;
+        keeps = λ s c. rw (el, ey, ea, eb) (step_conserved d g (rw ea at hg) (omega arith) s c);
+      }
 
 -- ---- walks along links
 
 -- the links of a column give on to later arcs
-pub chained : (arcs ends links : List ℕ) → length ends ≡ length arcs → Chains ends links → Links arcs links
-chained arcs ends links el c = record { few = omega (arith, c.few); len = omega (arith, c.len); later = λ e h. go e (c.nexts e (omega arith)) (omega (arith, c.few)) }
+chained : (arcs : List ℕ) {ends links : List ℕ} → length ends ≡ length arcs → Chains ends links → Links arcs links
+chained arcs {ends} {links} el c = record { few = omega (arith, c.few); len = omega (arith, c.len); later = λ e h. go e (c.nexts e (omega arith)) (omega (arith, c.few)) }
   where
     go : (e : ℕ) → First ends (entry ends e) (e + 1) (entry links (256 + e)) → e < 4096 → e < entry links (256 + e)
     go e (First.found a b d f) h = omega arith
     go e (First.none a f) h = omega arith
 
-pub out_links : (arcs out : List ℕ) → Chains (tails_of arcs) out → Links arcs out
-out_links arcs out c = chained arcs (tails_of arcs) out (columns arcs) c
+pub out_links : {arcs out : List ℕ} → Chains (tails_of arcs) out → Links arcs out
+out_links {arcs} c = chained arcs (columns arcs) c
 
-pub into_links : (arcs into : List ℕ) → Chains (heads_of arcs) into → Links arcs into
-into_links arcs into c = chained arcs (heads_of arcs) into (length-map arcs head_of) c
+pub into_links : {arcs into : List ℕ} → Chains (heads_of arcs) into → Links arcs into
+into_links {arcs} c = chained arcs (length-map arcs head_of) c
 
 -- what a state tells of the lengths
 pub record Sizes (arcs x left : List ℕ) : Type 0 where
@@ -208,5 +189,5 @@ pub record Sizes (arcs x left : List ℕ) : Type 0 where
   pub x_len : length x ≡ length arcs
   pub small : length left ≤ 255
 
-pub sizes : (arcs x left : List ℕ) → Ready arcs x left → Sizes arcs x left
-sizes arcs x left r = record { few = omega (arith, r.holds.few, columns arcs); x_len = r.holds.x_len ∙ columns arcs; small = omega (arith, r.holds.small, r.holds.left_len) }
+pub sizes : {arcs x left : List ℕ} → Ready arcs x left → Sizes arcs x left
+sizes {arcs} r = record { few = omega (arith, r.holds.few, columns arcs); x_len = r.holds.x_len ∙ columns arcs; small = omega (arith, r.holds.small, r.holds.left_len) }

@@ -42,12 +42,6 @@ standing_at n s supply = set (zero_list n) s supply
 abbrev pub transferred : List ℕ → ℕ → ℕ → ℕ → List ℕ
 transferred left a b g = set (set left a (entry left a - g)) b (entry (set left a (entry left a - g)) b + g)
 
--- What a walk along links asks of them: a place for each vertex and each arc, and from an arc on to a later one or none.
-pub record Links (arcs links : List ℕ) : Type 0 where
-  pub few : length arcs ≤ 4096
-  pub len : length links ≡ 256 + length arcs
-  pub later : (e : ℕ) → e < length arcs → e < entry links (256 + e)
-
 -- What a call of a preflow answers: s and t are vertices, the supply is within the limit, arcs that fit, an amount for each arc, and links for 256 vertices and each arc.
 abbrev pub preflowable : List ℕ → ℕ → ℕ → ℕ → ℕ → ℕ → ℕ → ℕ → Bool
 preflowable arcs s t supply amounts n outs intos =

@@ -13,8 +13,8 @@ use Rattle.arc_index.proofs.Building.{Built, links_built}
 use Rattle.arc_index.proofs.Ends.{packed_chains}
 use Rattle.flow_residual.specs.PackedNetwork.{PackedPhaseState}
 use Rattle.flow_path.specs.Sending.{SearchAndPush, SendOutcome}
-use Rattle.flow_path.specs.declared.Sent.{Sent}
-use Rattle.flow_path.specs.declared.Sent.TheVariants.{Refused}
+use Rattle.packed_arcs.specs.declared.OutOfLimits.{OutOfLimits}
+use Rattle.std.specs.Prelude.{Option, Ok, Err}
 use Rattle.packed_arcs.proofs.LentParts.{zero_list_part}
 use Rattle.prelude.proofs.Tested.{passed, refused as failed}
 use Rattle.packed_arcs.proofs.LimitTests.{Sendable, sendable_facts}
@@ -25,7 +25,7 @@ cleared : {x₁ : List ℕ} {k m : ℕ} → x₁ ≡ zero_list k → k ≡ m →
 cleared e h = e ∙ ap zero_list h
 
 module _ (arcs : List ℕ) (t want : ℕ) (x left key : List ℕ) (u : Bool) (e : u ≡ sendable arcs t (length x) (length left) (length key)) where
-  pub send_refused : not u ≡ true → SendOutcome arcs t want x left key x left key Refused
+  pub send_refused : {e : OutOfLimits} → not u ≡ true → SendOutcome arcs t want x left key x left key (Err e)
   send_refused h = SendOutcome.refused (failed (sendable arcs t (length x) (length left) (length key)) u h e) refl refl refl
 
   module _ (h : not u ≡ false) where
@@ -51,8 +51,8 @@ module _ (arcs : List ℕ) (t want : ℕ) (x left key : List ℕ) (u : Bool) (e 
           subst (λ (l : List ℕ). PackedPhaseState arcs l (take (length left) (zero_list 255)) left (take (length left) (zero_list 255))) (sym none)
           (subst (λ (l : List ℕ). PackedPhaseState arcs (zero_list (length arcs)) l left l) (sym flat) begin)
 
-      pub send_ends : {x' left' key' : List ℕ} {r : Sent} → SearchAndPush arcs x₁ (take (length left) (zero_list 255)) left x' left' key' t want r
-          → SendOutcome arcs t want x left key x' left' key' r
+      pub send_ends : {x' left' key' : List ℕ} {r : Option ℕ} → SearchAndPush arcs x₁ (take (length left) (zero_list 255)) left x' left' key' t want r
+          → SendOutcome arcs t want x left key x' left' key' (Ok r)
       send_ends {x'} {left'} {key'} {r} s = SendOutcome.answered may begin
           (subst (λ (l : List ℕ). SearchAndPush arcs (zero_list (length arcs)) l left x' left' key' t want r) flat
           (subst (λ (l : List ℕ). SearchAndPush arcs l (take (length left) (zero_list 255)) left x' left' key' t want r) none s))

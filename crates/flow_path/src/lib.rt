@@ -4,21 +4,13 @@
 
 ghost use Rattle.flow_path.specs.Sending.{SendOutcome};
 
-use packed_arcs::clearing::clear_amounts;
+use packed_arcs::OutOfLimits;
 use packed_arcs::limits::is_sendable;
 use sending::index_and_send;
 
 mod sending;
 
-// What came of a call of `send`: how much reached the vertex, that no path leads there, or a refusal.
-#[derive(Clone, Copy)]
-pub enum Sent {
-    Reached(u32),
-    Unreached,
-    Refused,
-}
-
-// Moves at most want from the vertices with supply left to the vertex t, along one path of least cost. The amounts x start at 0, and keys are written over.
+// Moves at most want from the vertices with supply left to the vertex t, along one path of least cost: how much reached t, or None where no path leads there. The amounts x start at 0, and keys are written over.
 pub fn send(
     arcs: &[u64],
     t: usize,
@@ -26,19 +18,19 @@ pub fn send(
     x: &mut [u16],
     left: &mut [u32],
     key: &mut [u32],
-) -> Sent
+) -> Result<Option<u32>, OutOfLimits>
     ensures { SendOutcome arcs.now t want x.old left.old key.old x.new left.new key.new result }
 {
     let n = left.len();
     if !is_sendable(arcs, t, x.len(), n, key.len()) {
-        return Sent::Refused;
+        return Err(OutOfLimits);
     }
-    clear_amounts(x);
+    x.fill(0);
     let end = 256 + arcs.len();
     let mut out = [0u16; 4352];
     let pi = [0u32; 255];
     let mut par = [0u16; 255];
-    index_and_send(
+    let reached = index_and_send(
         t,
         want,
         arcs,
@@ -48,5 +40,6 @@ pub fn send(
         left,
         key,
         &mut par[..n],
-    )
+    );
+    Ok(reached)
 }

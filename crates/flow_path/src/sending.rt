@@ -6,11 +6,10 @@ ghost use Rattle.arc_index.specs.Chains.{Chains};
 ghost use Rattle.flow_path.specs.Sending.{SearchAndPush};
 ghost use Rattle.flow_residual.specs.PackedNetwork.{PackedPhaseState};
 
-use super::Sent;
 use arc_index::End;
 use arc_index::packed::index_packed;
 use flow_push::push;
-use flow_search::{UNREACHED, search};
+use flow_search::{Network, UNREACHED, search};
 
 // Nothing moves yet, so that no arc leads back, and the index by tail serves.
 pub(crate) fn search_and_push(
@@ -23,18 +22,18 @@ pub(crate) fn search_and_push(
     left: &mut [u32],
     key: &mut [u32],
     par: &mut [u16],
-) -> Sent
+) -> Option<u32>
     requires t_in_bounds { (t < length left.old) × (length key.old ≡ length left.old) × (length par.old ≡ length left.old) }
     requires chains { Chains (tails_of arcs.now) out.now × ((e : ℕ) → entry x.old e ≡ 0) }
     requires packed_phase_state { PackedPhaseState arcs.now x.old pi.now left.old pi.now }
     ensures { SearchAndPush arcs.now x.old pi.now left.old x.new left.new key.new t want result }
 {
-    search(arcs, out, &out[..0], x, pi, left, key, par);
+    search(Network { arcs, x, pi }, out, None, left, key, par);
     if key[t] < UNREACHED {
         let got = push(t, want, arcs, par, key, x, left);
-        return Sent::Reached(got);
+        return Some(got);
     }
-    Sent::Unreached
+    None
 }
 
 // The same, after the arcs were indexed.
@@ -48,7 +47,7 @@ pub(crate) fn index_and_send(
     left: &mut [u32],
     key: &mut [u32],
     par: &mut [u16],
-) -> Sent
+) -> Option<u32>
     requires t_in_bounds { (t < length left.old) × (length key.old ≡ length left.old) × (length par.old ≡ length left.old) }
     requires out_len { (length out.old ≡ 256 + length arcs.now) × ((e : ℕ) → entry x.old e ≡ 0) }
     requires packed_phase_state { PackedPhaseState arcs.now x.old pi.now left.old pi.now }

@@ -1,7 +1,7 @@
 // Phases: a search, potentials raised by its distances, and a push to the nearest vertex with need, until none is reached.
 #![tactic(auto)]
 
-ghost use Rattle.std.specs.Prelude.{true, false, ◌≡◌, ℕ, ◌<◌, ◌≤◌, length};
+ghost use Rattle.std.specs.Prelude.{true, false, ◌≡◌, ℕ, ◌<◌, ◌≤◌, length, MatchOption};
 ghost use Rattle.packed_arcs.specs.Entries.{entry};
 ghost use Rattle.packed_arcs.specs.PackedArcs.{tails_of, heads_of};
 ghost use Rattle.arc_index.specs.Chains.{Chains};
@@ -11,19 +11,15 @@ ghost use Rattle.flow_residual.specs.Residual.{RaisedPotentials};
 ghost use Rattle.flow_phases.specs.Advancing.{PackedAdvanced};
 
 use flow_push::push;
-use flow_search::{UNREACHED, search};
-use packed_arcs::numbers::lesser;
+use flow_search::{Network, UNREACHED, search};
 
 // The potentials after a phase that stops at the key d.
 fn raise(d: u32, key: &[u32], pi: &mut [u32])
     requires { (length pi.old ≡ length key.now) × ((v : ℕ) → entry pi.old v ≤ 8322818) }
     ensures { RaisedPotentials d key.now pi.old pi.new }
 {
-    let mut v = 0;
-    while v < key.len() {
-        let k = key[v];
-        pi[v] = pi[v] + lesser(k, d) / 256;
-        v += 1;
+    for (v, k) in key.iter().enumerate() {
+        pi[v] += (*k).min(d) / 256;
     }
 }
 
@@ -31,30 +27,21 @@ fn raise(d: u32, key: &[u32], pi: &mut [u32])
 fn better(need: u32, key: u32, k: u32) -> bool
     ensures { (result ≡ true → (0 < need) × (key < k)) × (result ≡ false → 0 < need → k ≤ key) }
 {
-    if 0 < need {
-        if key < k {
-            return true;
-        }
-        return false;
-    }
-    false
+    0 < need && key < k
 }
 
-// The vertex with need whose key is least; the number of vertices where none is reached.
-fn nearest(need: &[u32], key: &[u32]) -> usize
+// The vertex with need whose key is least, where one is reached.
+fn nearest(need: &[u32], key: &[u32]) -> Option<usize>
     requires { length need.now ≡ length key.now }
-    ensures { Nearest need.now key.now result }
+    ensures { MatchOption result (Nearest need.now key.now (length key.now)) (λ t. Nearest need.now key.now t × (t < length key.now)) }
 {
-    let mut best = key.len();
+    let mut best = None;
     let mut k = UNREACHED;
-    let mut v = 0;
-    while v < key.len() {
-        let here = key[v];
-        if better(need[v], here, k) {
-            best = v;
-            k = here;
+    for (v, here) in key.iter().enumerate() {
+        if better(need[v], *here, k) {
+            best = Some(v);
+            k = *here;
         }
-        v += 1;
     }
     best
 }
@@ -97,11 +84,10 @@ pub fn run(
     ensures { PackedSolved arcs.now x.old pi.old left.old need.old x.new pi.new left.new need.new key.new par.new }
 {
     loop {
-        search(arcs, out, into, x, pi, left, key, par);
-        let t = nearest(need, key);
-        if key.len() <= t {
+        search(Network { arcs, x, pi }, out, Some(into), left, key, par);
+        let Some(t) = nearest(need, key) else {
             return;
-        }
+        };
         advance(t, arcs, key, par, x, pi, left, need);
     }
 }

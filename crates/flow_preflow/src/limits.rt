@@ -17,20 +17,10 @@ pub(crate) fn is_preflowable(
 ) -> bool
     ensures { result ≡ preflowable arcs.now s t supply amounts n outs intos }
 {
-    if n <= s {
-        return false;
-    }
-    if n <= t {
-        return false;
-    }
-    if 2147483648 < supply {
-        return false;
-    }
-    if outs != 256 + arcs.len() {
-        return false;
-    }
-    if intos != 256 + arcs.len() {
-        return false;
-    }
-    arcs_fit(arcs, amounts, n)
+    s < n
+        && t < n
+        && supply <= 2147483648
+        && outs == 256 + arcs.len()
+        && intos == 256 + arcs.len()
+        && arcs_fit(arcs, amounts, n)
 }

@@ -3,33 +3,17 @@ use mathlib.Core.Path.{◌≡◌, sym, ap, subst, ◌∙◌}
 use mathlib.Core.Bool.{Bool, true, false}
 use mathlib.Core.List.{List}
 use Prim.Native.Nat.{ℕ, ◌+◌, ◌-◌, ◌<◌, ◌≤◌, min}
-use native.Mathlib.Omega.{arith}
 use lib.Dec.{ltb}
-use lib.ListN.{length, set}
+use lib.ListN.{set}
 use borrow.Author.Tests.{lt-ltb, le-ltb}
 use Rattle.prelude.specs.Choice.{pick}
 use Rattle.packed_arcs.specs.Entries.{entry}
 use Rattle.packed_arcs.specs.PackedArcs.{tail_of, head_of, capacity_of, tails_of, heads_of, capacities_of}
-use Rattle.packed_arcs.proofs.ArcColumns.{columns, tail_at, head_at, capacity_at}
-use Rattle.flow_residual.specs.PackedNetwork.{PackedPushReady}
+use Rattle.packed_arcs.proofs.ArcColumns.{tail_at, head_at, capacity_at}
 use Rattle.flow_residual.specs.Push.{code_arc, residual_capacity}
-use Rattle.flow_relaxing.proofs.ArcReads.{ArcPlaces}
 use Rattle.flow_residual.proofs.PushedAmounts.{code_start, shifted}
 
-pub still : {m n e : ℕ} → m ≡ n → e < n → e < m
-still p h = omega arith
-
 module _ (arcs : List ℕ) (code : ℕ) {e : ℕ} (number : e ≡ code_arc code) where
-  -- where the arc and its amount stand
-  pub coded_places : {par key x left : List ℕ} → PackedPushReady arcs par key x left → code_arc code < length (tails_of arcs) → ArcPlaces arcs x e
-  coded_places L h =
-      let inside : e < length arcs = omega (arith, columns arcs) in
-      let few : length arcs ≤ 4096 = omega (arith, columns arcs, L.few) in
-      record { offset = omega arith; inside = inside; amount_offset = omega arith; amount_inside = omega (arith, L.x_len, columns arcs) }
-
-  pub amount_low : {par key x left : List ℕ} → PackedPushReady arcs par key x left → code_arc code < length (tails_of arcs) → entry x e ≤ capacity_of (entry arcs e)
-  amount_low L h = omega (arith, L.within e (omega arith), capacity_at arcs e)
-
   pub start_by : {u : ℕ} → u ≡ pick (ltb code 4096) (tail_of (entry arcs e)) (head_of (entry arcs e)) → u ≡ code_start (tails_of arcs) (heads_of arcs) code
   start_by h = h ∙ go (ltb code 4096) number
     where

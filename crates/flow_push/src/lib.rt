@@ -10,16 +10,15 @@ ghost use Rattle.flow_residual.specs.Push.{code_arc};
 ghost use Rattle.flow_residual.specs.Residual.{unreached};
 
 use packed_arcs::arcs::{capacity_of, head_of, tail_of};
-use packed_arcs::numbers::{lesser, place, wide};
 
-// The arc of a code.
+// The arc of a code. The code of a residual arc stays a number: that is what the lent array of parents holds, in 16 bits, and code_arc is a definition.
 fn arc_of(code: u16) -> usize
     ensures { result ≡ code_arc code }
 {
     if code < 4096 {
-        return place(code);
+        return usize::from(code);
     }
-    place(code - 4096)
+    usize::from(code - 4096)
 }
 
 // The vertex that a residual arc comes from.
@@ -38,9 +37,9 @@ fn room_by(code: u16, want: u32, arc: u64, amount: u16) -> u32
     ensures { result ≡ min want (pick (ltb code 4096) (capacity_of arc - amount) amount) }
 {
     if code < 4096 {
-        return lesser(want, wide(capacity_of(arc) - amount));
+        return want.min(u32::from(capacity_of(arc) - amount));
     }
-    lesser(want, wide(amount))
+    want.min(u32::from(amount))
 }
 
 // The amount of an arc after got went by the residual arc.
@@ -60,7 +59,7 @@ fn take_left(v: usize, want: u32, left: &mut [u32]) -> u32
     ensures { (result ≡ min want (entry left.old v)) × (left.new ≡ set left.old v (entry left.old v - result)) }
 {
     let have = left[v];
-    let got = lesser(want, have);
+    let got = want.min(have);
     left[v] = have - got;
     got
 }

@@ -2,140 +2,122 @@
 #![tactic(auto)]
 
 ghost use Rattle.std.specs.Prelude.{◌<◌, length};
-ghost use Rattle.flow_moves.specs.Preflow.{Links, Ready, Moves};
+ghost use Rattle.flow_moves.specs.Preflow.{Ready, Moves};
 
-use flow_arcs::{far_end, first_arc, index_of, is_residual, next_arc};
+use buckets::Buckets;
+use flow_arcs::Network;
+use flow_arcs::direction::Direction;
+use flow_labels::Labels;
 use flow_moves::shift;
-use packed_arcs::numbers::place;
 
-// Puts v first into the bucket of the label l, where nothing stood at v: else it is in one already.
-// A bucket is a list: its first vertex stands at l, the next one after v at 256 + v, and 255 is none.
-pub fn activate(v: usize, l: u8, stood: u32, bucket: &mut [u8; 512])
-    requires { v < 256 }
-{
-    if stood != 0 {
-        return;
-    }
-    let i = index_of(l);
-    bucket[256 + v] = bucket[i];
-    bucket[i] = v as u8;
+pub mod buckets;
+
+// A residual arc of a vertex, and the vertex's next ones in the same direction.
+#[derive(Clone, Copy)]
+pub struct Walk {
+    pub direction: Direction,
+    pub arc: usize,
 }
 
-// Pushes along the residual arc e, forward or back, where there is such an arc and its end has the label l: is nothing left at its start?
-fn give(
-    back: bool,
+impl Walk {
+    // All the residual arcs from v in this direction.
+    pub fn first(direction: Direction, v: usize, net: Network<'_>) -> Self
+        requires { v < 256 }
+    {
+        let arc = net.first_from(direction, v);
+        Walk { direction, arc }
+    }
+}
+
+// What guides the pushes: the labels, who waits by label, and for each vertex the arc where its next push goes on.
+#[derive(Drop)]
+pub struct Guide {
+    pub labels: Labels,
+    pub buckets: Buckets,
+    pub current: [Walk; 256],
+}
+
+impl Guide {
+    // No vertex has a label, and nobody waits.
+    pub fn new() -> Self {
+        let direction = Direction::Forward;
+        Guide {
+            labels: Labels::new(),
+            buckets: Buckets::new(),
+            current: [Walk { direction, arc: 0 }; 256],
+        }
+    }
+}
+
+// Pushes along the residual arc e, where there is such an arc and the label of its end is wanted: is nothing left at its start?
+fn give<F: Fn(u8) -> bool>(
+    direction: Direction,
     e: usize,
-    l: u8,
-    arcs: &[u64],
-    label: &[u8; 256],
-    bucket: &mut [u8; 512],
+    is_wanted: &F,
+    net: Network<'_>,
+    guide: &mut Guide,
     x: &mut [u16],
     left: &mut [u32],
 ) -> bool
-    requires { (e < length arcs.now) × Ready arcs.now x.old left.old }
-    ensures { Moves arcs.now x.old left.old x.new left.new }
+    requires callable { F.IsAlwaysCallable is_wanted.now }
+    requires ready { (e < length net.arcs.now) × Ready net.arcs.now x.old left.old }
+    ensures { Moves net.entry.arcs.now x.old left.old x.new left.new }
 {
-    let arc = arcs[e];
-    let b = far_end(back, arc);
-    if label[b] != l {
+    let arc = net.arcs[e];
+    let b = direction.end_of(arc);
+    let l = guide.labels.label[b];
+    if !is_wanted(l) || direction.room(arc, x[e]) == 0 {
         return false;
     }
-    if !is_residual(back, arc, x[e]) {
-        return false;
+    // where something stood at b, it is in its bucket already
+    if left[b] == 0 {
+        guide.buckets.put(b, l);
     }
-    activate(b, l, left[b], bucket);
-    shift(back, e, arcs, x, left) == 0
+    shift(direction, e, net.arcs, x, left) == 0
 }
 
-// Pushes along the residual arcs at the start of e, forward or back, from e on, to vertices with the label l: the arc where nothing was left, or 4096.
-fn give_all(
-    back: bool,
-    first: usize,
-    l: u8,
-    arcs: &[u64],
-    links: &[u16],
-    label: &[u8; 256],
-    bucket: &mut [u8; 512],
+// Pushes along the residual arcs of a walk to vertices whose labels are wanted: where in it nothing was left.
+pub fn give_all<F: Fn(u8) -> bool>(
+    walk: Walk,
+    is_wanted: &F,
+    net: Network<'_>,
+    guide: &mut Guide,
     x: &mut [u16],
     left: &mut [u32],
-) -> usize
-    requires { Links arcs.now links.now × Ready arcs.now x.old left.old }
-    ensures { Moves arcs.now x.old left.old x.new left.new }
+) -> Option<Walk>
+    requires callable { F.IsAlwaysCallable is_wanted.now }
+    requires ready { Ready net.arcs.now x.old left.old }
+    ensures { Moves net.entry.arcs.now x.old left.old x.new left.new }
 {
-    let mut e = first;
-    while e < arcs.len() {
-        if give(back, e, l, arcs, label, bucket, x, left) {
-            return e;
+    let direction = walk.direction;
+    let mut e = walk.arc;
+    while e < net.arcs.len() {
+        if give(direction, e, is_wanted, net, guide, x, left) {
+            return Some(Walk { direction, arc: e });
         }
-        e = next_arc(e, links);
+        e = net.next_from(direction, e);
     }
-    4096
+    None
 }
 
-// The arc into v where a push with the code c goes on: codes from 8192 on are arcs back, others start at the first.
-fn resumed(v: usize, c: u16, into: &[u16]) -> usize
-    requires { v < length into.now }
-{
-    if c < 8192 {
-        return first_arc(v, into);
-    }
-    place(c - 8192)
-}
-
-// The code of the arc e forward.
-fn forward_code(e: usize) -> u16 {
-    if e < 4096 {
-        return e as u16;
-    }
-    4096
-}
-
-// The code of the arc e backward.
-fn backward_code(e: usize) -> u16 {
-    if e < 4096 {
-        return (8192 + e) as u16;
-    }
-    12288
-}
-
-// The label below l; 0 has none below.
-fn below(l: u8) -> u8 {
-    if 0 < l {
-        return l - 1;
-    }
-    255
-}
-
-// Pushes what stands at v to vertices one label lower, from the code c of an arc on: the code where nothing was left.
+// Pushes what stands at v to vertices one label lower, from its current arc on: the arc where nothing was left.
 pub fn push_from(
     v: usize,
-    c: u16,
-    arcs: &[u64],
-    out: &[u16],
-    into: &[u16],
-    label: &[u8; 256],
-    bucket: &mut [u8; 512],
+    net: Network<'_>,
+    guide: &mut Guide,
     x: &mut [u16],
     left: &mut [u32],
-) -> u16
-    requires v_bound { v < 256 }
-    requires links { Links arcs.now out.now × Links arcs.now into.now × Ready arcs.now x.old left.old }
-    ensures { Moves arcs.now x.old left.old x.new left.new }
+) -> Option<Walk>
+    requires { (v < 256) × Ready net.arcs.now x.old left.old }
+    ensures { Moves net.entry.arcs.now x.old left.old x.new left.new }
 {
-    let l = below(label[v]);
-    let e = give_all(false, place(c), l, arcs, out, label, bucket, x, left);
-    if e < 4096 {
-        return forward_code(e);
+    let below = guide.labels.label[v].checked_sub(1)?;
+    let is_below = |l: u8| l == below;
+    let walk = guide.current[v];
+    let stopped = give_all(walk, &is_below, net, guide, x, left);
+    if stopped.is_some() || walk.direction == Direction::Back {
+        return stopped;
     }
-    backward_code(give_all(
-        true,
-        resumed(v, c, into),
-        l,
-        arcs,
-        into,
-        label,
-        bucket,
-        x,
-        left,
-    ))
+    let back = Walk::first(Direction::Back, v, net);
+    give_all(back, &is_below, net, guide, x, left)
 }

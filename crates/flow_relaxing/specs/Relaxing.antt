@@ -1,7 +1,13 @@
 -- What looking at one residual arc does in a search.
 use Rattle.std.specs.Prelude.{◌≡◌, Bool, true, false, List, ℕ, ◌+◌, ◌-◌, ◌/◌, ◌<◌, ◌≤◌, min, set}
 use Rattle.packed_arcs.specs.Entries.{entry}
+use Rattle.flow_relaxing.specs.declared.Network.{Network}
+use Rattle.flow_residual.specs.PackedNetwork.{residual_of}
 use Rattle.flow_residual.specs.Residual.{ResidualNetwork, tail, head, raised_cost, head_potential, WithinLimits, NonnegativeReducedCosts, key_beyond}
+
+-- The residual network of what the code holds.
+abbrev pub residual_in : Network → ResidualNetwork
+residual_in net = residual_of net.arcs.now net.x.now net.pi.now
 
 -- ---- residual arcs: the arc e forward, or back
 

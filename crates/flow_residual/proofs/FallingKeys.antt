@@ -64,14 +64,3 @@ pub record Raising (d : ℕ) (key pi₀ pi : List ℕ) (v : ℕ) : Type 0 where
   pub len : length pi ≡ length pi₀
   pub below : (j : ℕ) → j < v → entry pi j ≡ entry pi₀ j + min (entry key j) d / 256
   pub above : (j : ℕ) → v ≤ j → entry pi j ≡ entry pi₀ j
-
-pub raise_turn : (d : ℕ) (key pi₀ pi : List ℕ) (v r : ℕ) → length pi₀ ≡ length key → v < length key → r ≡ min (entry key v) d → Raising d key pi₀ pi v → Raising d key pi₀ (set pi v (entry pi v + r / 256)) (v + 1)
-raise_turn d key pi₀ pi v r hl hv er R = record {
-  within = omega arith;
-  len = length-set pi v (entry pi v + r / 256) ∙ R.len;
-  below = λ j hj. ⊎_elim
-      (λ p. subst (λ (i : ℕ). entry (set pi v (entry pi v + r / 256)) j ≡ entry pi₀ i + min (entry key i) d / 256) (sym p.0) (omega (arith, p.1, R.above v (omega arith))))
-      (λ p. p.1 ∙ R.below j (omega (arith, p.0)))
-      (set_cases pi v (entry pi v + r / 256) j (omega (arith, R.len)));
-  above = λ j hj. get_or-set_other pi v j (entry pi v + r / 256) 0 (λ e. absurd (omega arith)) ∙ R.above j (omega arith);
-}

@@ -102,13 +102,6 @@ module _ {from to cost cap x pi left need key par : List ℕ} (S : PhaseState fr
   pub small_key : length key ≤ 255
   small_key = omega (arith, F.key_len, S.small)
 
-  -- a vertex is among the needs, and its place in an array of numbers of 32 bits
-  pub need_inside : {t : ℕ} → t < length key → t < length need
-  need_inside h = omega (arith, F.key_len, S.need_len)
-
-  pub offset : {t : ℕ} → t < length key → Fits w64 (t * 4)
-  offset h = omega (arith, small_key)
-
   pub roots_zero : (v : ℕ) → v < length key → entry key v ≡ 0 → entry pi v ≡ 0
   roots_zero v hv e = S.zero v (omega (arith, F.key_len)) (F.roots v hv e)
 
@@ -209,15 +202,6 @@ phase {from} {to} {cost} {cap} {x} {pi} {left} {need} {key} {par} {x'} {pi'} {le
     let ok = target_ok T h in
     advanced S F t g pi' x' left' ok.0 ok.1 ok.2 ok.3 R M
 
-pub target_none : {need key : List ℕ} {t : ℕ} → Nearest need key t → length key ≤ t → (j : ℕ) → j < length key → 0 < entry need j → unreached ≤ entry key j
-target_none {need} {key} {t} T h j hj hn = ⊎_elim
-    (λ p. omega (arith, p.1, T.best_of.least j hj hn))
-    (λ p. absurd (omega (arith, p.0)))
-    T.best_of.which
-
-pub sent_inside : {N : ResidualNetwork} {left key par : List ℕ} {t : ℕ} → t < length left → SearchResult N left key par → t < length key
-sent_inside h F = omega (arith, F.key_len)
-
 -- what holds before each phase
 pub record Running (from to cost cap x₀ left₀ need₀ x pi left need key par : List ℕ) : Type 0 where
   pub state : PhaseState from to cost cap x pi left need
@@ -227,29 +211,3 @@ pub record Running (from to cost cap x₀ left₀ need₀ x pi left need key par
   pub left_less : (w : ℕ) → entry left w ≤ entry left₀ w
   pub need_less : (w : ℕ) → entry need w ≤ entry need₀ w
   pub balance : (w : ℕ) → flow_at from x w + entry left w + entry need₀ w + flow_at to x₀ w ≡ flow_at from x₀ w + entry left₀ w + entry need w + flow_at to x w
-
-pub running_first : {from to cost cap x pi left need key par : List ℕ} → PhaseState from to cost cap x pi left need → (length key ≡ length left) × (length par ≡ length left)
-    → Running from to cost cap x left need x pi left need key par
-running_first S lens = record {
-  state = S;
-  left_len = refl;
-  key_len = lens.0;
-  par_len = lens.1;
-  left_less = λ w. omega arith;
-  need_less = λ w. omega arith;
-  balance = λ w. refl;
-}
-
-pub running : {from to cost cap x₀ left₀ need₀ x pi left need key par x' pi' left' need' key' par' : List ℕ}
-    → Running from to cost cap x₀ left₀ need₀ x pi left need key par
-    → SearchResult (residual from to cost cap x pi) left key' par' → Advanced from to cost cap x pi left need x' pi' left' need'
-    → Running from to cost cap x₀ left₀ need₀ x' pi' left' need' key' par'
-running I F A = record {
-  state = A.state;
-  left_len = A.left_len ∙ I.left_len;
-  key_len = F.key_len ∙ I.left_len;
-  par_len = F.par_len ∙ I.left_len;
-  left_less = λ w. omega (arith, I.left_less w, A.left_less w);
-  need_less = λ w. omega (arith, I.need_less w, A.need_less w);
-  balance = λ w. omega (arith, I.balance w, A.balance w);
-}

@@ -50,18 +50,6 @@ module _ {from to cap par key x left : List ℕ} (L : PushReady from to cap par 
   same_far x' k e he (inr u) (inl f) = absurd (omega (arith, ends_near k e he u))
   same_far x' k e he (inr u) (inr f) = absurd (omega (arith, ends_near k e he u))
 
-  pub moved_root : (left' : List ℕ) (v want g : ℕ) → v < length key → entry key v ≡ 0 → g ≡ min want (entry left v) → left' ≡ set left v (entry left v - g) → Moved from to cap par key x left x left' v want g
-  moved_root left' v want g hv hz eg el = record {
-    x_len = refl;
-    left_len = rw el (length-set left v (entry left v - g));
-    most = omega arith;
-    less = λ w. rw el (omega (arith, left_sub left v g w (omega (arith, L.left_len)) (omega arith)));
-    within = L.within;
-    only = λ e. inl refl;
-    balance = λ w. rw el (omega (arith, left_sub left v g w (omega (arith, L.left_len)) (omega arith)));
-    some = λ O h. omega (arith, O.roots v hv hz);
-  }
-
   -- g moved to u, then by arc e from u to v, forward
   module _ {x₁ left₁ : List ℕ} (v e want room g : ℕ) (hv : v < length key) (hr : entry key v < unreached) (h0 : 0 < entry key v) (hw : room ≤ want)
       (he : e < length from) (hs : Augmentable cap par key x left → 0 < want → 0 < room) where
@@ -125,13 +113,6 @@ module _ {from to cap par key x left : List ℕ} (L : PushReady from to cap par 
 
     link : ParentLink from to key (entry par v) v
     link = L.links v hv hr pos
-
-    pub arc_ok : code_arc (entry par v) < length from
-    arc_ok = go (entry par v) link
-      where
-        go : (code : ℕ) → ParentLink from to key code v → code_arc code < length from
-        go code (ParentLink.forward i t d) = let h : code < 4096 = omega (arith, L.few) in simp (lt-ltb _ _ h) i
-        go code (ParentLink.backward e ec i t d) = let h : 4096 ≤ code = omega arith in simp (le-ltb _ _ h) (omega arith)
 
     pub start_ok : (code_start from to (entry par v) < length key) × (entry key (code_start from to (entry par v)) < entry key v)
     start_ok = go (entry par v) link

@@ -21,7 +21,7 @@ use Rattle.vertex_queue.specs.VertexQueue.{waits_not, Kept, Holds, nobody, put_i
 use Rattle.vertex_queue.proofs.Laws.{begin_kept, put_kept, take_kept, taken_key, none_waits, vertex_below}
 use Rattle.flow_residual.specs.Residual.{unreached, ResidualNetwork, key_beyond, WithinLimits, ParentArc, LoweredKeys, AllRelaxed}
 use Rattle.flow_relaxing.specs.Relaxing.{start_of, finish_of, IsResidual, length_of, code_of, LowerOutcome, RelaxOutcome, SearchReady}
-use Rattle.flow_search.specs.Search.{starts, Relaxed, waiting, work, SearchState, Looking, first_code, end_code, ScannedFrom, BackwardIndex}
+use Rattle.flow_search.specs.Search.{starts, Relaxed, waiting, work, SearchState, Looking, first_code, end_code, ScannedFrom}
 use Rattle.flow_residual.specs.Phase.{FirstKeys, first_key, StartOutcome}
 use Rattle.flow_residual.proofs.FallingKeys.{lower_refl, lower_trans, lower_one}
 
@@ -109,18 +109,10 @@ pub record Scanning (N : ResidualNetwork) (back : Bool) (u k : ℕ) (key₀ par�
   pub looking : Looking N key keys low u k (code_of back lo)
   pub falls : work key keys ≤ work key₀ keys₀
 
-pub scan_start : {N : ResidualNetwork} {back : Bool} {u k : ℕ} {key par keys low links : List ℕ} → Chains (starts N back) links → SearchReady N (length key)
-    → Looking N key keys low u k (first_code back) → Scanning N back u k key par keys low key par keys low (first_arc links u)
-scan_start {N} {back} {u} {k} {key} {par} C R L =
-    record { lo = 0; next = C.firsts u (omega (arith, L.inside, R.small)); keeps = lower_refl N key par; looking = L; falls = omega arith }
-
 -- the arc e is one, and the keys are as many as they were
 pub arc_inside : {N : ResidualNetwork} {n : ℕ} → SearchReady N n → {back : Bool} {u k : ℕ} {key₀ par₀ keys₀ low₀ key par keys low : List ℕ} {e : ℕ}
     → Scanning N back u k key₀ par₀ keys₀ low₀ key par keys low e → e < 4096 → e < length N.from
 arc_inside R {back} G l = omega (arith, is_arc G.next l, starts_len R.sized back)
-
-pub still_ready : {N : ResidualNetwork} {key₀ par₀ key par : List ℕ} → LoweredKeys N key₀ par₀ key par → SearchReady N (length key₀) → SearchReady N (length key)
-still_ready {N} K R = subst (SearchReady N) (sym K.key_len) R
 
 module _ {N : ResidualNetwork} {n : ℕ} (R : SearchReady N n) {back : Bool} {u k : ℕ} {key₀ par₀ keys₀ low₀ key par keys low : List ℕ} {e : ℕ} (size : length key ≡ n) (par-size : length par ≡ length key)
     (G : Scanning N back u k key₀ par₀ keys₀ low₀ key par keys low e) (l : e < 4096) where
@@ -324,10 +316,9 @@ pub both_scans : {N : ResidualNetwork} {u k : ℕ} {key₀ par₀ keys₀ low₀
 both_scans A B = record { keeps = lower_trans A.keeps B.keeps; looking = B.looking; falls = omega (arith, A.falls, B.falls) }
 
 -- where no arc carries anything, there is none back
-pub forward_only : {N : ResidualNetwork} {u k : ℕ} {into key₀ par₀ keys₀ low₀ key par keys low : List ℕ} → length N.from ≤ 4096 → BackwardIndex N into → length into ≡ 0 → ScannedFrom N false u k key₀ par₀ keys₀ low₀ key par keys low
+pub forward_only : {N : ResidualNetwork} {u k : ℕ} {key₀ par₀ keys₀ low₀ key par keys low : List ℕ} → length N.from ≤ 4096 → ((e : ℕ) → entry N.x e ≡ 0) → ScannedFrom N false u k key₀ par₀ keys₀ low₀ key par keys low
     → ScannedFrom N true u k key₀ par₀ keys₀ low₀ key par keys low
-forward_only few (BackwardIndex.indexed C) z A = absurd (omega (arith, C.len))
-forward_only {N} {u} {k} {into} {key₀} {par₀} {keys₀} {low₀} {key} {par} {keys} {low} few (BackwardIndex.idle none z') z A =
+forward_only {N} {u} {k} {key₀} {par₀} {keys₀} {low₀} {key} {par} {keys} {low} few none A =
     let L = A.looking in
     record {
       keeps = A.keeps;
@@ -344,10 +335,6 @@ forward_only {N} {u} {k} {into} {key₀} {par₀} {keys₀} {low₀} {key} {par}
     looked : (b : Bool) (i : ℕ) → i < length N.from → waits_not ≤ entry keys (start_of N b i) → (start_of N b i ≡ u → code_of b i < 8192) → Relaxed N key b i
     looked false i h g c = A.looking.state.looked false i h g (λ s. omega arith)
     looked true i h g c = λ x r. absurd (omega (arith, none i))
-
-pub backward_index : {N : ResidualNetwork} {into : List ℕ} → BackwardIndex N into → (length into ≡ 0 → ⊥) → Chains N.to into
-backward_index (BackwardIndex.indexed C) z = C
-backward_index (BackwardIndex.idle none z') z = absurd (z z')
 
 -- ---- the keys at the start
 

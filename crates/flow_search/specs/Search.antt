@@ -1,5 +1,6 @@
 -- A search over the residual network: what holds between two residual arcs that are looked at.
-use Rattle.std.specs.Prelude.{◌≡◌, Bool, true, false, List, [], ◌∷◌, ℕ, ◌+◌, ◌*◌, ◌<◌, ◌≤◌, ltb, length}
+use Rattle.std.specs.Prelude.{◌≡◌, Bool, true, false, List, [], ◌∷◌, ℕ, ◌+◌, ◌*◌, ◌<◌, ◌≤◌, ltb, length, Option, MatchOption}
+use denote.Ref.{Bor}
 use Rattle.prelude.specs.Choice.{indicator}
 use Rattle.packed_arcs.specs.Entries.{entry, sum}
 use Rattle.arc_index.specs.Chains.{Chains}
@@ -57,6 +58,5 @@ pub record ScannedFrom (N : ResidualNetwork) (back : Bool) (u k : ℕ) (key par 
   pub falls : work key' keys' ≤ work key keys
 
 -- The index by head; or none, where no arc carries anything.
-pub data BackwardIndex (N : ResidualNetwork) (into : List ℕ) : Type 0 where
-  indexed : Chains N.to into → BackwardIndex N into
-  idle : ((e : ℕ) → entry N.x e ≡ 0) → length into ≡ 0 → BackwardIndex N into
+abbrev pub BackwardIndex : ResidualNetwork → Option (Bor (List ℕ)) → Type 0
+BackwardIndex N into = MatchOption into ((e : ℕ) → entry N.x e ≡ 0) (λ links. Chains N.to links.now)

@@ -3,42 +3,39 @@
 
 ghost use Rattle.std.specs.Prelude.{◌≡◌, true, false, ◌≤◌, length};
 ghost use Rattle.arc_index.specs.Chains.{Chains};
-ghost use Rattle.flow_residual.specs.PackedNetwork.{residual_of};
-ghost use Rattle.flow_relaxing.specs.Relaxing.{SearchReady};
+ghost use Rattle.flow_relaxing.specs.Relaxing.{residual_in, SearchReady};
 ghost use Rattle.flow_search.specs.Search.{starts, Looking, first_code, ScannedFrom, BackwardIndex};
 ghost use Rattle.packed_arcs.specs.PackedArcs.{tails_of};
 ghost use Rattle.vertex_queue.specs.VertexQueue.{Holds, nobody};
 ghost use Rattle.flow_residual.specs.Phase.{first_key, StartOutcome, SearchResult};
 
+pub use flow_relaxing::Network;
 use flow_relaxing::relax;
-use packed_arcs::numbers::place;
-use vertex_queue::{begin, least, put, take};
+use vertex_queue::VertexQueue;
 
-// The key of a vertex that is not reached.
+// The key of a vertex that is not reached. Memory is fixed, and keys are compared as numbers: no Option.
 pub const UNREACHED: u32 = 2147483648;
 
+// A flag says which way, since the definitions of the residual network have one.
 // Looks at the residual arcs from u, which was taken with the key k: those forward along the index by tail, or those back along the index by head.
 fn scan(
     back: bool,
     u: usize,
     k: u32,
-    arcs: &[u64],
+    net: Network<'_>,
     links: &[u16],
-    x: &[u16],
-    pi: &[u32],
     key: &mut [u32],
     par: &mut [u16],
-    keys: &mut [u32; 256],
-    low: &mut [u32; 16],
+    queue: &mut VertexQueue,
 )
-    requires chains { Chains (starts (residual_of arcs.now x.now pi.now) back) links.now × (length par.old ≡ length key.old) × SearchReady (residual_of arcs.now x.now pi.now) (length key.old) }
-    requires looking { Looking (residual_of arcs.now x.now pi.now) key.old keys.old low.old u k (first_code back) }
-    ensures { ScannedFrom (residual_of arcs.now x.now pi.now) back u k key.old par.old keys.old low.old key.new par.new keys.new low.new }
+    requires chains { Chains (starts (residual_in net) back) links.now × (length par.old ≡ length key.old) × SearchReady (residual_in net) (length key.old) }
+    requires looking { Looking (residual_in net) key.old queue.old.keys queue.old.low u k (first_code back) }
+    ensures { ScannedFrom (residual_in net.entry) back u k key.old par.old queue.old.keys queue.old.low key.new par.new queue.new.keys queue.new.low }
 {
-    let mut e = place(links[u]);
+    let mut e = usize::from(links[u]);
     while e < 4096 {
-        relax(back, e, k, arcs, x, pi, key, par, keys, low);
-        e = place(links[256 + e]);
+        relax(back, e, k, net, key, par, queue);
+        e = usize::from(links[256 + e]);
     }
 }
 
@@ -46,25 +43,21 @@ fn scan(
 fn look(
     u: usize,
     k: u32,
-    arcs: &[u64],
+    net: Network<'_>,
     out: &[u16],
-    into: &[u16],
-    x: &[u16],
-    pi: &[u32],
+    into: Option<&[u16]>,
     key: &mut [u32],
     par: &mut [u16],
-    keys: &mut [u32; 256],
-    low: &mut [u32; 16],
+    queue: &mut VertexQueue,
 )
-    requires chains { Chains (starts (residual_of arcs.now x.now pi.now) false) out.now × BackwardIndex (residual_of arcs.now x.now pi.now) into.now × (length par.old ≡ length key.old) × SearchReady (residual_of arcs.now x.now pi.now) (length key.old) }
-    requires looking { Looking (residual_of arcs.now x.now pi.now) key.old keys.old low.old u k (first_code false) }
-    ensures { ScannedFrom (residual_of arcs.now x.now pi.now) true u k key.old par.old keys.old low.old key.new par.new keys.new low.new }
+    requires chains { Chains (starts (residual_in net) false) out.now × BackwardIndex (residual_in net) into × (length par.old ≡ length key.old) × SearchReady (residual_in net) (length key.old) }
+    requires looking { Looking (residual_in net) key.old queue.old.keys queue.old.low u k (first_code false) }
+    ensures { ScannedFrom (residual_in net.entry) true u k key.old par.old queue.old.keys queue.old.low key.new par.new queue.new.keys queue.new.low }
 {
-    scan(false, u, k, arcs, out, x, pi, key, par, keys, low);
-    if into.len() == 0 {
-        return;
+    scan(false, u, k, net, out, key, par, queue);
+    if let Some(into) = into {
+        scan(true, u, k, net, into, key, par, queue);
     }
-    scan(true, u, k, arcs, into, x, pi, key, par, keys, low);
 }
 
 fn first_key(supply: u32) -> u32
@@ -77,44 +70,38 @@ fn first_key(supply: u32) -> u32
 }
 
 // The keys that a search starts with: the vertices with supply wait.
-fn start(left: &[u32], key: &mut [u32], keys: &mut [u32; 256], low: &mut [u32; 16])
-    requires { (length key.old ≡ length left.now) × (length left.now ≤ 255) × Holds keys.old low.old nobody }
-    ensures { StartOutcome left.now key.new keys.new low.new }
+fn start(left: &[u32], key: &mut [u32], queue: &mut VertexQueue)
+    requires { (length key.old ≡ length left.now) × (length left.now ≤ 255) × Holds queue.old.keys queue.old.low nobody }
+    ensures { StartOutcome left.now key.new queue.new.keys queue.new.low }
 {
-    let mut v = 0;
-    while v < left.len() {
-        let k = first_key(left[v]);
+    for (v, supply) in left.iter().enumerate() {
+        let k = first_key(*supply);
         key[v] = k;
-        put(v as u8, k, keys, low);
-        v += 1;
+        queue.put(v as u8, k);
     }
 }
 
 // One search from all vertices with supply left, until nobody waits.
 pub fn search(
-    arcs: &[u64],
+    net: Network<'_>,
     out: &[u16],
-    into: &[u16],
-    x: &[u16],
-    pi: &[u32],
+    into: Option<&[u16]>,
     left: &[u32],
     key: &mut [u32],
     par: &mut [u16],
 )
-    requires key_len { (length key.old ≡ length left.now) × (length par.old ≡ length left.now) × SearchReady (residual_of arcs.now x.now pi.now) (length left.now) }
-    requires chains { Chains (tails_of arcs.now) out.now × BackwardIndex (residual_of arcs.now x.now pi.now) into.now }
-    ensures { SearchResult (residual_of arcs.now x.now pi.now) left.now key.new par.new }
+    requires key_len { (length key.old ≡ length left.now) × (length par.old ≡ length left.now) × SearchReady (residual_in net) (length left.now) }
+    requires chains { Chains (tails_of net.arcs.now) out.now × BackwardIndex (residual_in net) into }
+    ensures { SearchResult (residual_in net.entry) left.now key.new par.new }
 {
-    let mut keys = [0u32; 256];
-    let mut low = [0u32; 16];
-    begin(&mut keys, &mut low);
-    start(left, key, &mut keys, &mut low);
+    let mut queue = VertexQueue::new();
+    start(left, key, &mut queue);
     loop {
-        let k = least(&low);
+        let k = queue.least();
         if UNREACHED <= k {
             return;
         }
-        let u = take(&mut keys, &mut low) as usize;
-        look(u, k, arcs, out, into, x, pi, key, par, &mut keys, &mut low);
+        let u = usize::from(queue.take());
+        look(u, k, net, out, into, key, par, &mut queue);
     }
 }

@@ -1,6 +1,6 @@
 -- What phases start from, by what a preflow left.
 use mathlib.Core.Path.{◌≡◌, sym, ap, ◌∙◌}
-use mathlib.Core.Bool.{Bool, true, false, not, ◌&&◌, false≢true}
+use mathlib.Core.Bool.{true, not, ◌&&◌, false≢true}
 use mathlib.Core.List.{List}
 use mathlib.Core.Logic.{◌≢◌, ⊎_elim}
 use Prim.Native.Nat.{ℕ, ◌+◌, ◌-◌, ◌<◌, ◌≤◌}
@@ -8,7 +8,7 @@ use native.Mathlib.Omega.{arith}
 use native.Mathlib.Decide.{ℕ_discrete}
 use lib.Dec.{T, eqb, eqb→eq}
 use lib.ListN.{length, set, length-set, length-replicate}
-use borrow.Author.Tests.{eq-eqb, ne_eqb}
+use borrow.Author.Tests.{eq-eqb}
 use Rattle.prelude.specs.Lists.{all}
 use Rattle.prelude.proofs.Booleans.{and_left, and_right, true→T, T→true, not→false}
 use Rattle.packed_arcs.specs.Entries.{entry, zero_list, sum, flow_at}
@@ -23,18 +23,6 @@ use Rattle.packed_arcs.proofs.Sums.{sum_at, entry_sum}
 use Rattle.flow_moves.specs.Preflow.{PackedConserved, standing_at}
 use Rattle.flow_moves.proofs.Standing.{standing_len, standing_sum, standing_here, standing_other}
 use Rattle.flow_settling.specs.Settling.{settled, SolveReady, Prepared}
-
--- ---- the test
-
-module _ (s t supply : ℕ) (arcs left : List ℕ) where
-  pub same_vertex : s ≡ t → false ≡ settled s t supply arcs left
-  same_vertex q = rw (eq-eqb s t q)
-
-  pub left_over : s ≢ t → supply - entry left s ≢ entry left t → false ≡ settled s t supply arcs left
-  left_over p q = rw (ne_eqb s t p, ne_eqb (supply - entry left s) (entry left t) q)
-
-  pub costs_decide : s ≢ t → supply - entry left s ≡ entry left t → {r : Bool} → r ≡ all is_free arcs → r ≡ settled s t supply arcs left
-  costs_decide p q e = rw (ne_eqb s t p, eq-eqb (supply - entry left s) (entry left t) q) e
 
 -- ---- what phases start from
 

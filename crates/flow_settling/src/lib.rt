@@ -14,13 +14,7 @@ fn is_settled(s: usize, t: usize, supply: u32, arcs: &[u64], left: &[u32]) -> bo
     requires { (s < length left.now) × (t < length left.now) × (entry left.now s ≤ supply) }
     ensures { result ≡ settled s t supply arcs.now left.now }
 {
-    if s == t {
-        return false;
-    }
-    if supply - left[s] != left[t] {
-        return false;
-    }
-    all_free(arcs)
+    s != t && supply - left[s] == left[t] && all_free(arcs)
 }
 
 // What has arrived at t is not wanted any more; where something is left over, everything starts anew.

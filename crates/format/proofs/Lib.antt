@@ -1,6 +1,5 @@
 pub mod Halves
 pub mod Reading
-mod Stores
 pub mod Windows
 pub mod Layouts
 pub mod Records

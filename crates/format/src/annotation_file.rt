@@ -2,6 +2,7 @@
 ghost use Rattle.std.specs.Prelude.{◌≡◌, ◌*◌};
 ghost use Rattle.std.proofs.lemmas.List.Edits.{sets};
 ghost use Rattle.prelude.specs.Checks.{first_broken};
+ghost use Rattle.refusals.specs.Refusals.{why};
 ghost use Rattle.network.specs.Network.{load_held, word_load};
 ghost use Rattle.file_fields.specs.Bytes.{byte32};
 ghost use Rattle.format.specs.Files.{annotation_layout, claim_in, annotation_count, number_in, load_in, annotation_header, load_bytes};
@@ -9,10 +10,10 @@ ghost use Rattle.format.specs.Files.{annotation_layout, claim_in, annotation_cou
 use super::arcs::{inner_record, record_at, record_of};
 use super::inner::{inner16, inner32};
 use arc_records::Record;
-use file_fields::bytes::{
-    byte, bytes_after, number16, number32, put_bits32, put_byte, put16, put32,
-};
+use file_fields::bytes::{byte, number16, number32, put_bits32, put16, put32};
 use file_fields::layout::{layout_check, write_mark};
+use refusals::Refusal;
+use words::entries::store;
 
 // An arc with an amount.
 #[derive(Clone, Copy)]
@@ -33,24 +34,26 @@ pub fn count(file: &[u8]) -> u16
     number16(file, 6)
 }
 
-// 0, or the number of the first check that refuses the layout with n node numbers: 17, 18 or 19.
-pub fn annotation_check(file: &[u8], n: u8) -> u8
-    ensures { result ≡ first_broken (annotation_layout n file.now) }
+// The first check that refuses the layout with n node numbers: 17, 18 or 19.
+pub fn annotation_check(file: &[u8], n: u8) -> Result<(), Refusal>
+    ensures { why result ≡ first_broken (annotation_layout n file.now) }
 {
-    let loads = count(file) as usize;
-    let numbers = n as usize;
-    layout_check(file, 8, b'A', 8 + 4 * numbers + 6 * loads)
+    layout_check(
+        file,
+        8,
+        b'A',
+        8 + 4 * usize::from(n) + 6 * usize::from(count(file)),
+    )
 }
 
 // The node number of the vertex v, 0 past the end. One that is whole is read with no further test.
 pub fn number(file: &[u8], v: usize) -> i32
     ensures { result ≡ number_in file.now v }
 {
-    let size = file.len();
-    if v < bytes_after(8, size) / 4 {
+    if v < file.len().saturating_sub(8) / 4 {
         return inner32(file, 8 + 4 * v);
     }
-    if size / 4 < v {
+    if file.len() / 4 < v {
         return 0;
     }
     number32(file, 8 + 4 * v)
@@ -60,31 +63,24 @@ pub fn number(file: &[u8], v: usize) -> i32
 pub fn load(file: &[u8], n: u8, e: usize) -> Loaded
     ensures { load_held result.arc result.amount ≡ load_in n file.now e }
 {
-    let numbers = n as usize;
-    let start = 8 + 4 * numbers;
-    let size = file.len();
-    if e < bytes_after(start, size) / 6 {
+    let start = 8 + 4 * usize::from(n);
+    if e < file.len().saturating_sub(start) / 6 {
         let at = start + 6 * e;
-        let arc = inner_record(file, at);
-        let amount = inner16(file, at + 4) as u32;
         return Loaded {
-            arc: arc,
-            amount: amount,
+            arc: inner_record(file, at),
+            amount: u32::from(inner16(file, at + 4)),
         };
     }
-    if size / 6 < e {
-        let arc = record_of(0, 0, 0);
+    if file.len() / 6 < e {
         return Loaded {
-            arc: arc,
+            arc: record_of(0, 0, 0),
             amount: 0,
         };
     }
     let at = start + 6 * e;
-    let arc = record_at(file, at);
-    let amount = number16(file, at + 4) as u32;
     Loaded {
-        arc: arc,
-        amount: amount,
+        arc: record_at(file, at),
+        amount: u32::from(number16(file, at + 4)),
     }
 }
 
@@ -93,11 +89,11 @@ pub fn write_header(buffer: &mut [u8], claim: u8, count: u16)
     ensures { buffer.new ≡ sets buffer.old 0 (annotation_header claim count) }
 {
     write_mark(buffer, b'A');
-    put_byte(buffer, 5, claim);
+    store(buffer, 5, claim);
     put16(buffer, 6, count);
 }
 
-// The node number of the vertex v into the part of a file that holds the node numbers.
+// The node number of the vertex v into the part of a file that holds the node numbers. (As an arc is written; what is written has another form, so the two stay two.)
 pub fn write_number(part: &mut [u8], v: usize, z: i32)
     ensures { part.new ≡ sets part.old (4 * v) (byte32 z) }
 {

@@ -6,16 +6,17 @@ ghost use Rattle.format.specs.Files.{arc_bytes, low_arc, arc_at};
 
 use super::inner::inner16;
 use arc_records::Record;
-use file_fields::bytes::{byte, low8, low16, number16, put_byte, put16};
+use file_fields::bytes::{byte, low8, low16, number16, put16};
+use words::entries::store;
 
 // The fields of a file as a record.
 pub(crate) fn record_of(a: u8, b: u8, w: u16) -> Record
     ensures { arc_held result ≡ arc_of a b w }
 {
     Record {
-        tail: a as u32,
-        head: b as u32,
-        weight: w as u32,
+        tail: u32::from(a),
+        head: u32::from(b),
+        weight: u32::from(w),
     }
 }
 
@@ -44,7 +45,7 @@ pub(crate) fn put_record(buffer: &mut [u8], at: usize, arc: Record)
     if buffer.len() <= at {
         return;
     }
-    put_byte(buffer, at, low8(arc.tail));
-    put_byte(buffer, at + 1, low8(arc.head));
+    store(buffer, at, low8(arc.tail));
+    store(buffer, at + 1, low8(arc.head));
     put16(buffer, at + 2, low16(arc.weight));
 }

@@ -2,14 +2,17 @@
 ghost use Rattle.std.specs.Prelude.{◌≡◌, ◌-◌, ◌*◌, ◌/◌};
 ghost use Rattle.std.proofs.lemmas.List.Edits.{sets};
 ghost use Rattle.prelude.specs.Checks.{first_broken};
+ghost use Rattle.refusals.specs.Refusals.{why};
 ghost use Rattle.arc_records.specs.Arcs.{arc_held, word_arc};
 ghost use Rattle.format.specs.Files.{network_layout, question_in, n_in, s_in, t_in, count_in, arc_in, network_header, arc_bytes, low_arc};
 
 use super::arcs::{inner_record, put_record, record_at, record_of};
 use super::inner::inner_bits32;
 use arc_records::Record;
-use file_fields::bytes::{bits32, byte, bytes_after, number16, put_byte, put16};
+use file_fields::bytes::{bits32, byte, number16, put16};
 use file_fields::layout::{layout_check, write_mark};
+use refusals::Refusal;
+use words::entries::store;
 
 pub fn question(file: &[u8]) -> u8
     ensures { result ≡ question_in file.now }
@@ -41,30 +44,28 @@ pub fn count(file: &[u8]) -> u16
     number16(file, 9)
 }
 
-// 0, or the number of the first check that refuses the layout: 17, 18 or 19.
-pub fn network_check(file: &[u8]) -> u8
-    ensures { result ≡ first_broken (network_layout file.now) }
+// The first check that refuses the layout: 17, 18 or 19.
+pub fn network_check(file: &[u8]) -> Result<(), Refusal>
+    ensures { why result ≡ first_broken (network_layout file.now) }
 {
-    let arcs = count(file) as usize;
-    layout_check(file, 11, b'N', 11 + 4 * arcs)
+    layout_check(file, 11, b'N', 11 + 4 * usize::from(count(file)))
 }
 
 // How many records of a file of so many bytes are whole.
 fn whole_records(size: usize) -> usize
     ensures { result ≡ (size - 11) / 4 }
 {
-    bytes_after(11, size) / 4
+    size.saturating_sub(11) / 4
 }
 
 // The arc number e, all zeros past the end. A record that is whole is read with no further test.
 pub fn arc(file: &[u8], e: usize) -> Record
     ensures { arc_held result ≡ arc_in file.now e }
 {
-    let size = file.len();
-    if e < whole_records(size) {
+    if e < whole_records(file.len()) {
         return inner_record(file, 11 + 4 * e);
     }
-    if size / 4 < e {
+    if file.len() / 4 < e {
         return record_of(0, 0, 0);
     }
     record_at(file, 11 + 4 * e)
@@ -74,11 +75,10 @@ pub fn arc(file: &[u8], e: usize) -> Record
 pub fn word(file: &[u8], e: usize) -> u32
     ensures { word_arc result ≡ arc_in file.now e }
 {
-    let size = file.len();
-    if e < whole_records(size) {
+    if e < whole_records(file.len()) {
         return inner_bits32(file, 11 + 4 * e);
     }
-    if size / 4 < e {
+    if file.len() / 4 < e {
         return 0;
     }
     bits32(file, 11 + 4 * e)
@@ -89,10 +89,10 @@ pub fn write_header(buffer: &mut [u8], question: u8, n: u8, s: u8, t: u8, count:
     ensures { buffer.new ≡ sets buffer.old 0 (network_header (record { question = question; n = n; s = s; t = t }) count) }
 {
     write_mark(buffer, b'N');
-    put_byte(buffer, 5, question);
-    put_byte(buffer, 6, n);
-    put_byte(buffer, 7, s);
-    put_byte(buffer, 8, t);
+    store(buffer, 5, question);
+    store(buffer, 6, n);
+    store(buffer, 7, s);
+    store(buffer, 8, t);
     put16(buffer, 9, count);
 }
 

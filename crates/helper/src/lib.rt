@@ -6,19 +6,16 @@ ghost use Rattle.format.specs.Replies.{writer_said};
 ghost use Rattle.helper.specs.Helper.{annotated, BufferAfter};
 
 use annotation_writing::{annotate_check, annotation_size};
-use format::Written;
+use refusals::Refusal;
 use writing::write_annotation;
 
 mod writing;
 
 // Writes an annotation for the network file into the front of the buffer. A refusal leaves the buffer as it is.
-pub fn annotate(net: &[u8], buffer: &mut [u8]) -> Written
+pub fn annotate(net: &[u8], buffer: &mut [u8]) -> Result<u32, Refusal>
     ensures { (writer_said result ≡ annotated net.now (length buffer.old)) × BufferAfter (writer_said result) net.now buffer.old buffer.new }
 {
-    let why = annotate_check(net, buffer.len());
-    if why != 0 {
-        return Written::Refused(why);
-    }
+    annotate_check(net, buffer.len())?;
     write_annotation(net, buffer);
-    Written::Length(annotation_size(net))
+    Ok(annotation_size(net))
 }

@@ -8,7 +8,6 @@ fn main(rt: HostRuntime) {
     let mut point = [0u8; 8];
     let mut net = front::room();
     let mut ann = front::room();
-    let mut text = [0u8; 32];
     let judged = answer_line::judge_files(
         &rt,
         b"point.bin",
@@ -17,8 +16,6 @@ fn main(rt: HostRuntime) {
         &mut point,
         &mut net,
         &mut ann,
-        &mut text,
     );
-    let n = judged.line;
-    io::write_all(1, &text[..n]);
+    io::write_all(1, judged.line.as_bytes());
 }

@@ -13,10 +13,10 @@ use Rattle.checks.specs.declared.Opening.{Opening}
 use Rattle.format.specs.Files.{setting_in, n_in, arcs_in, network_layout, annotation_layout}
 use Rattle.state.specs.Answers.{Said, accepted, gives, refused}
 use Rattle.state.specs.Turns.{open_turn}
-use Rattle.state.specs.declared.Turn.{Turn}
+use Rattle.state.specs.Turns.{Turn}
 use Rattle.session.specs.Session.{fresh}
 use Rattle.session.specs.Steps.{opening}
-use Rattle.session.specs.declared.Reply.{Reply}
+use Rattle.session.specs.Session.{Reply}
 use Rattle.session.specs.declared.Session.{Session}
 use Rattle.session.proofs.TurnsToSteps.{open_found, open_accepted}
 use Rattle.runs.specs.Run.{read, run}

@@ -8,11 +8,11 @@ use Rattle.format.specs.Files.{claim_in, numbers_in, loads_in}
 use Rattle.state.specs.Answers.{Said, refused, said, answered}
 use Rattle.state.specs.State.{setting_held, claim_held, finish_checks}
 use Rattle.state.specs.Turns.{end_turn, claim_turn}
-use Rattle.state.specs.declared.Response.{Response}
+use Rattle.state.specs.Answers.{Response}
 use Rattle.session.specs.Session.{potentials_in, sums_in, fresh, void}
 use Rattle.session.specs.declared.Session.{Session}
 use Rattle.state.specs.declared.State.{State}
-use Rattle.state.specs.declared.Turn.{Turn}
+use Rattle.state.specs.Turns.{Turn}
 use Rattle.session.proofs.TurnsToSteps.{end_replies, claim_replies, finish_refused, finish_answered}
 use Rattle.runs.specs.Run.{Step, end, claim, number, repeat, finish, run}
 use Rattle.runs.specs.Exchange.{outcome}

@@ -1,21 +1,40 @@
 -- Steps that run one after the other until one is refused, and what a loop over steps numbered from 0 on keeps.
-use mathlib.Core.Path.{◌≡◌, refl, sym, ◌∙◌, ap}
+use mathlib.Core.Path.{◌≡◌, refl, sym, ◌∙◌, ap, subst}
 use mathlib.Core.List.{List, [], ◌∷◌, ◌++◌, map, append_assoc, map-append}
 use Prim.Native.Nat.{ℕ, suc, ◌+◌, ◌<◌, ◌≤◌}
 use native.Mathlib.Omega.{arith}
 use borrow.Author.Tests.{eq-eqb, ne_eqb}
+use Rattle.std.proofs.Common.{Result}
+use Rattle.std.specs.Result.{IsErrAnd}
+use Rattle.refusals.specs.declared.Refusal.{Refusal}
+use Rattle.refusals.specs.Refusals.{number}
+use Rattle.state.specs.Turns.{Turn, turn_of}
+use Rattle.state.specs.declared.State.{State}
+use Rattle.refusals.proofs.Exits.{exit_as}
 use Rattle.prelude.specs.Lists.{list_to}
 use Rattle.prelude.proofs.Choice.{on, off}
 use Rattle.prelude.proofs.Lists.{split}
-use Rattle.state.specs.Answers.{Said, refused, said}
-use Rattle.state.specs.declared.Response.{Response}
+use Rattle.network.specs.Question.{Answer, value, none}
+use Rattle.state.specs.Answers.{Said, gives, refused, said, answered}
+use Rattle.state.specs.Answers.{Response}
 use Rattle.session.specs.Session.{hand, accept, refuse}
-use Rattle.session.specs.declared.Reply.{Reply}
+use Rattle.session.specs.Session.{Reply}
 use Rattle.session.specs.declared.Session.{Session}
 use Rattle.runs.specs.Run.{Step, step, run}
 use Rattle.runs.specs.Exchange.{outcome}
 use Rattle.runs.proofs.FirstAndLast.{outcome_alone}
 use Rattle.judging_runs.specs.RunsTo.{RunsTo}
+
+-- ---- the exit of a `?`
+
+pub exit_runs : {x : Session} {steps : List Step} (g : State → Session) (s : State) (r : Result State Refusal) (e : Refusal) → IsErrAnd r (λ y. y ≡ e)
+    → RunsTo x steps (number e) (g s) → RunsTo x steps (turn_of s r).why (g (turn_of s r).state)
+exit_runs {x} {steps} g s r e h ran = subst (λ (u : Turn). RunsTo x steps u.why (g u.state)) (sym (exit_as (turn_of s) r e h)) ran
+
+-- what an answer says
+pub gives_answered : (a : Answer) → gives a ≡ said (answered a)
+gives_answered (value v) = refl
+gives_answered none = refl
 
 -- ---- one step after the other
 

@@ -6,7 +6,7 @@ use lib.ListN.{length, set, length-set}
 use Rattle.packed_arcs.specs.Entries.{entry}
 use Rattle.match_state.specs.Matching.{State}
 use Rattle.match_tree.specs.Tree.{Reached}
-use Rattle.match_augmenting.specs.Augmenting.{Raised, Alternating, Augmented}
+use Rattle.match_augmenting.specs.Augmenting.{Raised, Alternating}
 use Rattle.match_augmenting.proofs.Raising.{alternating}
 
 module _ {h n : ℕ} {T H W mate pi : List ℕ} (S : State h n T H W mate pi) {t r : ℕ} {dist par order : List ℕ} (R : Reached h n T H W mate pi t dist par order r) {h' n' : ℕ}
@@ -18,6 +18,3 @@ module _ {h n : ℕ} {T H W mate pi : List ℕ} (S : State h n T H W mate pi) {t
   path_found {pi'} U =
       subst (λ (z : ℕ). Alternating z n' T H W mate pi' par (set order r 255) t r) (sym order_long)
       (subst (λ (z : ℕ). Alternating h z T H W mate pi' par (set order r 255) t r) (sym q) (alternating S R U))
-
-  pub augmented : {pi' mate' : List ℕ} → Augmented h' n' T H W mate pi' t mate' → Augmented h n T H W mate pi' t mate'
-  augmented {pi'} {mate'} A = subst (λ (z : ℕ). Augmented z n T H W mate pi' t mate') order_long (subst (λ (z : ℕ). Augmented h' z T H W mate pi' t mate') q A)

@@ -4,8 +4,7 @@ ghost use Rattle.arc_index.specs.Columns.{record_tails, record_heads, record_wei
 ghost use Rattle.match_augmenting.specs.Augmenting.{Alternating, Augmented};
 
 use arc_index::NO_ARC;
-use match_state::{head_at, tail_at};
-use packed_arcs::numbers::place;
+use match_state::arc_at;
 
 // The exposed left vertex r is matched by its parent arc; who was matched to the head of that arc is exposed, and goes on in the same way, up to the root t.
 pub(crate) fn augment(
@@ -23,14 +22,16 @@ pub(crate) fn augment(
     let mut a = r;
     loop {
         let e = par[a];
-        let b = head_at(place(e), records);
+        let arc = arc_at(e as usize, records);
+        let b = arc.head as usize;
         let f = mate[b];
         mate[a] = e;
         mate[b] = e;
         if NO_ARC <= f {
             return;
         }
-        a = tail_at(place(f), records);
+        let freed = arc_at(f as usize, records);
+        a = freed.tail as usize;
         mate[a] = NO_ARC;
     }
 }

@@ -6,8 +6,7 @@ ghost use Rattle.arc_index.specs.Columns.{record_tails, record_heads, record_wei
 ghost use Rattle.match_state.specs.Matching.{State};
 ghost use Rattle.match_augmenting.specs.Augmenting.{LowPair, pair_raised, Raised};
 
-use match_state::head_at;
-use packed_arcs::numbers::place;
+use match_state::arc_at;
 
 // The potentials of the left vertex a and of what it is matched to rise by what a is nearer than d, if it is.
 fn raise_pair(a: usize, d: u32, records: &[u32], mate: &[u16], dist: &[u32], pi: &mut [u32])
@@ -19,9 +18,9 @@ fn raise_pair(a: usize, d: u32, records: &[u32], mate: &[u16], dist: &[u32], pi:
         return;
     }
     let up = d - far;
-    let b = head_at(place(mate[a]), records);
-    pi[a] = pi[a] + up;
-    pi[b] = pi[b] + up;
+    let arc = arc_at(mate[a] as usize, records);
+    pi[a] += up;
+    pi[arc.head as usize] += up;
 }
 
 // Potentials rise after a search from the root t that reached the distance d: those of left vertices that are nearer, by what they are nearer, and what they are matched to as much; the root by d.
@@ -30,10 +29,8 @@ pub(crate) fn raise(t: usize, d: u32, records: &[u32], mate: &[u16], dist: &[u32
     requires d_bound { (d ≤ 8322818) × (length dist.now ≤ t) × (t < length pi.old) × (entry mate.now t ≡ no_arc) × ((a : ℕ) → a < length dist.now → entry mate.now a ≡ no_arc → d ≤ entry dist.now a) }
     ensures { Raised (length dist.now) (record_tails records.now) mate.now dist.now t d pi.old pi.new }
 {
-    let mut a = 0;
-    while a < dist.len() {
+    for a in 0..dist.len() {
         raise_pair(a, d, records, mate, dist, pi);
-        a += 1;
     }
-    pi[t] = pi[t] + d;
+    pi[t] += d;
 }

@@ -8,7 +8,7 @@ ghost use Rattle.match_state.specs.Rows.{Rows};
 ghost use Rattle.match_state.specs.Matching.{State};
 
 use arc_index::NO_ARC;
-use match_offers::{assign, choose, cost_of, two_cheapest};
+use match_offers::{assign, both_cheapest, choose, cost_of};
 
 // No potential is above this.
 const MOST: u32 = 8322818;
@@ -22,20 +22,14 @@ fn bid(h: usize, t: usize, records: &[u32], rows: &[u64], mate: &mut [u16], pi: 
     if mate[t] < NO_ARC {
         return;
     }
-    let two = two_cheapest(t, records, rows, pi);
-    let e1 = two.first;
-    if 4096 <= e1 {
+    let Some(two) = both_cheapest(t, records, rows, pi) else {
         return;
-    }
-    let e2 = two.second;
-    if 4096 <= e2 {
-        return;
-    }
-    let u = cost_of(e2, records, pi);
+    };
+    let u = cost_of(two.second, records, pi);
     if MOST < u {
         return;
     }
-    let e = choose(e1, e2, u, records, mate, pi);
+    let e = choose(two.first, two.second, u, records, mate, pi);
     assign(t, e, u, records, mate, pi);
 }
 
@@ -44,10 +38,8 @@ fn bid_round(h: usize, records: &[u32], rows: &[u64], mate: &mut [u16], pi: &mut
     requires { State h (length pi.old) (record_tails records.now) (record_heads records.now) (record_weights records.now) mate.old pi.old × Rows (record_tails records.now) (record_heads records.now) (record_weights records.now) rows.now }
     ensures { State h (length pi.old) (record_tails records.now) (record_heads records.now) (record_weights records.now) mate.new pi.new }
 {
-    let mut t = h;
-    while t < pi.len() {
+    for t in h..pi.len() {
         bid(h, t, records, rows, mate, pi);
-        t += 1;
     }
 }
 

@@ -7,6 +7,8 @@ use Prim.Native.Nat.{ℕ, zero, suc, ◌+◌, ◌-◌, ◌<◌, ◌≤◌}
 use native.Mathlib.Omega.{arith}
 use lib.Dec.{T, eqb, leb, ltb, eqb→eq, leb→le, ltb→lt}
 use lib.ListN.{length, take, replicate, length-replicate, get_or-replicate}
+use Rattle.std.specs.Prelude.{unwrap_or}
+use Rattle.std.specs.declared.option.Option.{Option}
 use Rattle.prelude.specs.Lists.{all}
 use Rattle.prelude.proofs.Booleans.{true→T, and_left, and_right}
 use Rattle.prelude.proofs.Sums.{sum_to_ext, sum_to_same}
@@ -32,7 +34,6 @@ use Rattle.match_results.proofs.Outcomes.{saturating, deficient}
 pub record Matchable (rs : List ℕ) (h n xs : ℕ) : Type 0 where
   pub within : h ≤ n
   pub small : n ≤ 255
-  pub left_small : h ≤ 255
   pub few : length rs ≤ 4096
   pub one_each : xs ≡ length rs
   pub graph : Bipartite h n (record_tails rs) (record_heads rs) (record_weights rs)
@@ -42,7 +43,6 @@ matchable_facts rs h n xs ok =
     record {
       within = leb→le h n a;
       small = leb→le n 255 b;
-      left_small = omega (arith, leb→le h n a, leb→le n 255 b);
       few = leb→le (length rs) most_arcs c;
       one_each = eqb→eq xs (length rs) d;
       graph = record {
@@ -168,8 +168,10 @@ module _ {h n : ℕ} {T H W dist mate pi : List ℕ} {t : ℕ} (O : PassOutcome 
 pub bipartite_at : {h n h' n' : ℕ} {T H W : List ℕ} → h' ≡ h → n' ≡ n → Bipartite h n T H W → Bipartite h' n' T H W
 bipartite_at {h} {n} {h'} {n'} {T} {H} {W} p q G = subst (λ (z : ℕ). Bipartite z n' T H W) (sym p) (subst (λ (z : ℕ). Bipartite h z T H W) (sym q) G)
 
-pub marks_at : {n n' t : ℕ} {T mate dist marks : List ℕ} → n' ≡ n → Marks n' T mate dist t marks → Marks n T mate dist t marks
-marks_at {n} {n'} {t} {T} {mate} {dist} {marks} q M = subst (λ (z : ℕ). Marks z T mate dist t marks) q M
-
 pub outcome_at : {h n h' n' : ℕ} {T H W pi x : List ℕ} {r : Match} → h' ≡ h → n' ≡ n → FindOutcome h' n' T H W pi x r → FindOutcome h n T H W pi x r
 outcome_at {h} {n} {h'} {n'} {T} {H} {W} {pi} {x} {r} p q O = subst (λ (z : ℕ). FindOutcome z n T H W pi x r) p (subst (λ (z : ℕ). FindOutcome h' z T H W pi x r) q O)
+
+pub pass_again : {h n h' n' : ℕ} {T H W dist mate pi : List ℕ} {step : ℕ} (r : Option ℕ) → h' ≡ h → n' ≡ n → PassOutcome h' n' T H W step dist mate pi (unwrap_or r n')
+    → PassOutcome h n T H W step dist mate pi (unwrap_or r n)
+pass_again {h} {n} {h'} {n'} {T} {H} {W} {dist} {mate} {pi} {step} r p q O =
+    subst (λ (z : ℕ). PassOutcome z n T H W step dist mate pi (unwrap_or r n)) p (subst (λ (z : ℕ). PassOutcome h' z T H W step dist mate pi (unwrap_or r z)) q O)

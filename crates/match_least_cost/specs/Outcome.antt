@@ -1,13 +1,14 @@
 -- What is handed over, and what is handed back: amounts of a matching that saturates the right vertices, or marks that show that there is none.
-use Rattle.std.specs.Prelude.{◌≡◌, Bool, true, false, ◌&&◌, List, ℕ, eqb, ltb, leb, length}
+use Rattle.std.specs.Prelude.{◌≡◌, Bool, true, false, ◌&&◌, List, ℕ, eqb, ltb, leb, length, Result, Ok, Err}
 use Rattle.prelude.specs.Lists.{all}
 use Rattle.arc_records.specs.Limits.{most_vertices, most_arcs, most_weight}
 use Rattle.arc_records.specs.Arcs.{word_arc}
+use Rattle.packed_arcs.specs.declared.OutOfLimits.{OutOfLimits}
 use Rattle.packed_arcs.specs.Entries.{zero_list}
 use Rattle.arc_index.specs.Columns.{record_tails, record_heads, record_weights}
 use Rattle.match_results.specs.Results.{Saturating, Deficient}
 use Rattle.match_least_cost.specs.declared.Match.{Match}
-use Rattle.match_least_cost.specs.declared.Match.TheVariants.{Saturating as SaturatingMatch, Deficient as NoMatch, Refused}
+use Rattle.match_least_cost.specs.declared.Match.TheVariants.{Saturating as SaturatingMatch, Deficient as NoMatch}
 
 -- ---- what is handed over
 
@@ -27,7 +28,7 @@ pub data FindOutcome (h n : ℕ) (T H W pi' x' : List ℕ) : Match → Type 0 wh
   deficient : Deficient h n T H pi' → x' ≡ zero_list (length T) → FindOutcome h n T H W pi' x' NoMatch
 
 -- The outcome: that of the search, or refused, with nothing changed.
-pub data MatchOutcome (rs : List ℕ) (h : ℕ) (pi x pi' x' : List ℕ) : Match → Type 0 where
+pub data MatchOutcome (rs : List ℕ) (h : ℕ) (pi x pi' x' : List ℕ) : Result Match OutOfLimits → Type 0 where
   found :
-      {r : Match} → matchable rs h (length pi) (length x) ≡ true → FindOutcome h (length pi) (record_tails rs) (record_heads rs) (record_weights rs) pi' x' r → MatchOutcome rs h pi x pi' x' r
-  refused : matchable rs h (length pi) (length x) ≡ false → pi' ≡ pi → x' ≡ x → MatchOutcome rs h pi x pi' x' Refused
+      {r : Match} → matchable rs h (length pi) (length x) ≡ true → FindOutcome h (length pi) (record_tails rs) (record_heads rs) (record_weights rs) pi' x' r → MatchOutcome rs h pi x pi' x' (Ok r)
+  refused : matchable rs h (length pi) (length x) ≡ false → pi' ≡ pi → x' ≡ x → {o : OutOfLimits} → MatchOutcome rs h pi x pi' x' (Err o)

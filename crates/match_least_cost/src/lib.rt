@@ -2,7 +2,7 @@
 // Left vertices are those below h, and every arc leads from a left vertex to a right one. What is not within the limits is refused, and then nothing is changed.
 #![tactic(auto)]
 
-ghost use Rattle.std.specs.Prelude.{◌≡◌, ◌+◌, length, replicate};
+ghost use Rattle.std.specs.Prelude.{◌≡◌, ◌+◌, ◌<◌, length, replicate, unwrap_or, IfSome};
 ghost use Rattle.packed_arcs.specs.Entries.{zero_list};
 ghost use Rattle.arc_index.specs.ArcIndex.{no_arc};
 ghost use Rattle.arc_index.specs.Columns.{record_tails, record_heads, record_weights};
@@ -19,16 +19,15 @@ use match_results::{write_amounts, write_marks};
 use match_rounds::serve_all;
 use match_rows::write_rows;
 use match_slack::write_lightest;
-use packed_arcs::clearing::{clear_amounts, clear_potentials};
+use packed_arcs::OutOfLimits;
 
 mod limits;
 
-// What was found: a matching that saturates the right vertices, that there is none, or that the input is not within the limits.
-#[derive(Clone, Copy)]
+// What was found: a matching that saturates the right vertices, or that there is none.
+#[derive(Clone, Copy, Debug, PartialEq, Eq)]
 pub enum Match {
     Saturating,
     Deficient,
-    Refused,
 }
 
 // Puts the arcs into rows, and matches by bids, where nothing is matched.
@@ -53,22 +52,23 @@ fn note_lightest(n: usize, records: &[u32], lightest: &mut [u16])
     write_lightest(records, lightest);
 }
 
-// Writes what the search found: t is a vertex that cannot be matched, or the number of vertices.
+// Writes what the search found: a vertex that cannot be matched, or that there is none.
 fn write_found(
-    t: usize,
+    unmatched: Option<usize>,
     records: &[u32],
     mate: &[u16],
     dist: &[u32],
     pi: &mut [u32],
     x: &mut [u16],
 ) -> Match
-    requires pass_outcome { PassOutcome (length dist.now) (length pi.old) (record_tails records.now) (record_heads records.now) (record_weights records.now) 1 dist.now mate.now pi.old t }
+    requires pass_outcome { PassOutcome (length dist.now) (length pi.old) (record_tails records.now) (record_heads records.now) (record_weights records.now) 1 dist.now mate.now pi.old (unwrap_or unmatched (length pi.old)) }
+    requires in_mate { IfSome unmatched (λ t. t < length mate.now) }
     requires x_len { length x.old ≡ length records.now }
     ensures { FindOutcome (length dist.now) (length pi.old) (record_tails records.now) (record_heads records.now) (record_weights records.now) pi.new x.new result }
 {
-    if t < mate.len() {
+    if let Some(t) = unmatched {
         write_marks(t, records, mate, dist, pi);
-        clear_amounts(x);
+        x.fill(0);
         return Match::Deficient;
     }
     write_amounts(records, mate, x);
@@ -94,8 +94,8 @@ fn find(
 {
     arrange_and_bid(dist.len(), records, rows, mate, pi);
     note_lightest(pi.len(), records, lightest);
-    let t = serve_all(records, rows, lightest, mate, pi, dist, par, order);
-    write_found(t, records, mate, dist, pi, x)
+    let unmatched = serve_all(records, rows, lightest, mate, pi, dist, par, order);
+    write_found(unmatched, records, mate, dist, pi, x)
 }
 
 // The same, in arrays of its own.
@@ -108,6 +108,7 @@ fn find_by_search(records: &[u32], h: usize, pi: &mut [u32], x: &mut [u16]) -> M
     let m = records.len();
     let mut rows = [0u64; 4865];
     let mut lightest = [0u16; 255];
+    // NO_ARC stands for no arc: an Option<u16> would take twice the room in memory that is fixed.
     let mut mate = [NO_ARC; 255];
     let mut dist = [0u32; 255];
     let mut par = [0u16; 255];
@@ -127,17 +128,17 @@ fn find_by_search(records: &[u32], h: usize, pi: &mut [u32], x: &mut [u16]) -> M
 
 // For a saturating matching its amounts, and potentials that show that none is cheaper; for none amounts of 0, and in place of potentials marks that show it.
 // Where the right vertices are more than the left ones, marks that are all 0 show it.
-pub fn solve(records: &[u32], h: usize, pi: &mut [u32], x: &mut [u16]) -> Match
+pub fn solve(records: &[u32], h: usize, pi: &mut [u32], x: &mut [u16]) -> Result<Match, OutOfLimits>
     ensures { MatchOutcome records.now h pi.old x.old pi.new x.new result }
 {
     let n = pi.len();
     if !is_matchable(records, h, n, x.len()) {
-        return Match::Refused;
+        return Err(OutOfLimits);
     }
-    clear_potentials(pi);
+    pi.fill(0);
     if h < n - h {
-        clear_amounts(x);
-        return Match::Deficient;
+        x.fill(0);
+        return Ok(Match::Deficient);
     }
-    find_by_search(records, h, pi, x)
+    Ok(find_by_search(records, h, pi, x))
 }

@@ -11,46 +11,25 @@ fn leads_across(h: usize, n: usize, word: u32) -> bool
     ensures { result ≡ leads_across h n word }
 {
     let arc = arc_in(word);
-    if h <= (arc.tail as usize) {
-        return false;
-    }
-    if (arc.head as usize) < h {
-        return false;
-    }
-    if n <= (arc.head as usize) {
-        return false;
-    }
-    arc.weight <= MOST_WEIGHT
+    (arc.tail as usize) < h
+        && h <= arc.head as usize
+        && (arc.head as usize) < n
+        && arc.weight <= MOST_WEIGHT
 }
 
 fn each_leads_across(h: usize, n: usize, records: &[u32]) -> bool
     ensures { result ≡ all (leads_across h n) records.now }
 {
-    let mut e = 0;
-    while e < records.len() {
-        if !leads_across(h, n, records[e]) {
-            return false;
-        }
-        e += 1;
-    }
-    true
+    records.iter().all(|word| leads_across(h, n, *word))
 }
 
 // Is this what `solve` answers?
 pub(crate) fn is_matchable(records: &[u32], h: usize, n: usize, amounts: usize) -> bool
     ensures { result ≡ matchable records.now h n amounts }
 {
-    if n < h {
-        return false;
-    }
-    if (MOST_VERTICES as usize) < n {
-        return false;
-    }
-    if (NO_ARC as usize) < records.len() {
-        return false;
-    }
-    if amounts != records.len() {
-        return false;
-    }
-    each_leads_across(h, n, records)
+    h <= n
+        && n <= MOST_VERTICES as usize
+        && records.len() <= NO_ARC as usize
+        && amounts == records.len()
+        && each_leads_across(h, n, records)
 }

@@ -36,9 +36,6 @@ least_most {T} {H} {W} {rows} {pi} {t} {except} {i} {best} {least} B = go B.whic
     go (inl q) = omega (arith, q.1)
     go (inr q) = omega (arith, q.4)
 
-best_start : {T H W rows pi : List ℕ} {t except : ℕ} → Best T H W rows pi t except (entry rows t) no_arc too_much
-best_start = record { which = inl (refl, refl); low = λ k f b. absurd (omega arith) }
-
 module _ {T H W rows pi : List ℕ} {t except i best least : ℕ} (B : Best T H W rows pi t except i best least) (cost : ℕ) (q : cost ≡ cost_unless T W pi except (row_number (entry rows i))) where
   -- the arc at i is cheaper, and is taken
   best_take : length H ≤ no_arc → RowArc T H W rows t i → cost < least → Best T H W rows pi t except (i + 1) (row_number (entry rows i)) cost
@@ -93,10 +90,6 @@ pub record Looking (T H W rows pi : List ℕ) (t i : ℕ) (two : TwoArcs) : Type
   pub another : Best T H W rows pi t two.tail i two.second two.next
   pub from : (two.first ≡ no_arc) ⊎ (entry T two.first ≡ two.tail)
   pub order : two.least ≤ two.next
-
-pub looking_start : {T H W rows pi : List ℕ} {t : ℕ}
-    → Looking T H W rows pi t (entry rows t) (record { tail = 256; first = 4096; least = 4294967295; second = 4096; next = 4294967295 })
-looking_start = record { start = omega arith; cheapest = best_start; another = best_start; from = inl refl; order = omega arith }
 
 -- the arc at i
 module _ {T H W rows pi : List ℕ} {t i : ℕ} {two : TwoArcs} (R : Rows T H W rows) (low : t < 256) (A : Affordable T W pi) (small : length pi ≤ 255) (same : length H ≡ length T)
@@ -202,3 +195,16 @@ looking_end {T} {H} {W} {rows} {pi} {t} {i} {two} R low same L end = record { fi
     go : two.first < no_arc → (two.first ≡ no_arc) ⊎ (entry T two.first ≡ two.tail) → Cheapest T H W pi t (entry T two.first) two.second
     go k (inl q) = absurd (omega arith)
     go k (inr q) = subst (λ (v : ℕ). Cheapest T H W pi t v two.second) (sym q) (best_end R low same end L.another)
+
+-- where the second is an arc, so is the first
+pub looking_both : {T H W rows pi : List ℕ} {t i : ℕ} {two : TwoArcs} → Looking T H W rows pi t i two → two.second < no_arc → Rows T H W rows → t < 256 → length H ≡ length T → entry rows (t + 1) ≤ i
+    → (two.first < no_arc) × (two.second < no_arc) × TwoCheapest T H W pi t two.first two.second
+looking_both {T} {H} {W} {rows} {pi} {t} {i} {two} L k R low same end = (go L.cheapest.which L.another.which, k, looking_end R low same L end)
+  where
+    go : ((two.first ≡ no_arc) × (two.least ≡ too_much))
+        ⊎ ((two.first < no_arc) × (two.first < length H) × (entry H two.first ≡ t) × (cost_unless T W pi 256 two.first ≡ two.least) × (two.least < too_much))
+        → ((two.second ≡ no_arc) × (two.next ≡ too_much))
+        ⊎ ((two.second < no_arc) × (two.second < length H) × (entry H two.second ≡ t) × (cost_unless T W pi two.tail two.second ≡ two.next) × (two.next < too_much)) → two.first < no_arc
+    go (inr q) p = q.0
+    go (inl q) (inl p) = absurd (omega (arith, p.0))
+    go (inl q) (inr p) = absurd (omega (arith, q.1, p.4, L.order))

@@ -1,7 +1,7 @@
 // The arcs to a right vertex by what they cost, and what is written where one of them is taken.
 #![tactic(auto)]
 
-ghost use Rattle.std.specs.Prelude.{◌≡◌, ◌⊎◌, ◌<◌, ◌≤◌, length};
+ghost use Rattle.std.specs.Prelude.{◌≡◌, ◌⊎◌, ◌<◌, ◌≤◌, length, IfSome};
 ghost use Rattle.packed_arcs.specs.Entries.{entry};
 ghost use Rattle.arc_index.specs.ArcIndex.{no_arc};
 ghost use Rattle.arc_index.specs.Columns.{record_tails, record_heads, record_weights};
@@ -9,8 +9,7 @@ ghost use Rattle.match_state.specs.Rows.{Rows};
 ghost use Rattle.match_offers.specs.Offers.{bid_cost, with_same_tail, with_arc, Affordable, TwoCheapest, Room, freed, assigned_mates, assigned_potentials};
 
 use arc_index::NO_ARC;
-use match_state::{head_at, row_number, row_tail, row_weight, tail_at, weight_at};
-use packed_arcs::numbers::place;
+use match_state::{arc_at, row_number, row_record};
 
 // More than any arc costs.
 const TOO_MUCH: u32 = 4294967295;
@@ -20,11 +19,12 @@ pub fn cost_of(e: usize, records: &[u32], pi: &[u32]) -> u32
     requires { Affordable (record_tails records.now) (record_weights records.now) pi.now × (e < length records.now) }
     ensures { result ≡ bid_cost (record_tails records.now) (record_weights records.now) pi.now e }
 {
-    let a = tail_at(e, records);
-    weight_at(e, records) + pi[a]
+    let arc = arc_at(e, records);
+    arc.weight + pi[arc.tail as usize]
 }
 
 // Of the arcs to a vertex that were looked at the cheapest, the vertex that it comes from and what it costs; and the cheapest that comes from another vertex, and what that costs.
+// No Option within: NO_ARC at a cost above all others stands for none while they are looked at, so that one comparison is the whole test, and only the result says whether there are both.
 #[derive(Clone, Copy)]
 pub struct TwoArcs {
     pub tail: usize,
@@ -40,11 +40,9 @@ fn with_same_tail(two: TwoArcs, e: usize, cost: u32) -> TwoArcs
 {
     if cost < two.least {
         return TwoArcs {
-            tail: two.tail,
             first: e,
             least: cost,
-            second: two.second,
-            next: two.next,
+            ..two
         };
     }
     two
@@ -70,11 +68,9 @@ fn with_arc(two: TwoArcs, a: usize, e: usize, cost: u32) -> TwoArcs
         };
     }
     TwoArcs {
-        tail: two.tail,
-        first: two.first,
-        least: two.least,
         second: e,
         next: cost,
+        ..two
     }
 }
 
@@ -82,25 +78,36 @@ fn with_arc(two: TwoArcs, a: usize, e: usize, cost: u32) -> TwoArcs
 pub fn two_cheapest(t: usize, records: &[u32], rows: &[u64], pi: &[u32]) -> TwoArcs
     requires rows { Rows (record_tails records.now) (record_heads records.now) (record_weights records.now) rows.now × (t < 256) }
     requires affordable { Affordable (record_tails records.now) (record_weights records.now) pi.now × (length pi.now ≤ 255) }
-    ensures { TwoCheapest (record_tails records.now) (record_heads records.now) (record_weights records.now) pi.now t result.first result.second }
+    ensures cheapest { TwoCheapest (record_tails records.now) (record_heads records.now) (record_weights records.now) pi.now t result.first result.second }
+    ensures both { result.second < no_arc → result.first < no_arc }
 {
     let mut two = TwoArcs {
         tail: 256,
-        first: 4096,
+        first: NO_ARC as usize,
         least: TOO_MUCH,
-        second: 4096,
+        second: NO_ARC as usize,
         next: TOO_MUCH,
     };
-    let end = rows[t + 1] as usize;
-    let mut i = rows[t] as usize;
-    while i < end {
-        let arc = rows[i];
-        let a = row_tail(arc);
-        let cost = row_weight(arc) + pi[a];
-        two = with_arc(two, a, row_number(arc), cost);
-        i += 1;
+    for i in rows[t] as usize..rows[t + 1] as usize {
+        let arc = row_record(rows[i]);
+        let a = arc.tail as usize;
+        let cost = arc.weight + pi[a];
+        two = with_arc(two, a, row_number(rows[i]), cost);
     }
     two
+}
+
+// The same two where there are both.
+pub fn both_cheapest(t: usize, records: &[u32], rows: &[u64], pi: &[u32]) -> Option<TwoArcs>
+    requires rows { Rows (record_tails records.now) (record_heads records.now) (record_weights records.now) rows.now × (t < 256) }
+    requires affordable { Affordable (record_tails records.now) (record_weights records.now) pi.now × (length pi.now ≤ 255) }
+    ensures { IfSome result (λ two. (two.first < no_arc) × (two.second < no_arc) × TwoCheapest (record_tails records.now) (record_heads records.now) (record_weights records.now) pi.now t two.first two.second) }
+{
+    let two = two_cheapest(t, records, rows, pi);
+    if two.second < NO_ARC as usize {
+        return Some(two);
+    }
+    None
 }
 
 // Which of two arcs to take, the second at the cost u: the first, unless it costs as much and its tail is matched.
@@ -108,8 +115,8 @@ pub fn choose(e1: usize, e2: usize, u: u32, records: &[u32], mate: &[u16], pi: &
     requires { Affordable (record_tails records.now) (record_weights records.now) pi.now × (e1 < length records.now) × (length mate.now ≡ length pi.now) }
     ensures { (result ≡ e1) ⊎ ((result ≡ e2) × (u ≤ bid_cost (record_tails records.now) (record_weights records.now) pi.now e1)) }
 {
-    let a = tail_at(e1, records);
-    if mate[a] == NO_ARC {
+    let arc = arc_at(e1, records);
+    if mate[arc.tail as usize] == NO_ARC {
         return e1;
     }
     if cost_of(e1, records, pi) < u {
@@ -123,12 +130,12 @@ fn free(a: usize, records: &[u32], mate: &mut [u16])
     requires { (a < length mate.old) × (entry mate.old a < no_arc → (entry mate.old a < length records.now) × (entry (record_heads records.now) (entry mate.old a) < length mate.old)) }
     ensures { mate.new ≡ freed (record_heads records.now) mate.old a }
 {
-    let e = place(mate[a]);
-    if NO_ARC as usize <= e {
+    let e = mate[a];
+    if NO_ARC <= e {
         return;
     }
-    let b = head_at(e, records);
-    mate[b] = NO_ARC;
+    let arc = arc_at(e as usize, records);
+    mate[arc.head as usize] = NO_ARC;
 }
 
 // The arc e from a to t is matched, in place of the arc that was matched at a.
@@ -157,7 +164,8 @@ pub fn assign(t: usize, e: usize, u: u32, records: &[u32], mate: &mut [u16], pi:
     ensures mate_after { mate.new ≡ assigned_mates (record_heads records.now) mate.old (entry (record_tails records.now) e) t e }
     ensures pi_after { pi.new ≡ assigned_potentials pi.old (entry (record_tails records.now) e) t u (entry (record_weights records.now) e) }
 {
-    let a = tail_at(e, records);
+    let arc = arc_at(e, records);
+    let a = arc.tail as usize;
     note(a, t, e, records, mate);
-    price(a, t, u, weight_at(e, records), pi);
+    price(a, t, u, arc.weight, pi);
 }

@@ -9,8 +9,7 @@ ghost use Rattle.match_state.specs.Amounts.{matched_amount, Amounts};
 ghost use Rattle.match_results.specs.Results.{far_mark, unreached_mark, Marks};
 
 use arc_index::NO_ARC;
-use match_state::{head_at, tail_at};
-use packed_arcs::numbers::place;
+use match_state::arc_at;
 use vertex_queue::WAITS_NOT;
 
 // 1 for an arc that is noted as matched at its head, else 0.
@@ -18,11 +17,8 @@ fn amount_of(e: usize, records: &[u32], mate: &[u16]) -> u16
     requires { (e < length records.now) × (entry (record_heads records.now) e < length mate.now) }
     ensures { result ≡ matched_amount (record_heads records.now) mate.now e }
 {
-    let b = head_at(e, records);
-    if place(mate[b]) == e {
-        return 1;
-    }
-    0
+    let arc = arc_at(e, records);
+    u16::from(mate[arc.head as usize] as usize == e)
 }
 
 // The amounts of the matching on the arcs.
@@ -30,10 +26,8 @@ pub fn write_amounts(records: &[u32], mate: &[u16], x: &mut [u16])
     requires { (length x.old ≡ length records.now) × ((e : ℕ) → e < length records.now → entry (record_heads records.now) e < length mate.now) }
     ensures { Amounts (record_heads records.now) mate.now x.new }
 {
-    let mut e = 0;
-    while e < records.len() {
-        x[e] = amount_of(e, records, mate);
-        e += 1;
+    for (e, amount) in x.iter_mut().enumerate() {
+        *amount = amount_of(e, records, mate);
     }
 }
 
@@ -41,10 +35,7 @@ pub fn write_amounts(records: &[u32], mate: &[u16], x: &mut [u16])
 fn far_mark(d: u32) -> u32
     ensures { result ≡ far_mark d }
 {
-    if d < WAITS_NOT {
-        return 0;
-    }
-    1
+    u32::from(WAITS_NOT <= d)
 }
 
 // The mark of the vertex v after a search from t.
@@ -59,12 +50,12 @@ fn mark_of(v: usize, t: usize, records: &[u32], mate: &[u16], dist: &[u32]) -> u
     if v == t {
         return 0;
     }
-    let e = place(mate[v]);
-    if NO_ARC as usize <= e {
+    let e = mate[v];
+    if NO_ARC <= e {
         return 1;
     }
-    let a = tail_at(e, records);
-    far_mark(dist[a])
+    let arc = arc_at(e as usize, records);
+    far_mark(dist[arc.tail as usize])
 }
 
 // The marks of all vertices after a search from t, in place of their potentials.
@@ -73,9 +64,7 @@ pub fn write_marks(t: usize, records: &[u32], mate: &[u16], dist: &[u32], pi: &m
     requires cases { Matching (length pi.old) (record_tails records.now) (record_heads records.now) mate.now }
     ensures { Marks (length pi.old) (record_tails records.now) mate.now dist.now t pi.new }
 {
-    let mut v = 0;
-    while v < mate.len() {
-        pi[v] = mark_of(v, t, records, mate, dist);
-        v += 1;
+    for (v, mark) in pi.iter_mut().enumerate() {
+        *mark = mark_of(v, t, records, mate, dist);
     }
 }

@@ -1,5 +1,5 @@
 -- Rows copied one behind the other.
-use mathlib.Core.Path.{◌≡◌, refl, sym, subst, subst₂, ◌∙◌}
+use mathlib.Core.Path.{◌≡◌, refl, sym, subst₂, ◌∙◌}
 use mathlib.Core.List.{List}
 use mathlib.Core.Logic.{◌≢◌}
 use Prim.Native.Nat.{ℕ, ◌+◌, ◌*◌, ◌<◌, ◌≤◌}
@@ -29,22 +29,6 @@ pub record RowsBelow (T H W rows : List ℕ) (v : ℕ) : Type 0 where
   pub room : entry rows v ≤ 769 + copied H (v * no_arc)
   pub fronts : (w : ℕ) → w < v → Loose rows w
   pub each : (w : ℕ) → w < v → Row T H W rows w (entry rows w) (entry rows (w + 1))
-
-pub rows_start : (T H W rows : List ℕ) → length rows ≡ 769 + length H → RowsBelow T H W (set rows 0 769) 0
-rows_start T H W rows h = record {
-  len = length-set rows 0 769 ∙ h;
-  high = λ w l. subst (λ (z : ℕ). entry (set rows 0 769) z ≤ entry (set rows 0 769) 0) (none w l) (omega arith);
-  low = λ w l. subst (λ (z : ℕ). 769 ≤ entry (set rows 0 769) z) (none w l) (omega (arith, at_0));
-  room = omega (arith, at_0);
-  fronts = λ w l. absurd (omega arith);
-  each = λ w l. absurd (omega arith);
-}
-  where
-    at_0 : entry (set rows 0 769) 0 ≡ 769
-    at_0 = get_or-set_same rows 0 769 0 (omega arith)
-
-    none : (w : ℕ) → w ≤ 0 → 0 ≡ w
-    none w l = omega arith
 
 -- the row of v is copied, and its end noted
 module _ (T H W rows rows₁ : List ℕ) (v end : ℕ) (h : v < 256) (B : RowsBelow T H W rows v) (R : RowCopied T H W rows rows₁ v (entry rows v) end) where

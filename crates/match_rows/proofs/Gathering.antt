@@ -1,5 +1,5 @@
 -- The arcs of a row from exposed vertices put before the others, one after the other, and the two lightest of them last.
-use mathlib.Core.Path.{◌≡◌, refl, sym, ap, ◌∙◌}
+use mathlib.Core.Path.{◌≡◌, sym, ap, ◌∙◌}
 use mathlib.Core.List.{List}
 use mathlib.Core.Logic.{◌≢◌}
 use Prim.Native.Nat.{ℕ, ◌+◌, ◌-◌, ◌<◌, ◌≤◌}
@@ -32,32 +32,9 @@ pub record Gathering (T H W mate rows₀ rows : List ℕ) (b i end at second lea
   pub others : (j : ℕ) → j < i → entry rows b ≤ j → j ≢ at → next ≤ row_weight (entry rows j)
   pub order : least ≤ next
 
-pub gathering_start : {T H W mate rows : List ℕ} {b at second : ℕ} → Rows T H W rows → b < 256 → entry rows (513 + b) ≡ 0
-    → Gathering T H W mate rows rows b (entry rows b) (entry rows (257 + b)) at second 65536 65536
-gathering_start {b = b} R l z = record {
-  rows_are = R;
-  same = λ v h. refl;
-  loose = z;
-  from = omega arith;
-  below = omega (arith, (R.fronts b l).many);
-  within = (R.fronts b l).within;
-  exposed = λ j f g. absurd (omega arith);
-  found = λ h. absurd (omega arith);
-  lightest = λ j f g. absurd (omega arith);
-  found_next = λ h. absurd (omega arith);
-  others = λ j f g. absurd (omega arith);
-  order = omega arith;
-}
-
 module _ {T H W mate rows₀ rows : List ℕ} {b i end at second least next : ℕ} (small : b < 256) (G : Gathering T H W mate rows₀ rows b i end at second least next) (l : i < end) where
   pub in_rows : i < length rows
   in_rows = omega (arith, G.within, G.rows_are.ends (b + 1) (omega arith))
-
-  pub last_in_rows : end - 1 < length rows
-  last_in_rows = omega (arith, G.within, G.rows_are.ends (b + 1) (omega arith))
-
-  pub low : i < 769 + no_arc
-  low = omega (arith, in_rows, G.rows_are.len, G.rows_are.few)
 
   pub tail_below : {n : ℕ} → ((e : ℕ) → e < length H → entry T e < n) → row_tail (entry rows i) < n
   tail_below f = let A = G.rows_are.own b i small G.from (omega (arith, G.within)) in rw A.tail (f _ A.number)

@@ -5,7 +5,7 @@ use mathlib.Core.Logic.{◌≢◌}
 use Prim.Native.Nat.{ℕ, ◌+◌, ◌-◌, ◌<◌, ◌≤◌}
 use native.Mathlib.Decide.{ℕ_discrete}
 use native.Mathlib.Omega.{arith}
-use lib.ListN.{length, set}
+use lib.ListN.{set}
 use Rattle.packed_arcs.specs.Entries.{entry}
 use Rattle.arc_index.specs.ArcIndex.{no_arc}
 use Rattle.match_state.specs.Rows.{row_tail, row_weight, Front, Rows, Parted}
@@ -102,9 +102,6 @@ module _ {T H W mate rows₀ rows : List ℕ} {b end at second : ℕ} (small : b
       parted : Parted T H W mate rows₀ rows b end
       parted = record { rows_are = F.rows_are; same = F.same; from = F.from; within = F.within; here = λ l. absurd (omega arith); dearer = λ j f g. absurd (omega arith) }
 
-  pub counted : 513 + b < length rows
-  counted = omega (arith, F.rows_are.len)
-
   -- the lightest changes its place with the last
   module _ (h : entry rows b < end) where
     place : (entry rows b ≤ at) × (at < end)
@@ -118,9 +115,6 @@ module _ {T H W mate rows₀ rows : List ℕ} {b end at second : ℕ} (small : b
 
     last_before : end - 1 < entry rows (b + 1)
     last_before = omega (arith, F.within)
-
-    pub both_in_rows : (at < length rows) × (end - 1 < length rows)
-    both_in_rows = let e = F.rows_are.ends (b + 1) (omega arith) in (omega (arith, at_before), omega (arith, last_before))
 
     module _ {rows' : List ℕ} (E : Exchanged rows rows' at (end - 1)) where
       kept : (k : ℕ) → k < 769 → entry rows' k ≡ entry rows k
@@ -185,9 +179,6 @@ module _ {T H W mate rows₀ rows : List ℕ} {b end r : ℕ} (small : b < 256) 
 
   j_within : end - 1 - 1 < entry rows (b + 1)
   j_within = omega (arith, L.within)
-
-  pub next_in_rows : (r < length rows) × (end - 1 - 1 < length rows)
-  next_in_rows = let e = L.rows_are.ends (b + 1) (omega arith) in (omega (arith, r_within), omega (arith, j_within))
 
   module _ {rows' : List ℕ} (E : Exchanged rows rows' r (end - 1 - 1)) where
     kept₂ : (k : ℕ) → k < 769 → entry rows' k ≡ entry rows k

@@ -1,5 +1,5 @@
 -- One row: copied along the chain of its vertex, and kept.
-use mathlib.Core.Path.{◌≡◌, refl, sym, ap, ◌∙◌}
+use mathlib.Core.Path.{◌≡◌, sym, ap, ◌∙◌}
 use mathlib.Core.List.{List}
 use mathlib.Core.Logic.{◌≢◌}
 use Prim.Native.Nat.{ℕ, ◌+◌, ◌*◌, ◌%◌, ◌<◌, ◌≤◌}
@@ -10,7 +10,7 @@ use lib.Seq.{get_or-set_same, get_or-set_other}
 use borrow.Author.Count.{below_more}
 use Rattle.packed_arcs.specs.Entries.{entry}
 use Rattle.arc_records.specs.Arcs.{word_arc}
-use Rattle.arc_index.specs.ArcIndex.{no_arc, first_arc, next_arc}
+use Rattle.arc_index.specs.ArcIndex.{no_arc, next_arc}
 use Rattle.arc_index.specs.Chains.{First, Chains}
 use Rattle.arc_index.specs.Columns.{record_tails, record_heads, record_weights}
 use Rattle.arc_index.proofs.ChainSteps.{is_arc, none_between, none_left, further, next_is}
@@ -48,20 +48,6 @@ pub record Copying (T H W before rows : List ℕ) (v from i e : ℕ) : Type 0 wh
   pub room : i ≤ 769 + copied H (v * no_arc + lo)
   pub own : (j : ℕ) → from ≤ j → j < i → RowArc T H W rows v j
   pub all : (k : ℕ) → k < lo → entry H k ≡ v → StandsBetween rows from i k
-
-pub copying_start : (T H W links before : List ℕ) (v from : ℕ) → Chains H links → v < 256 → from ≤ 769 + copied H (v * no_arc)
-    → Copying T H W before before v from from (first_arc links v)
-copying_start T H W links before v from C h r = record {
-  len = refl;
-  kept = λ j l. refl;
-  forward = omega arith;
-  lo = 0;
-  low = omega arith;
-  here = C.firsts v h;
-  room = omega (arith, copied_grows H (v * no_arc) (v * no_arc + 0) (omega arith));
-  own = λ j a b. absurd (omega arith);
-  all = λ k l q. absurd (omega arith);
-}
 
 -- the arc e is copied
 module _ (rs links before rows : List ℕ) (v from i e : ℕ) (C : Chains (record_heads rs) links) (l : e < no_arc) (size : length before ≡ 769 + length (record_heads rs))

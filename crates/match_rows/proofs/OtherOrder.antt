@@ -1,10 +1,11 @@
 -- Rows stay rows where two positions of one row are exchanged, or another front is noted.
 use mathlib.Core.Path.{◌≡◌, sym, ap, subst, ◌∙◌}
 use mathlib.Core.List.{List}
+use mathlib.Core.Logic.{◌≢◌}
 use Prim.Native.Nat.{ℕ, ◌+◌, ◌-◌, ◌<◌, ◌≤◌}
 use native.Mathlib.Decide.{ℕ_discrete}
 use native.Mathlib.Omega.{arith}
-use lib.ListN.{length, set, length-set}
+use lib.ListN.{length, get_or, set, length-set}
 use lib.Seq.{get_or-set_same, get_or-set_other}
 use Rattle.packed_arcs.specs.Entries.{entry}
 use Rattle.match_state.specs.Rows.{row_number, Front, Rows}
@@ -66,20 +67,9 @@ loose_front f w z = record { within = w; many = omega (arith, z); two = omega (a
 
 -- ---- two positions exchanged
 
-pub exchanges : (rows : List ℕ) (i j : ℕ) → i < length rows → j < length rows → Exchanged rows (set (set rows i (entry rows j)) j (entry rows i)) i j
-exchanges rows i j l m = record {
-  len = simp length-set;
-  left = go (ℕ_discrete i j);
-  right = at_j;
-  others = λ k a b. get_or-set_other (set rows i (entry rows j)) j k (entry rows i) 0 b ∙ get_or-set_other rows i k (entry rows j) 0 a;
-}
-  where
-    at_j : entry (set (set rows i (entry rows j)) j (entry rows i)) j ≡ entry rows i
-    at_j = get_or-set_same (set rows i (entry rows j)) j (entry rows i) 0 (simp length-set m)
-
-    go : Dec (i ≡ j) → entry (set (set rows i (entry rows j)) j (entry rows i)) i ≡ entry rows j
-    go (yes q) = ap (entry (set (set rows i (entry rows j)) j (entry rows i))) q ∙ at_j ∙ ap (entry rows) q
-    go (no q) = get_or-set_other (set rows i (entry rows j)) j i (entry rows i) 0 q ∙ get_or-set_same rows i (entry rows j) 0 l
+pub exchanged : {Z : Type 0} {rows rows' : List ℕ} {i j : ℕ} → length rows' ≡ length rows → ((d : ℕ) → get_or rows' i d ≡ get_or rows j d) × ((d : ℕ) → get_or rows' j d ≡ get_or rows i d) × ((k d : ℕ) → k ≢ i → k ≢ j → get_or rows' k d ≡ get_or rows k d) × Z
+    → Exchanged rows rows' i j
+exchanged l S = record { len = l; left = S.0 0; right = S.1 0; others = λ k a b. S.2 k 0 a b }
 
 pub exchanged_back : {rows rows' : List ℕ} {i j : ℕ} → Exchanged rows rows' i j → Exchanged rows' rows i j
 exchanged_back E = record { len = sym E.len; left = sym E.right; right = sym E.left; others = λ k a b. sym (E.others k a b) }
@@ -135,14 +125,6 @@ module _ {T H W rows rows' : List ℕ} {b i j : ℕ} (R : Rows T H W rows) (smal
           F
 
 -- ---- another front noted
-
-pub notes : (rows : List ℕ) (b s c : ℕ) → b < 256 → 513 + b < length rows → FrontNoted rows (set (set rows (257 + b) s) (513 + b) c) b s c
-notes rows b s c l m = record {
-  len = simp length-set;
-  end = get_or-set_other (set rows (257 + b) s) (513 + b) (257 + b) c 0 (λ q. omega arith) ∙ get_or-set_same rows (257 + b) s 0 (omega arith);
-  count = get_or-set_same (set rows (257 + b) s) (513 + b) c 0 (simp length-set m);
-  others = λ k p q. get_or-set_other (set rows (257 + b) s) (513 + b) k c 0 q ∙ get_or-set_other rows (257 + b) k s 0 p;
-}
 
 -- only that nothing is in order
 pub loosened : (rows : List ℕ) (b : ℕ) → 513 + b < length rows → FrontNoted rows (set rows (513 + b) 0) b (entry rows (257 + b)) 0

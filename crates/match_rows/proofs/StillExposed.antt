@@ -10,9 +10,9 @@ use Rattle.match_state.specs.Rows.{row_tail, row_weight, Front, Rows, Parted}
 use Rattle.match_rows.specs.Parting.{FrontNoted}
 use Rattle.match_rows.proofs.LightestLast.{parted_noted}
 
--- Of the last c arcs before s the k-th from the end comes from an exposed vertex; for k = 0 nothing is said.
+-- Of the last c arcs before s the k-th from the end comes from an exposed vertex.
 abbrev Found : List ℕ → List ℕ → ℕ → ℕ → ℕ → Type 0
-Found mate rows s c k = (k ≤ c) × (0 < k → entry mate (row_tail (entry rows (s - k))) ≡ no_arc)
+Found mate rows s c k = (0 < k) × (k ≤ c) × (entry mate (row_tail (entry rows (s - k))) ≡ no_arc)
 
 -- the k-th from the end weighs no more than those before it
 from_end : {rows : List ℕ} {v s c : ℕ} → Front rows v s c → (k j : ℕ) → 0 < k → k ≤ c → entry rows v ≤ j → j < s - k → row_weight (entry rows (s - k)) ≤ row_weight (entry rows j)
@@ -40,36 +40,30 @@ module _ {T H W rows : List ℕ} {b : ℕ} (R : Rows T H W rows) (small : b < 25
       below : (k : ℕ) → 0 < k → k ≤ c → row_tail (entry rows (s - k)) < n
       below k p q = let A = R.own b (s - k) small (omega (arith, F.many)) (omega (arith, F.many, F.within)) in rw A.tail (t _ A.number)
 
-  pub fits : (k : ℕ) → k ≤ c → k ≤ s
-  fits k q = omega (arith, F.many)
-
-  parted : {mate : List ℕ} (k : ℕ) → 0 < k → Found mate rows s c k → Parted T H W mate rows rows b (s - k)
-  parted k p x = record {
+  parted : {mate : List ℕ} (k : ℕ) → Found mate rows s c k → Parted T H W mate rows rows b (s - k)
+  parted k x = record {
     rows_are = R;
     same = λ v l. refl;
-    from = omega (arith, F.many, x.0);
+    from = omega (arith, F.many, x.1);
     within = omega (arith, F.within);
-    here = λ l. (omega (arith, F.within, F.many, x.0), x.1 p);
-    dearer = λ j f g. from_end F k j p x.0 f g;
+    here = λ l. (omega (arith, F.within, F.many, x.0, x.1), x.2);
+    dearer = λ j f g. from_end F k j x.0 x.1 f g;
   }
 
-  pub last_found : {mate : List ℕ} {k : ℕ} → k ≡ 1 → Found mate rows s c k → Parted T H W mate rows rows b (s - 1)
-  last_found {mate} q x = parted 1 (omega arith) (subst (λ (n : ℕ). Found mate rows s c n) q x)
+  pub found : {mate : List ℕ} {k : ℕ} → Found mate rows s c k → Parted T H W mate rows rows b (s - k)
+  found {k = k} x = parted k x
 
   -- the last leaves the front
-  pub next_found : {mate rows' : List ℕ} {k : ℕ} → k ≡ 2 → Found mate rows s c k → FrontNoted rows rows' b (s - 1) 1 → Parted T H W mate rows rows' b (s - 2)
-  next_found {mate} q x = parted_noted small (parted 2 (omega arith) (subst (λ (n : ℕ). Found mate rows s c n) q x)) shorter
+  pub next_found : {mate rows' : List ℕ} {k : ℕ} → 1 < k → Found mate rows s c k → FrontNoted rows rows' b (s - 1) 1 → Parted T H W mate rows rows' b (s - k)
+  next_found {k = k} q x = parted_noted small (parted k x) shorter
     where
-      many : 2 ≤ c
-      many = omega (arith, q, x.0)
-
-      place : (d : ℕ) → d < 1 → s - 2 ≡ s - 1 - d - 1
-      place d l = omega arith
+      place : (d : ℕ) → d < 1 → s - k ≡ s - 1 - d - 1
+      place d l = omega (arith, q, x.1, F.two)
 
       shorter : Front rows b (s - 1) 1
       shorter = record {
         within = omega (arith, F.within);
-        many = omega (arith, F.many, many);
+        many = omega (arith, F.many, q, x.1);
         two = omega arith;
-        ordered = λ d j l f g. subst (λ (n : ℕ). row_weight (entry rows n) ≤ row_weight (entry rows j)) (place d l) (from_end F 2 j (omega arith) many f (omega arith));
+        ordered = λ d j l f g. subst (λ (n : ℕ). row_weight (entry rows n) ≤ row_weight (entry rows j)) (place d l) (from_end F k j x.0 x.1 f (omega (arith, place d l)));
       }

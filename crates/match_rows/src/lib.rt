@@ -8,8 +8,7 @@ ghost use Rattle.arc_index.specs.Columns.{record_tails, record_heads, record_wei
 ghost use Rattle.match_state.specs.Rows.{numbered, Rows};
 ghost use Rattle.match_rows.specs.Copying.{copied, RowCopied};
 
-use arc_index::{End, index};
-use packed_arcs::numbers::place;
+use arc_index::{End, NO_ARC, index};
 
 pub mod part;
 
@@ -18,20 +17,20 @@ fn row_arc(e: usize, word: u32) -> u64
     requires { e < no_arc }
     ensures { (result ≡ numbered e word) × (word < 4294967296) }
 {
-    (e as u64) * 4294967296 + (word as u64)
+    e as u64 * 4294967296 + u64::from(word)
 }
 
-// Copies the arcs of the chain of v, from the position `from` of rows on: the position after them.
+// Copies the arcs of the chain of v, from the position `from` of rows on: the position after them. No `for`: a chain is followed by its links.
 fn copy_chain(v: usize, from: usize, records: &[u32], links: &[u16], rows: &mut [u64]) -> usize
     requires { Chains (record_heads records.now) links.now × (v < 256) × (length rows.old ≡ 769 + length records.now) × (from ≤ 769 + copied (record_heads records.now) (v * no_arc)) }
     ensures { RowCopied (record_tails records.now) (record_heads records.now) (record_weights records.now) rows.old rows.new v from result }
 {
     let mut i = from;
-    let mut e = place(links[v]);
-    while e < 4096 {
+    let mut e = usize::from(links[v]);
+    while e < NO_ARC as usize {
         rows[i] = row_arc(e, records[e]);
         i += 1;
-        e = place(links[256 + e]);
+        e = usize::from(links[256 + e]);
     }
     i
 }
@@ -42,14 +41,12 @@ fn copy_rows(records: &[u32], links: &[u16], rows: &mut [u64])
     ensures { Rows (record_tails records.now) (record_heads records.now) (record_weights records.now) rows.new }
 {
     rows[0] = 769;
-    let mut v = 0;
-    while v < 256 {
+    for v in 0..256 {
         let from = rows[v] as usize;
         let i = copy_chain(v, from, records, links, rows);
         rows[v + 1] = i as u64;
         rows[257 + v] = i as u64;
         rows[513 + v] = 0;
-        v += 1;
     }
 }
 

@@ -1,32 +1,24 @@
 // The row of a vertex put in another order: the arcs from exposed vertices before the others, the two lightest of them last, so that a scan reads only as far as it has to, and mostly one arc.
-ghost use Rattle.std.specs.Prelude.{◌≡◌, ◌≢◌, ℕ, ◌+◌, ◌-◌, ◌<◌, ◌≤◌, length};
+ghost use Rattle.std.specs.Prelude.{◌≡◌, ◌≢◌, ℕ, ◌+◌, ◌-◌, ◌<◌, ◌≤◌, length, IfSome};
 ghost use Rattle.packed_arcs.specs.Entries.{entry};
 ghost use Rattle.arc_index.specs.ArcIndex.{no_arc};
 ghost use Rattle.arc_index.specs.Columns.{record_tails, record_heads, record_weights};
 ghost use Rattle.match_state.specs.Rows.{row_tail, Rows, Parted};
-ghost use Rattle.match_rows.specs.Parting.{Exchanged, FrontNoted, ExposedFirst};
+ghost use Rattle.match_rows.specs.Parting.{FrontNoted, ExposedFirst};
 
 use arc_index::NO_ARC;
-use match_state::{row_tail, row_weight};
+use match_state::row_record;
 
 // More than any arc weighs.
 const TOO_HEAVY: u32 = 65536;
 
 // The position up to which arcs come from exposed vertices, that of the lightest of them, and that of the lightest of the others.
+// No Option for the last two: a weight above all others stands for none while they are looked for, so that one comparison is the whole test.
 #[derive(Clone, Copy)]
 struct Exposed {
     end: usize,
     at: usize,
     second: usize,
-}
-
-fn exchange(i: usize, j: usize, rows: &mut [u64])
-    requires { (i < length rows.old) × (j < length rows.old) }
-    ensures { Exchanged rows.old rows.new i j }
-{
-    let arc = rows[i];
-    rows[i] = rows[j];
-    rows[j] = arc;
 }
 
 // Where the front of the row of b ends, and how many of its last arcs are in order.
@@ -48,24 +40,18 @@ fn moved(k: usize, from: usize, to: usize) -> usize
     k
 }
 
-// Which of the last c arcs before s comes from an exposed vertex: 1 for the last, 2 for the one before it, 0 for none.
-fn ready(s: usize, c: u64, rows: &[u64], mate: &[u16]) -> usize
+// Of the last c arcs before s, counted from the end, the first that comes from an exposed vertex.
+fn ready(s: usize, c: usize, rows: &[u64], mate: &[u16]) -> Option<usize>
     requires { (s < 65536) × ((k : ℕ) → 0 < k → k ≤ c → (k ≤ s) × (s - k < length rows.now) × (row_tail (entry rows.now (s - k)) < length mate.now)) }
-    ensures { (result ≤ c) × (0 < result → entry mate.now (row_tail (entry rows.now (s - result))) ≡ no_arc) }
+    ensures { IfSome result (λ k. (0 < k) × (k ≤ c) × (entry mate.now (row_tail (entry rows.now (s - k))) ≡ no_arc)) }
 {
-    if c < 1 {
-        return 0;
+    for k in 1..=c {
+        let arc = row_record(rows[s - k]);
+        if mate[arc.tail as usize] == NO_ARC {
+            return Some(k);
+        }
     }
-    if mate[row_tail(rows[s - 1])] == NO_ARC {
-        return 1;
-    }
-    if c < 2 {
-        return 0;
-    }
-    if mate[row_tail(rows[s - 2])] == NO_ARC {
-        return 2;
-    }
-    0
+    None
 }
 
 // Puts the arcs of the front of the row of b from exposed vertices before the others. Nothing of that front may be noted as in order, for the exchanges break the order.
@@ -80,14 +66,15 @@ fn gather_exposed(b: usize, records: &[u32], rows: &mut [u64], mate: &[u16]) -> 
     let mut second = i;
     let mut least = TOO_HEAVY;
     let mut next = TOO_HEAVY;
+    // no `for`: an exchange moves the end, and the same place is looked at again
     while i < end {
-        let arc = rows[i];
-        if mate[row_tail(arc)] != NO_ARC {
+        let arc = row_record(rows[i]);
+        if mate[arc.tail as usize] != NO_ARC {
             end -= 1;
-            exchange(i, end, rows);
+            rows.swap(i, end);
             continue;
         }
-        let weight = row_weight(arc);
+        let weight = arc.weight;
         i += 1;
         if next <= weight {
             continue;
@@ -102,11 +89,7 @@ fn gather_exposed(b: usize, records: &[u32], rows: &mut [u64], mate: &[u16]) -> 
         at = i - 1;
         least = weight;
     }
-    Exposed {
-        end: end,
-        at: at,
-        second: second,
-    }
+    Exposed { end, at, second }
 }
 
 // Looks at the whole front of the row of b: the arcs from exposed vertices stay in it, the lightest last and the next one before it. The position of the lightest, or where the row begins if there is none.
@@ -124,13 +107,13 @@ fn gather_again(b: usize, records: &[u32], rows: &mut [u64], mate: &[u16]) -> us
         return end;
     }
     let last = end - 1;
-    exchange(exposed.at, last, rows);
+    rows.swap(exposed.at, last);
     if last <= first {
         note(b, end, 1, rows);
         return last;
     }
     let second = moved(exposed.second, last, exposed.at);
-    exchange(second, last - 1, rows);
+    rows.swap(second, last - 1);
     note(b, end, 2, rows);
     last
 }
@@ -143,14 +126,12 @@ pub fn part_row(b: usize, records: &[u32], rows: &mut [u64], mate: &[u16]) -> us
     ensures { Parted (record_tails records.now) (record_heads records.now) (record_weights records.now) mate.now rows.old rows.new b result }
 {
     let s = rows[257 + b] as usize;
-    let c = rows[513 + b];
-    let k = ready(s, c, rows, mate);
-    if k == 1 {
-        return s - 1;
-    }
-    if k == 2 {
+    let c = rows[513 + b] as usize;
+    let Some(k) = ready(s, c, rows, mate) else {
+        return gather_again(b, records, rows, mate);
+    };
+    if 1 < k {
         note(b, s - 1, 1, rows);
-        return s - 2;
     }
-    gather_again(b, records, rows, mate)
+    s - k
 }

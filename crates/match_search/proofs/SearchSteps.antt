@@ -7,6 +7,8 @@ use native.Mathlib.Omega.{arith}
 use native.Mathlib.Decide.{dec_lt}
 use borrow.Author.Tests.{lt-ltb}
 use lib.ListN.{length, set, replicate, length-replicate, get_or-replicate}
+use Rattle.std.specs.Prelude.{unwrap_or}
+use Rattle.std.specs.declared.option.Option.{Option}
 use Rattle.packed_arcs.specs.Entries.{entry, zero_list}
 use Rattle.packed_arcs.proofs.LentParts.{zero_at}
 use Rattle.packed_arcs.proofs.Zeros.{zeros_all}
@@ -32,6 +34,16 @@ pub record Growing (h n : ℕ) (T H W mate pi : List ℕ) (t : ℕ) (dist par or
   pub tree : Tree h n T H W mate pi t dist par order keys k nd b best
   pub right : h ≤ b
   pub below : b < n
+
+-- where no vertex that was found stands for m, how many distances there are
+pub rescanned : {T H W mate pi dist par keys low dist' par' keys' low' : List ℕ} {h n m b k : ℕ} (r₀ r : Option ℕ) → length dist ≡ m
+    → Scanned h n T H W mate pi dist par keys low dist' par' keys' low' b k (unwrap_or r₀ (length dist)) (unwrap_or r (length dist))
+    → Scanned h n T H W mate pi dist par keys low dist' par' keys' low' b k (unwrap_or r₀ m) (unwrap_or r m)
+rescanned {T} {H} {W} {mate} {pi} {dist} {par} {keys} {low} {dist'} {par'} {keys'} {low'} {h} {n} {b = b} {k} r₀ r q s =
+    subst (λ (m : ℕ). Scanned h n T H W mate pi dist par keys low dist' par' keys' low' b k (unwrap_or r₀ m) (unwrap_or r m)) q s
+
+pub redistanced : (dist : List ℕ) {m d : ℕ} (r : Option ℕ) → length dist ≡ m → d ≡ exposed_distance dist (unwrap_or r (length dist)) → d ≡ exposed_distance dist (unwrap_or r m)
+redistanced dist {d = d} r q e = subst (λ (m : ℕ). d ≡ exposed_distance dist (unwrap_or r m)) q e
 
 module _ {h n : ℕ} {T H W mate pi : List ℕ} (S : State h n T H W mate pi) where
   -- nobody is reached

@@ -1,43 +1,28 @@
 // How much dearer every arc from an exposed left vertex is than what matched right vertices pay. The lightest arc from each left vertex is noted once, so that this is found vertex by vertex and not arc by arc.
 #![tactic(auto)]
 
-ghost use Rattle.std.specs.Prelude.{◌≡◌, ℕ, ◌<◌, ◌≤◌, max, length, replicate};
+ghost use Rattle.std.specs.Prelude.{◌≡◌, ℕ, ◌<◌, ◌≤◌, length};
 ghost use Rattle.packed_arcs.specs.Entries.{entry};
 ghost use Rattle.arc_index.specs.ArcIndex.{no_arc};
 ghost use Rattle.arc_index.specs.Columns.{record_tails, record_weights};
 ghost use Rattle.match_slack.specs.Slack.{Lightest, Slack};
 
 use arc_index::NO_ARC;
-use match_state::{tail_at, weight_at};
-use packed_arcs::numbers::{lesser, wide};
+use arc_records::arc_in;
 
 // The greatest weight of an arc.
 const HEAVIEST: u16 = 32767;
-
-// Notes the greatest weight for every vertex, as long as no arc is looked at.
-fn set_heaviest(lightest: &mut [u16])
-    ensures { lightest.new ≡ replicate (length lightest.old) 32767 }
-{
-    let mut a = 0;
-    while a < lightest.len() {
-        lightest[a] = HEAVIEST;
-        a += 1;
-    }
-}
 
 // Notes for each left vertex the least weight of the arcs from it, and the greatest weight there is where it has none.
 pub fn write_lightest(records: &[u32], lightest: &mut [u16])
     requires { (e : ℕ) → e < length records.now → (entry (record_tails records.now) e < length lightest.old) × (entry (record_weights records.now) e ≤ 32767) }
     ensures { Lightest (record_tails records.now) (record_weights records.now) lightest.new }
 {
-    set_heaviest(lightest);
-    let mut e = 0;
-    while e < records.len() {
-        let a = tail_at(e, records);
-        let w = weight_at(e, records);
-        let least = wide(lightest[a]);
-        lightest[a] = lesser(w, least) as u16;
-        e += 1;
+    lightest.fill(HEAVIEST);
+    for record in records {
+        let arc = arc_in(*record);
+        let a = arc.tail as usize;
+        lightest[a] = lightest[a].min(arc.weight as u16);
     }
 }
 
@@ -46,9 +31,9 @@ fn exposed_weight(mate: u16, weight: u16) -> u32
     ensures { mate ≡ no_arc → result ≡ weight }
 {
     if mate == NO_ARC {
-        return wide(weight);
+        return u32::from(weight);
     }
-    HEAVIEST as u32
+    u32::from(HEAVIEST)
 }
 
 // The least of what is noted for exposed left vertices, at most the greatest weight.
@@ -56,11 +41,9 @@ fn floor_of(lightest: &[u16], mate: &[u16]) -> u32
     requires { length lightest.now ≤ length mate.now }
     ensures { (result ≤ 32767) × ((a : ℕ) → a < length lightest.now → entry mate.now a ≡ no_arc → result ≤ entry lightest.now a) }
 {
-    let mut least = HEAVIEST as u32;
-    let mut a = 0;
-    while a < lightest.len() {
-        least = lesser(least, exposed_weight(mate[a], lightest[a]));
-        a += 1;
+    let mut least = u32::from(HEAVIEST);
+    for (a, weight) in lightest.iter().enumerate() {
+        least = least.min(exposed_weight(mate[a], *weight));
     }
     least
 }
@@ -75,26 +58,14 @@ fn matched_potential(mate: u16, potential: u32) -> u32
     0
 }
 
-// The greater of two numbers.
-fn greater(a: u32, b: u32) -> u32
-    ensures { result ≡ max a b }
-{
-    if a < b {
-        return b;
-    }
-    a
-}
-
 // The greatest potential of the matched vertices from h on.
 fn top_of(h: usize, mate: &[u16], pi: &[u32]) -> u32
     requires { length mate.now ≡ length pi.now }
     ensures { (b : ℕ) → b < length pi.now → h ≤ b → entry mate.now b < no_arc → entry pi.now b ≤ result }
 {
     let mut most: u32 = 0;
-    let mut b = h;
-    while b < pi.len() {
-        most = greater(most, matched_potential(mate[b], pi[b]));
-        b += 1;
+    for b in h..pi.len() {
+        most = most.max(matched_potential(mate[b], pi[b]));
     }
     most
 }
@@ -106,8 +77,5 @@ pub fn slack_of(lightest: &[u16], mate: &[u16], pi: &[u32]) -> u32
 {
     let floor = floor_of(lightest, mate);
     let top = top_of(lightest.len(), mate, pi);
-    if top < floor {
-        return floor - top;
-    }
-    0
+    floor.saturating_sub(top)
 }

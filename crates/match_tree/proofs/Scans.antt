@@ -51,14 +51,6 @@ module _ {h n : ℕ} {T H W mate pi : List ℕ} (S : State h n T H W mate pi) {r
   below_256 : b < 256
   below_256 = omega (arith, S.graph.small)
 
-  pub scan_start : (dist par keys low : List ℕ) (k r : ℕ) → length dist ≡ h → Scanning h n T H W rows mate pi dist par keys low b k r from dist par keys low from r (exposed_distance dist r)
-  scan_start dist par keys low k r d = record {
-    dist_len = refl;
-    par_len = refl;
-    start = omega arith;
-    grows = λ t nd j best order I K N R. rw (nearest_distance d N) (K, I, N, R, λ l. absurd (omega arith));
-  }
-
   -- the arcs before `from` come from exposed vertices, as does the one there, which is no dearer: where that was looked at, so were they
   before_from : {t : ℕ} {dist par order keys : List ℕ} {k nd best : ℕ} → Tree h n T H W mate pi t dist par order keys k nd b best → from < entry rows (b + 1)
       → Seen T W pi dist b k best (row_number (entry rows from)) → (p : ℕ) → entry rows b ≤ p → p < from → Seen T W pi dist b k best (row_number (entry rows p))

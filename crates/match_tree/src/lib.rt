@@ -1,7 +1,7 @@
 // The arcs to a right vertex in the tree of a search: they bring their left vertices nearer to the root.
 #![tactic(auto)]
 
-ghost use Rattle.std.specs.Prelude.{◌≡◌, ◌+◌, ◌-◌, ◌<◌, ◌≤◌, length};
+ghost use Rattle.std.specs.Prelude.{◌≡◌, ◌+◌, ◌-◌, ◌<◌, ◌≤◌, length, unwrap_or, IfSome};
 ghost use Rattle.packed_arcs.specs.Entries.{entry};
 ghost use Rattle.arc_index.specs.Columns.{record_tails, record_heads, record_weights};
 ghost use Rattle.match_state.specs.Rows.{row_number, row_tail, row_weight, Rows, Parted};
@@ -10,14 +10,16 @@ ghost use Rattle.match_tree.specs.Tree.{exposed_distance, Lowered, Relaxable, Sc
 
 use arc_index::NO_ARC;
 use match_rows::part::part_row;
-use match_state::{row_number, row_tail, row_weight};
-use packed_arcs::numbers::lesser;
-use vertex_queue::{WAITS_NOT, put};
+use match_state::{row_number, row_record};
+use vertex_queue::{VertexQueue, WAITS_NOT};
 
-// How far the exposed left vertex r is; farther than any where r is none, that is, the number of left vertices.
-pub fn exposed_distance(r: usize, dist: &[u32]) -> u32
-    ensures { result ≡ exposed_distance dist.now r }
+// How far the exposed left vertex is that was found; farther than any where there is none.
+pub fn exposed_distance(nearest: Option<usize>, dist: &[u32]) -> u32
+    ensures { result ≡ exposed_distance dist.now (unwrap_or nearest (length dist.now)) }
 {
+    let Some(r) = nearest else {
+        return WAITS_NOT;
+    };
     if r < dist.len() {
         return dist[r];
     }
@@ -33,16 +35,15 @@ fn lower(
     mate: &[u16],
     dist: &mut [u32],
     par: &mut [u16],
-    keys: &mut [u32; 256],
-    low: &mut [u32; 16],
+    queue: &mut VertexQueue,
 ) -> bool
     requires { (a < length dist.old) × (a < length mate.now) × (length par.old ≡ length dist.old) × (a < 256) }
-    ensures { Lowered a e far best mate.now dist.old par.old keys.old low.old dist.new par.new keys.new low.new result }
+    ensures { Lowered a e far best mate.now dist.old par.old queue.old.keys queue.old.low dist.new par.new queue.new.keys queue.new.low result }
 {
-    if far < lesser(dist[a], best) {
+    if far < dist[a].min(best) {
         dist[a] = far;
         par[a] = e;
-        put(a as u8, far, keys, low);
+        queue.put(a as u8, far);
         return mate[a] == NO_ARC;
     }
     false
@@ -58,28 +59,18 @@ fn relax(
     pi: &[u32],
     dist: &mut [u32],
     par: &mut [u16],
-    keys: &mut [u32; 256],
-    low: &mut [u32; 16],
+    queue: &mut VertexQueue,
 ) -> bool
     requires { Relaxable arc k price mate.now pi.now dist.old par.old }
     ensures { Lowered (row_tail arc) (row_number arc) (k + (row_weight arc + entry pi.now (row_tail arc) - price)) best
-        mate.now dist.old par.old keys.old low.old dist.new par.new
-        keys.new low.new result }
+        mate.now dist.old par.old queue.old.keys queue.old.low dist.new par.new
+        queue.new.keys queue.new.low result }
 {
-    let a = row_tail(arc);
-    let up = row_weight(arc) + pi[a];
+    let record = row_record(arc);
+    let a = record.tail as usize;
+    let up = record.weight + pi[a];
     let far = k + (up - price);
-    lower(
-        a,
-        row_number(arc) as u16,
-        far,
-        best,
-        mate,
-        dist,
-        par,
-        keys,
-        low,
-    )
+    lower(a, row_number(arc) as u16, far, best, mate, dist, par, queue)
 }
 
 // Looks at the arcs in the row of the right vertex b, which is at the distance k, from the position `from` on: those before it are no nearer. The nearest exposed left vertex was `nearest`:
@@ -87,7 +78,7 @@ fn relax(
 fn scan_row(
     b: usize,
     k: u32,
-    nearest: usize,
+    nearest: Option<usize>,
     from: usize,
     records: &[u32],
     rows: &[u64],
@@ -95,33 +86,31 @@ fn scan_row(
     pi: &[u32],
     dist: &mut [u32],
     par: &mut [u16],
-    keys: &mut [u32; 256],
-    low: &mut [u32; 16],
-) -> usize
+    queue: &mut VertexQueue,
+) -> Option<usize>
     requires state { State (length dist.old) (length pi.now) (record_tails records.now) (record_heads records.now) (record_weights records.now) mate.now pi.now }
     requires parted { Parted (record_tails records.now) (record_heads records.now) (record_weights records.now) mate.now rows.now rows.now b from }
     requires b_in_bounds { (b < length pi.now) × (k ≤ 2000000000) × (length par.old ≡ length dist.old) }
-    ensures { Scanned (length dist.old) (length pi.now) (record_tails records.now)
+    ensures scanned { Scanned (length dist.old) (length pi.now) (record_tails records.now)
         (record_heads records.now) (record_weights records.now) mate.now pi.now dist.old
-        par.old keys.old low.old dist.new par.new keys.new low.new b k nearest result }
+        par.old queue.old.keys queue.old.low dist.new par.new queue.new.keys queue.new.low b k (unwrap_or nearest (length dist.old)) (unwrap_or result (length dist.old)) }
+    ensures in_dist { IfSome nearest (λ r. r < length dist.old) → IfSome result (λ r. r < length dist.old) }
 {
     let price = pi[b];
-    let end = rows[b + 1] as usize;
-    let mut i = from;
-    let mut r = nearest;
+    let mut found = nearest;
     let mut best = exposed_distance(nearest, dist);
-    while i < end {
-        let arc = rows[i];
-        if relax(arc, k, price, best, mate, pi, dist, par, keys, low) {
-            r = row_tail(arc);
+    for i in from..rows[b + 1] as usize {
+        if relax(rows[i], k, price, best, mate, pi, dist, par, queue) {
+            let arc = row_record(rows[i]);
+            let r = arc.tail as usize;
+            found = Some(r);
             best = dist[r];
             if best <= k {
-                return r;
+                return found;
             }
         }
-        i += 1;
     }
-    r
+    found
 }
 
 // Looks at every arc to the right vertex b, which is at the distance k, where the nearest exposed left vertex was `nearest`: which it is now. Of the arcs from exposed vertices
@@ -129,26 +118,26 @@ fn scan_row(
 pub fn scan(
     b: usize,
     k: u32,
-    nearest: usize,
+    nearest: Option<usize>,
     records: &[u32],
     rows: &mut [u64],
     mate: &[u16],
     pi: &[u32],
     dist: &mut [u32],
     par: &mut [u16],
-    keys: &mut [u32; 256],
-    low: &mut [u32; 16],
-) -> usize
+    queue: &mut VertexQueue,
+) -> Option<usize>
     requires state { State (length dist.old) (length pi.now) (record_tails records.now) (record_heads records.now) (record_weights records.now) mate.now pi.now }
     requires rows { Rows (record_tails records.now) (record_heads records.now) (record_weights records.now) rows.old }
     requires b_in_bounds { (b < length pi.now) × (k ≤ 2000000000) × (length par.old ≡ length dist.old) }
     ensures scanned { Scanned (length dist.old) (length pi.now) (record_tails records.now)
         (record_heads records.now) (record_weights records.now) mate.now pi.now dist.old
-        par.old keys.old low.old dist.new par.new keys.new low.new b k nearest result }
+        par.old queue.old.keys queue.old.low dist.new par.new queue.new.keys queue.new.low b k (unwrap_or nearest (length dist.old)) (unwrap_or result (length dist.old)) }
+    ensures in_dist { IfSome nearest (λ r. r < length dist.old) → IfSome result (λ r. r < length dist.old) }
     ensures rows_2 { Rows (record_tails records.now) (record_heads records.now) (record_weights records.now) rows.new }
 {
     let from = part_row(b, records, rows, mate);
     scan_row(
-        b, k, nearest, from, records, rows, mate, pi, dist, par, keys, low,
+        b, k, nearest, from, records, rows, mate, pi, dist, par, queue,
     )
 }

@@ -18,16 +18,13 @@ use Rattle.order_path.specs.Search.{joins_below, searchable, SearchOutcome}
 use Rattle.order_path.specs.Steps.{Arcs, ClosedPath, OrderOrCycle}
 use Rattle.order_path.specs.Steps.OrderOrCycle.{ordered, cyclic}
 use Rattle.order_path.specs.declared.Found.{Found}
-use Rattle.order_path.specs.declared.Found.TheVariants.{Refused}
+use Rattle.std.specs.Prelude.{Ok, Err}
 use Rattle.arc_index.proofs.Columns.{tails_len, heads_len, tail_is, head_is}
 
 -- ---- lists of zeros, and as many vertices
 
 pub zeros_as : {l : List ℕ} {n m : ℕ} → n ≡ m → l ≡ zero_list n → l ≡ zero_list m
 zeros_as q z = z ∙ ap zero_list q
-
-pub closed_as : {n n' : ℕ} {tails heads into path spot : List ℕ} {len : ℕ} → n' ≡ n → ClosedPath n tails heads into path spot len → ClosedPath n' tails heads into path spot len
-closed_as {n} {n'} {tails} {heads} {into} {path} {spot} {len} q C = subst (λ (k : ℕ). ClosedPath k tails heads into path spot len) (sym q) C
 
 -- ---- what passes the test
 
@@ -66,7 +63,7 @@ searchable_facts rs n marks ok =
 -- ---- the outcomes
 
 module _ (rs ranks marks : List ℕ) (u : Bool) (e : u ≡ searchable rs (length ranks) (length marks)) where
-  pub search_refused : not u ≡ true → SearchOutcome rs ranks marks ranks marks Refused
+  pub search_refused : not u ≡ true → SearchOutcome rs ranks marks ranks marks (Err (record {}))
   search_refused h = SearchOutcome.refused (failed (searchable rs (length ranks) (length marks)) u h e) refl refl
 
   module _ (h : not u ≡ false) where
@@ -78,6 +75,6 @@ module _ (rs ranks marks : List ℕ) (u : Bool) (e : u ≡ searchable rs (length
 
     -- after ranks and marks were set to 0
     pub search_decided : {ranks₁ marks₁ ranks' marks' : List ℕ} {r : Found} → length ranks₁ ≡ length ranks → marks₁ ≡ zero_list (length marks)
-        → length ranks' ≡ length ranks → OrderOrCycle (record_tails rs) (record_heads rs) ranks₁ marks₁ ranks' marks' r → SearchOutcome rs ranks marks ranks' marks' r
+        → length ranks' ≡ length ranks → OrderOrCycle (record_tails rs) (record_heads rs) ranks₁ marks₁ ranks' marks' r → SearchOutcome rs ranks marks ranks' marks' (Ok r)
     search_decided q z k (ordered o m) = SearchOutcome.ordered ok k o (m ∙ z)
     search_decided q z k (cyclic p c) = SearchOutcome.cyclic ok (p ∙ ap zero_list q) c

@@ -12,7 +12,7 @@ use limits::is_searchable;
 use order_cycle::mark;
 use order_path::Found;
 use order_ranking::index_and_rank;
-use packed_arcs::clearing::{clear_amounts, clear_potentials};
+use packed_arcs::OutOfLimits;
 
 mod limits;
 
@@ -31,31 +31,32 @@ fn decide(
     requires into_len { (length into.old ≡ length ranks.old) × (length path.old ≡ length ranks.old) × (spot.old ≡ zero_list (length ranks.old)) }
     ensures { OrderOrCycle (record_tails records.now) (record_heads records.now) ranks.old marks.old ranks.new marks.new result }
 {
-    let len = index_and_rank(records, ranks, links, into, path, spot);
-    if len == 0 {
-        return Found::Order;
+    match index_and_rank(records, ranks, links, into, path, spot) {
+        None => Found::Order,
+        Some(len) => {
+            mark(len, records, into, path, spot, marks);
+            ranks.fill(0);
+            Found::Cycle
+        }
     }
-    mark(len, records, into, path, spot, marks);
-    clear_potentials(ranks);
-    Found::Cycle
 }
 
 // Ranks, one for each vertex, that rise along the arc of every record, and no mark; or marks on the arcs of a cycle, and ranks 0.
-pub fn search(records: &[u32], ranks: &mut [u32], marks: &mut [u16]) -> Found
+pub fn search(records: &[u32], ranks: &mut [u32], marks: &mut [u16]) -> Result<Found, OutOfLimits>
     ensures { SearchOutcome records.now ranks.old marks.old ranks.new marks.new result }
 {
     let n = ranks.len();
     if !is_searchable(records, n, marks.len()) {
-        return Found::Refused;
+        return Err(OutOfLimits);
     }
-    clear_potentials(ranks);
-    clear_amounts(marks);
+    ranks.fill(0);
+    marks.fill(0);
     let k = 256 + records.len();
     let mut links = [0u16; 256 + MOST_ARCS as usize];
     let mut into = [0u16; MOST_VERTICES as usize];
     let mut path = [0usize; MOST_VERTICES as usize];
     let mut spot = [0usize; MOST_VERTICES as usize];
-    decide(
+    Ok(decide(
         records,
         ranks,
         marks,
@@ -63,5 +64,5 @@ pub fn search(records: &[u32], ranks: &mut [u32], marks: &mut [u16]) -> Found
         &mut into[..n],
         &mut path[..n],
         &mut spot[..n],
-    )
+    ))
 }

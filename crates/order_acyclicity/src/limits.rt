@@ -10,38 +10,22 @@ fn joins_below(n: usize, word: u32) -> bool
     ensures { result ≡ joins_below n word }
 {
     let arc = arc_in(word);
-    if n <= (arc.tail as usize) {
-        return false;
-    }
-    (arc.head as usize) < n
+    (arc.tail as usize) < n && (arc.head as usize) < n
 }
 
 // Does the arc of every record?
 fn each_joins_below(n: usize, records: &[u32]) -> bool
     ensures { result ≡ all (joins_below n) records.now }
 {
-    let mut e = 0;
-    while e < records.len() {
-        if !joins_below(n, records[e]) {
-            return false;
-        }
-        e += 1;
-    }
-    true
+    records.iter().all(|word| joins_below(n, *word))
 }
 
 // Is this what the search answers?
 pub(crate) fn is_searchable(records: &[u32], n: usize, marks: usize) -> bool
     ensures { result ≡ searchable records.now n marks }
 {
-    if (MOST_VERTICES as usize) < n {
-        return false;
-    }
-    if (MOST_ARCS as usize) < records.len() {
-        return false;
-    }
-    if marks != records.len() {
-        return false;
-    }
-    each_joins_below(n, records)
+    n <= MOST_VERTICES as usize
+        && records.len() <= MOST_ARCS as usize
+        && marks == records.len()
+        && each_joins_below(n, records)
 }

@@ -5,7 +5,8 @@ use mathlib.Core.List.{List}
 use Prim.Native.Nat.{ℕ, ◌+◌, ◌-◌, ◌<◌, ◌≤◌}
 use native.Mathlib.Decide.{dec_lt, ℕ_discrete}
 use native.Mathlib.Omega.{arith}
-use lib.ListN.{length, set, length-set, length-replicate}
+use lib.ListN.{length, get_or, take, drop, set, length-set, length-replicate}
+use lib.Seq.{get_or-drop, get_or-take}
 use Rattle.arc_records.specs.Arcs.{delta}
 use Rattle.packed_arcs.specs.Entries.{entry, zero_list, flow_at}
 use Rattle.packed_arcs.proofs.LentParts.{zero_at}
@@ -21,6 +22,10 @@ unfolding delta
 at_marked l xs e v h q z = let f = rw z at (flow_add l xs e 1 v h q) in omega (arith, f)
 
 -- ---- along the path
+
+-- the vertex at the index j of the part from k on
+pub in_part : (path : List ℕ) (k len j : ℕ) → k + j < len → get_or (take (len - k) (drop k path)) j 0 ≡ entry path (k + j)
+in_part path k len j h = get_or-take (len - k) (drop k path) j 0 (omega arith) ∙ get_or-drop k path j 0
 
 -- The arcs into the vertices of the path from k to i - 1 are marked. They lead from the vertex `from` to that at k.
 pub record Marking (tails heads into path spot marks : List ℕ) (k len i : ℕ) : Type 0 where
@@ -42,12 +47,6 @@ pub record AtIndex (rs into path : List ℕ) (i : ℕ) : Type 0 where
   pub vertex_low : entry path i < 255
   pub arc : entry into (entry path i) < length rs
   pub arc_low : entry into (entry path i) < 4096
-
--- and of the vertex w from which an arc enters the last
-pub record AtEnd (spot : List ℕ) (w : ℕ) : Type 0 where
-  pub inside : w < length spot
-  pub low : w < 255
-  pub some : 1 ≤ entry spot w
 
 module _ {n : ℕ} {tails heads into path spot : List ℕ} {len : ℕ} (A : Arcs n tails heads) (C : ClosedPath n tails heads into path spot len) where
   abbrev P : Path n tails into path spot len
@@ -93,13 +92,7 @@ module _ {n : ℕ} {tails heads into path spot : List ℕ} {len : ℕ} (A : Arcs
     spotted : 0 < entry spot w
     spotted = subst (λ (u : ℕ). 0 < entry spot u) (sym hw) C.closes
 
-    -- what the code asks of it
-    pub at_end : AtEnd spot w
-    at_end =
-        let below : w < n = omega (arith, A.tails_below (entry into (entry path (len - 1))) (arc_below (len - 1) (omega (arith, C.some)))) in
-        record { inside = omega (arith, P.spot_len); low = omega (arith, A.vertices); some = spotted }
-
-    pub within_path : k < len
+    within_path : k < len
     within_path = omega (arith, spotted, P.within w)
 
     is_vertex : entry path k ≡ w
@@ -168,12 +161,3 @@ module _ {n : ℕ} {tails heads into path spot : List ℕ} {len : ℕ} (A : Arcs
               go : Dec (k ≡ i) → k < i
               go (yes q) = absurd (ne (ap (λ (j : ℕ). entry into (entry path j)) q ∙ sym he))
               go (no other) = omega (arith, M.begun)
-
-    pub circulates : {marks : List ℕ} {i : ℕ} → Marking tails heads into path spot marks k len i → len ≤ i → Circulation tails heads marks
-    circulates M l = record {
-      len = M.marks_len;
-      zero_or_one = M.zero_or_one;
-      one = entry into (entry path k);
-      marked = M.hook (omega (arith, within_path));
-      balanced = λ v. omega (arith, M.balance v, ap (λ (u : ℕ). delta u v) (M.around l));
-    }

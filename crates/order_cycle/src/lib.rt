@@ -8,7 +8,6 @@ ghost use Rattle.order_path.specs.Search.{Circulation};
 ghost use Rattle.order_path.specs.Steps.{Arcs, ClosedPath};
 
 use order_path::index::tail_at;
-use packed_arcs::numbers::place;
 
 // Marks the arcs of the cycle that the path closes: the current arcs of its vertices, from that one on from which an arc enters the last.
 pub fn mark(
@@ -25,12 +24,9 @@ pub fn mark(
     ensures { Circulation (record_tails records.now) (record_heads records.now) marks.new }
 {
     let top = path[len - 1];
-    let w = tail_at(place(into[top]), records);
-    let mut i = spot[w] - 1;
-    while i < len {
-        let v = path[i];
-        let e = place(into[v]);
-        marks[e] = 1;
-        i += 1;
+    let w = tail_at(usize::from(into[top]), records);
+    let first = spot[w] - 1;
+    for v in &path[first..len] {
+        marks[usize::from(into[*v])] = 1;
     }
 }

@@ -7,9 +7,8 @@ use native.Mathlib.Decide.{dec_lt}
 use native.Mathlib.Omega.{arith}
 use lib.ListN.{length, set, take, length-set}
 use lib.Seq.{get_or-set_same, get_or-take, length-take-le}
-use Rattle.prelude.proofs.Filling.{Filling}
 use Rattle.packed_arcs.specs.Entries.{entry}
-use Rattle.packed_arcs.proofs.ListLoops.{set_cases, filled_as}
+use Rattle.packed_arcs.proofs.ListLoops.{set_cases}
 use Rattle.arc_index.specs.ArcIndex.{no_arc, next_arc}
 use Rattle.arc_index.specs.Chains.{First}
 use Rattle.arc_index.specs.Columns.{record_tails, record_heads}
@@ -37,12 +36,6 @@ first_from (First.none a f) h = omega arith
 
 -- ---- at first
 
-pub first_filled : (links into₀ into : List ℕ) (v : ℕ) → length into₀ ≤ length links → length into ≤ v → Filling (λ i x. x ≡ entry links i) 0 into₀ into v
-    → into ≡ take (length into₀) links
-first_filled links into₀ into v q h F =
-    let n = length into₀ in
-    filled_as (entry links) 0 into₀ into (take n links) v (omega (arith, F.len)) (length-take-le n links q) (λ i b. get_or-take n links i 0 b) F
-
 pub watch_first : {tails heads links ranks into : List ℕ} → Chained (length ranks) tails heads links → into ≡ take (length ranks) links → Watch tails heads ranks into
 watch_first {tails} {heads} {links} {ranks} {into} C q = record {
   len = ap length q ∙ length-take-le (length ranks) links (omega (arith, small, C.chains.len));
@@ -62,9 +55,6 @@ watch_first {tails} {heads} {links} {ranks} {into} C q = record {
 
 -- ---- moving on
 
-pub moved_none : {tails heads ranks into : List ℕ} {v : ℕ} → Watch tails heads ranks into → MovedOn tails heads ranks into v into
-moved_none w = record { watch = w; others = λ u n. refl }
-
 -- e is the current arc of v
 pub record Looking (rs links ranks into₀ into : List ℕ) (v e : ℕ) : Type 0 where
   pub chained : Chained (length ranks) (record_tails rs) (record_heads rs) links
@@ -72,14 +62,6 @@ pub record Looking (rs links ranks into₀ into : List ℕ) (v e : ℕ) : Type 0
   pub moved : MovedOn (record_tails rs) (record_heads rs) ranks into₀ v into
   pub current : e ≡ entry into v
   pub some : e < no_arc
-
--- what the code asks of it
-pub record AtArc (rs links ranks : List ℕ) (e : ℕ) : Type 0 where
-  pub arc : e < length rs
-  pub few : e < 4096
-  pub link : 256 + e < length links
-  pub tail : entry (record_tails rs) e < length ranks
-  pub small : length ranks ≤ 255
 
 module _ {rs links ranks into₀ into : List ℕ} {v e : ℕ} (L : Looking rs links ranks into₀ into v e) where
   abbrev tails : List ℕ
@@ -100,15 +82,6 @@ module _ {rs links ranks into₀ into : List ℕ} {v e : ℕ} (L : Looking rs li
   arc_below : e < length tails
   arc_below = omega (arith, in_heads, L.chained.arcs.heads_len)
 
-  pub at_arc : AtArc rs links ranks e
-  at_arc = record {
-    arc = omega (arith, arc_below, tails_len rs);
-    few = L.some;
-    link = omega (arith, in_heads, L.chained.chains.len);
-    tail = L.chained.arcs.tails_below e arc_below;
-    small = L.chained.arcs.vertices;
-  }
-
   arc_head : entry heads e ≡ v
   arc_head = P.here L.some
 
@@ -117,10 +90,6 @@ module _ {rs links ranks into₀ into : List ℕ} {v e : ℕ} (L : Looking rs li
 
   slot : v < length into
   slot = omega (arith, W.len, L.vertex)
-
-  -- on to the next arc: fewer are left
-  pub fewer_left : no_arc - entry (set into v (next_arc links e)) v < no_arc - entry into v
-  fewer_left = omega (arith, first_from next (omega (arith, L.some)), L.current, L.some, get_or-set_same into v (next_arc links e) 0 slot)
 
   module _ (ranked : entry ranks (entry tails e) ≢ 0) where
     abbrev into₁ : List ℕ

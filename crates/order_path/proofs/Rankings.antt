@@ -12,7 +12,8 @@ use Rattle.packed_arcs.proofs.LentParts.{zero_at}
 use Rattle.packed_arcs.proofs.ListLoops.{set_cases}
 use Rattle.arc_index.specs.ArcIndex.{no_arc}
 use Rattle.arc_index.specs.Columns.{record_tails, record_heads}
-use Rattle.order_path.specs.Steps.{Arcs, Points, Chained, Looked, LeadsFrom, Path, Searching, Pushed, Started, Climbed, Ranking, AllRanked, Searched}
+use Rattle.order_path.specs.Steps.{Arcs, Points, Chained, MovedOn, LeadsFrom, Path, Searching, Pushed, Started, Climbed, Ranking, AllRanked, ClosedPath}
+use Rattle.order_path.specs.Search.{Ordered}
 use Rattle.order_path.specs.Steps.Started.{kept, started}
 use Rattle.packed_arcs.proofs.Zeros.{zeros_all, zeros_fewer}
 use Rattle.arc_index.proofs.Columns.{tails_len}
@@ -23,11 +24,11 @@ use Rattle.order_path.proofs.Paths.{path_none, path_moved, has_room, path_longer
 
 module _ {tails heads ranks into path spot : List ℕ} {len : ℕ} (S : Searching tails heads ranks into path spot len) where
   -- the last vertex is looked at
-  pub searching_looked : {into' : List ℕ} {v e : ℕ} → 0 < len → v ≡ entry path (len - 1) → Looked tails heads ranks into v into' e
+  pub searching_looked : {into' : List ℕ} {v : ℕ} → 0 < len → v ≡ entry path (len - 1) → MovedOn tails heads ranks into v into'
       → Searching tails heads ranks into' path spot len
-  searching_looked {into'} {v} {e} some last L = record {
-    watch = L.moved.watch;
-    on_path = path_moved S.on_path into' some (λ u ne. L.moved.others u (λ q. ne (q ∙ last)));
+  searching_looked {into'} {v} some last M = record {
+    watch = M.watch;
+    on_path = path_moved S.on_path into' some (λ u ne. M.others u (λ q. ne (q ∙ last)));
     unranked = S.unranked;
   }
 
@@ -59,7 +60,9 @@ pub record TopLooked (rs links ranks into path spot into' : List ℕ) (len v e :
   pub searching : Searching (record_tails rs) (record_heads rs) ranks into path spot len
   pub some : 0 < len
   pub last : v ≡ entry path (len - 1)
-  pub looked : Looked (record_tails rs) (record_heads rs) ranks into v into' e
+  pub moved : MovedOn (record_tails rs) (record_heads rs) ranks into v into'
+  pub current : e ≡ entry into' v
+  pub from : e < no_arc → entry ranks (entry (record_tails rs) e) ≡ 0
 
 -- what the code asks of that arc
 pub record AtTop (rs ranks spot : List ℕ) (e : ℕ) : Type 0 where
@@ -76,10 +79,10 @@ module _ {rs links ranks into path spot into' : List ℕ} {len v e : ℕ} (T : T
   heads = record_heads rs
 
   pub moved_on : Searching tails heads ranks into' path spot len
-  moved_on = searching_looked T.searching T.some T.last T.looked
+  moved_on = searching_looked T.searching T.some T.last T.moved
 
   current : entry into' (entry path (len - 1)) ≡ e
-  current = ap (entry into') (sym T.last) ∙ sym T.looked.current
+  current = ap (entry into') (sym T.last) ∙ sym T.current
 
   pub climbed : (e < no_arc → 0 < entry spot (entry tails e)) → Climbed tails heads ranks into' path spot len
   climbed h = record {
@@ -111,7 +114,7 @@ module _ {rs links ranks into path spot into' : List ℕ} {len v e : ℕ} (T : T
 
       pub searching_longer : {path' spot' : List ℕ} {r : ℕ} → Pushed w len path spot path' spot' r → Searching tails heads ranks into' path' spot' r
       searching_longer U =
-          searching_pushed moved_on (omega (arith, at_top.tail)) (ap (entry ranks) hw ∙ T.looked.from above) (omega arith)
+          searching_pushed moved_on (omega (arith, at_top.tail)) (ap (entry ranks) hw ∙ T.from above) (omega arith)
           (λ h. record { some = omega (arith, current); tail = ap (entry tails) current ∙ sym hw }) U
 
 -- ---- the next rank
@@ -208,51 +211,6 @@ module _ {tails heads ranks into path spot : List ℕ} {len r : ℕ} (A : Arcs (
 pub arcs_as : {n n' : ℕ} {tails heads : List ℕ} → n' ≡ n → Arcs n tails heads → Arcs n' tails heads
 arcs_as {n} {n'} {tails} {heads} q A = subst (λ (k : ℕ). Arcs k tails heads) (sym q) A
 
-pub chained_as : {n n' : ℕ} {tails heads links : List ℕ} → n' ≡ n → Chained n tails heads links → Chained n' tails heads links
-chained_as {n} {n'} {tails} {heads} {links} q C = subst (λ (k : ℕ). Chained k tails heads links) (sym q) C
-
--- what the code asks of the last vertex v of the path
-pub record AtLast (ranks into path spot : List ℕ) (r len v : ℕ) : Type 0 where
-  pub some : 1 ≤ len
-  pub inside : len - 1 < length path
-  pub low : len - 1 < 255
-  pub vertex : v < length ranks
-  pub in_into : v < length into
-  pub in_spot : v < length spot
-  pub small : length ranks ≤ 255
-  pub rank_small : r ≤ 255
-
-pub at_last : {tails heads ranks into path spot : List ℕ} {r len : ℕ} → Arcs (length ranks) tails heads → Climbed tails heads ranks into path spot len
-    → Ranking tails heads ranks r → AtLast ranks into path spot r len (entry path (len - 1))
-at_last {tails} {heads} {ranks} {into} {path} {spot} {r} {len} A C R =
-    let S = C.searching in
-    let P = S.on_path in
-    let vertex : entry path (len - 1) < length ranks = P.vertex (len - 1) (omega (arith, C.some)) in
-    record {
-      some = C.some;
-      inside = omega (arith, C.some, P.count, P.path_len);
-      low = omega (arith, C.some, P.count, A.vertices);
-      vertex = vertex;
-      in_into = omega (arith, S.watch.len);
-      in_spot = omega (arith, P.spot_len);
-      small = A.vertices;
-      rank_small = omega (arith, R.count, A.vertices);
-    }
-
--- the arrays are as long as they were
-pub record SameLengths (into path spot into₀ path₀ spot₀ : List ℕ) : Type 0 where
-  pub into_same : length into ≡ length into₀
-  pub path_same : length path ≡ length path₀
-  pub spot_same : length spot ≡ length spot₀
-
-pub same_lengths : {tails heads ranks into path spot ranks₀ into₀ path₀ spot₀ : List ℕ} {len len₀ : ℕ} → length ranks ≡ length ranks₀
-    → Searching tails heads ranks into path spot len → Searching tails heads ranks₀ into₀ path₀ spot₀ len₀ → SameLengths into path spot into₀ path₀ spot₀
-same_lengths q S S₀ = record {
-  into_same = omega (arith, S.watch.len, S₀.watch.len);
-  path_same = omega (arith, S.on_path.path_len, S₀.on_path.path_len);
-  spot_same = omega (arith, S.on_path.spot_len, S₀.on_path.spot_len);
-}
-
 -- ---- before the first rank, and after the last
 
 pub searching_none : {tails heads links ranks into path spot : List ℕ} → Chained (length ranks) tails heads links → into ≡ take (length ranks) links
@@ -269,31 +227,3 @@ ranking_none {tails} {heads} ranks z = record {
   where
     none : (v : ℕ) → entry ranks v ≡ 0
     none v = ap (λ (l : List ℕ). entry l v) z ∙ zero_at (length ranks) v
-
--- every vertex has a rank
-pub searched_all : {tails heads ranks into path spot : List ℕ} {r v : ℕ} → Arcs (length ranks) tails heads → Ranking tails heads ranks r
-    → AllRanked ranks v → length ranks ≤ v → Searched tails heads ranks into path spot 0
-searched_all {tails} {heads} {ranks} {into} {path} {spot} {r} {v} A R p h = record {
-  order = λ q. record {
-    below = λ u. omega (arith, R.low u, R.count);
-    rises = λ e l. R.rises e l (p (entry heads e) (omega (arith, A.heads_below e l)));
-  };
-  cycle = λ l. absurd (omega arith);
-}
-
--- an arc enters the last vertex v of the path from the path
-pub searched_closed : {tails heads ranks into path spot : List ℕ} {len : ℕ} (v : ℕ) → Climbed tails heads ranks into path spot len
-    → v ≡ entry path (len - 1) → entry into v < no_arc → Searched tails heads ranks into path spot len
-searched_closed {tails} {heads} {ranks} {into} {path} {spot} {len} v C last h =
-    let taken : entry into (entry path (len - 1)) < no_arc = subst (λ (u : ℕ). entry into u < no_arc) last h in
-    record {
-      order = λ q. absurd (omega (arith, C.some));
-      cycle = λ l. record {
-        into_len = C.searching.watch.len;
-        points = C.searching.watch.points;
-        on_path = C.searching.on_path;
-        some = C.some;
-        taken = taken;
-        closes = C.closes taken;
-      };
-    }

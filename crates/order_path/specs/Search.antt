@@ -1,12 +1,13 @@
 -- What the search is handed and what it hands back: records of arcs; ranks of the vertices that rise along every arc, or marks on the arcs of a cycle.
-use Rattle.std.specs.Prelude.{◌≡◌, Bool, true, false, ◌&&◌, List, ℕ, ◌<◌, ◌≤◌, eqb, leb, ltb, length}
+use Rattle.std.specs.Prelude.{◌≡◌, Bool, true, false, ◌&&◌, List, ℕ, ◌<◌, ◌≤◌, eqb, leb, ltb, length, Result, Ok, Err}
 use Rattle.prelude.specs.Lists.{all}
 use Rattle.arc_records.specs.Limits.{most_vertices, most_arcs}
 use Rattle.arc_records.specs.Arcs.{word_arc}
 use Rattle.packed_arcs.specs.Entries.{entry, zero_list, flow_at}
 use Rattle.arc_index.specs.Columns.{record_tails, record_heads}
 use Rattle.order_path.specs.declared.Found.{Found}
-use Rattle.order_path.specs.declared.Found.TheVariants.{Order, Cycle, Refused}
+use Rattle.order_path.specs.declared.Found.TheVariants.{Order, Cycle}
+use Rattle.packed_arcs.specs.declared.OutOfLimits.{OutOfLimits}
 
 -- ---- what is handed over
 
@@ -34,13 +35,13 @@ pub record Circulation (tails heads marks : List ℕ) : Type 0 where
   pub balanced : (v : ℕ) → flow_at tails marks v ≡ flow_at heads marks v
 
 -- The three outcomes: an order, and no mark; a cycle, and ranks 0; or a refusal, with nothing changed.
-pub data SearchOutcome (rs ranks marks ranks' marks' : List ℕ) : Found → Type 0 where
+pub data SearchOutcome (rs ranks marks ranks' marks' : List ℕ) : Result Found OutOfLimits → Type 0 where
   ordered :
       searchable rs (length ranks) (length marks) ≡ true → length ranks' ≡ length ranks → Ordered (record_tails rs) (record_heads rs) ranks'
-      → marks' ≡ zero_list (length marks) → SearchOutcome rs ranks marks ranks' marks' Order
+      → marks' ≡ zero_list (length marks) → SearchOutcome rs ranks marks ranks' marks' (Ok Order)
   cyclic :
       searchable rs (length ranks) (length marks) ≡ true → ranks' ≡ zero_list (length ranks) → Circulation (record_tails rs) (record_heads rs) marks'
-      → SearchOutcome rs ranks marks ranks' marks' Cycle
+      → SearchOutcome rs ranks marks ranks' marks' (Ok Cycle)
   refused :
       searchable rs (length ranks) (length marks) ≡ false → ranks' ≡ ranks → marks' ≡ marks
-      → SearchOutcome rs ranks marks ranks' marks' Refused
+      → SearchOutcome rs ranks marks ranks' marks' (Err (record {}))

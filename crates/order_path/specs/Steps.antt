@@ -1,5 +1,5 @@
 -- What the steps of the search keep: an index of the arcs by head, a path of vertices without a rank, and ranks given one after the other.
-use Rattle.std.specs.Prelude.{◌≡◌, ◌≢◌, List, ℕ, ◌+◌, ◌-◌, ◌<◌, ◌≤◌, length, set}
+use Rattle.std.specs.Prelude.{◌≡◌, ◌≢◌, List, ℕ, ◌+◌, ◌-◌, ◌<◌, ◌≤◌, length, set, Option, MatchOption}
 use Rattle.arc_records.specs.Limits.{most_vertices, most_arcs}
 use Rattle.packed_arcs.specs.Entries.{entry, zero_list, zero_count}
 use Rattle.arc_index.specs.ArcIndex.{no_arc}
@@ -41,11 +41,14 @@ pub record MovedOn (tails heads ranks into : List ℕ) (v : ℕ) (into' : List �
   pub watch : Watch tails heads ranks into'
   pub others : (u : ℕ) → u ≢ v → entry into' u ≡ entry into u
 
--- The current arc e of v is now none, or an arc from a vertex without a rank.
-pub record Looked (tails heads ranks into : List ℕ) (v : ℕ) (into' : List ℕ) (e : ℕ) : Type 0 where
+-- The current arc of v is now none, or the arc e, which comes from a vertex without a rank.
+abbrev pub Current : List ℕ → List ℕ → List ℕ → ℕ → Option ℕ → Type 0
+Current tails ranks into v r = MatchOption r (no_arc ≤ entry into v) (λ e. (e ≡ entry into v) × (e < no_arc) × (entry ranks (entry tails e) ≡ 0))
+
+-- The current arc of v moved on to it.
+pub record Looked (tails heads ranks into : List ℕ) (v : ℕ) (into' : List ℕ) (r : Option ℕ) : Type 0 where
   pub moved : MovedOn tails heads ranks into v into'
-  pub current : e ≡ entry into' v
-  pub from : e < no_arc → entry ranks (entry tails e) ≡ 0
+  pub current : Current tails ranks into' v r
 
 -- ---- the path
 
@@ -111,15 +114,13 @@ pub record Ranking (tails heads ranks : List ℕ) (r : ℕ) : Type 0 where
 abbrev pub AllRanked : List ℕ → ℕ → Type 0
 AllRanked ranks v = (u : ℕ) → u < v → 0 < entry ranks u
 
--- v is the first vertex without a rank, or no vertex is without.
-pub record FirstUnranked (ranks : List ℕ) (v : ℕ) : Type 0 where
-  pub passed : AllRanked ranks v
-  pub none : v < length ranks → entry ranks v ≡ 0
+-- The first vertex without a rank, or none where every vertex has one.
+abbrev pub FirstUnranked : List ℕ → Option ℕ → Type 0
+FirstUnranked ranks r = MatchOption r (AllRanked ranks (length ranks)) (λ v. AllRanked ranks v × (v < length ranks) × (entry ranks v ≡ 0))
 
--- An order, where no vertex is left on the path; or a path that closes.
-pub record Searched (tails heads ranks into path spot : List ℕ) (len : ℕ) : Type 0 where
-  pub order : len ≡ 0 → Ordered tails heads ranks
-  pub cycle : 0 < len → ClosedPath (length ranks) tails heads into path spot len
+-- An order, or the length of a path that closes.
+abbrev pub Searched : List ℕ → List ℕ → List ℕ → List ℕ → List ℕ → List ℕ → Option ℕ → Type 0
+Searched tails heads ranks into path spot r = MatchOption r (Ordered tails heads ranks) (λ len. ClosedPath (length ranks) tails heads into path spot len)
 
 -- What comes of it: an order, and the marks as they were; or a cycle, and ranks 0.
 pub data OrderOrCycle (tails heads ranks marks ranks' marks' : List ℕ) : Found → Type 0 where

@@ -5,16 +5,12 @@ ghost use Rattle.arc_index.specs.Columns.{record_tails};
 
 use arc_records::arc_in;
 
-// What stands where there is no arc, as an index.
-pub const NONE: usize = arc_index::NO_ARC as usize;
-
 // The tail of the arc e.
 pub fn tail_at(e: usize, records: &[u32]) -> usize
     requires { e < length records.now }
     ensures { result ≡ entry (record_tails records.now) e }
 {
-    let arc = arc_in(records[e]);
-    arc.tail as usize
+    arc_in(records[e]).tail as usize
 }
 
 // The current arc of each vertex is its first one.
@@ -22,9 +18,6 @@ pub fn first_arcs(links: &[u16], into: &mut [u16])
     requires { length into.old ≤ length links.now }
     ensures { into.new ≡ take (length into.old) links.now }
 {
-    let mut v = 0;
-    while v < into.len() {
-        into[v] = links[v];
-        v += 1;
-    }
+    let n = into.len();
+    into.copy_from_slice(&links[..n]);
 }

@@ -4,10 +4,9 @@
 pub mod index;
 pub mod path;
 
-// What the search found: an order, a cycle, or that the input is not within the limits.
-#[derive(Clone, Copy)]
+// What the search found: an order, or a cycle.
+#[derive(Clone, Copy, Debug, PartialEq, Eq)]
 pub enum Found {
     Order,
     Cycle,
-    Refused,
 }

@@ -5,29 +5,26 @@ ghost use Rattle.packed_arcs.specs.Entries.{entry};
 ghost use Rattle.arc_index.specs.Columns.{record_tails, record_heads};
 ghost use Rattle.order_path.specs.Steps.{Chained, Watch, Looked, Searching, Pushed, Started, Climbed};
 
-use super::index::{NONE, tail_at};
-use packed_arcs::numbers::place;
+use super::index::tail_at;
+use arc_index::NO_ARC;
 
-// An arc into v from a vertex without a rank, or none: the current arc of v moves on to it, past arcs from vertices with a rank.
-fn look(v: usize, records: &[u32], links: &[u16], ranks: &[u32], into: &mut [u16]) -> usize
+// An arc into v from a vertex without a rank, if there is one: the current arc of v moves on to it, past arcs from vertices with a rank.
+fn look(v: usize, records: &[u32], links: &[u16], ranks: &[u32], into: &mut [u16]) -> Option<usize>
     requires chained { Chained (length ranks.now) (record_tails records.now) (record_heads records.now) links.now × (v < length ranks.now) }
     requires watch { Watch (record_tails records.now) (record_heads records.now) ranks.now into.old }
     ensures { Looked (record_tails records.now) (record_heads records.now) ranks.now into.old v into.new result }
 {
-    loop {
-        let e = place(into[v]);
-        if NONE <= e {
-            return e;
-        }
-        let u = tail_at(e, records);
-        if ranks[u] == 0 {
-            return e;
+    while into[v] < NO_ARC {
+        let e = usize::from(into[v]);
+        if ranks[tail_at(e, records)] == 0 {
+            return Some(e);
         }
         into[v] = links[256 + e];
     }
+    None
 }
 
-// Puts v at the end of a path of len vertices: how many there are then.
+// Puts v at the end of a path of len vertices: how many there are then. No heap, so the path is a lent array with its length beside it.
 fn push(v: usize, len: usize, path: &mut [usize], spot: &mut [usize]) -> usize
     requires { (len < length path.old) × (v < length spot.old) }
     ensures { Pushed v len path.old spot.old path.new spot.new result }
@@ -65,16 +62,12 @@ pub fn climb(
     ensures { Climbed (record_tails records.now) (record_heads records.now) ranks.now into.new path.new spot.new result }
 {
     let mut len = start(root, first, path, spot);
-    loop {
-        let top = path[len - 1];
-        let e = look(top, records, links, ranks, into);
-        if NONE <= e {
-            return len;
-        }
+    while let Some(e) = look(path[len - 1], records, links, ranks, into) {
         let w = tail_at(e, records);
         if 0 < spot[w] {
-            return len;
+            break;
         }
         len = push(w, len, path, spot);
     }
+    len
 }

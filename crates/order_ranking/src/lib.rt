@@ -10,22 +10,20 @@ use arc_index::{End, NO_ARC, index};
 use order_path::index::first_arcs;
 use order_path::path::climb;
 
-// The first vertex without a rank, or how many vertices there are, where every vertex below `from` has one.
-fn first_unranked(from: usize, ranks: &[u32]) -> usize
+// The first vertex without a rank, where every vertex below `from` has one.
+fn first_unranked(from: usize, ranks: &[u32]) -> Option<usize>
     requires { AllRanked ranks.now from }
     ensures { FirstUnranked ranks.now result }
 {
-    let mut v = from;
-    while v < ranks.len() {
+    for v in from..ranks.len() {
         if ranks[v] == 0 {
-            return v;
+            return Some(v);
         }
-        v += 1;
     }
-    v
+    None
 }
 
-// Ranks for the vertices, until all have one: 0; or until an arc enters the path's last vertex from the path: how many vertices are on it.
+// Ranks for the vertices, until all have one, or until an arc enters the path's last vertex from the path: then how many vertices are on it.
 fn rank_all(
     records: &[u32],
     links: &[u16],
@@ -33,7 +31,7 @@ fn rank_all(
     into: &mut [u16],
     path: &mut [usize],
     spot: &mut [usize],
-) -> usize
+) -> Option<usize>
     requires chained { Chained (length ranks.old) (record_tails records.now) (record_heads records.now) links.now × (into.old ≡ take (length ranks.old) links.now) }
     requires ranks_value { (ranks.old ≡ zero_list (length ranks.old)) × (length path.old ≡ length ranks.old) × (spot.old ≡ zero_list (length ranks.old)) }
     ensures { Searched (record_tails records.now) (record_heads records.now) ranks.new into.new path.new spot.new result }
@@ -41,24 +39,22 @@ fn rank_all(
     let mut r: u32 = 0;
     let mut root = 0;
     let mut len = 0;
-    loop {
-        root = first_unranked(root, ranks);
-        if ranks.len() <= root {
-            return 0;
-        }
+    while let Some(first) = first_unranked(root, ranks) {
+        root = first;
         len = climb(root, len, records, links, ranks, into, path, spot);
         let v = path[len - 1];
         if into[v] < NO_ARC {
-            return len;
+            return Some(len);
         }
         r += 1;
         ranks[v] = r;
         spot[v] = 0;
         len -= 1;
     }
+    None
 }
 
-// Indexes the arcs by head, and ranks the vertices: 0, or the length of a path that closes a cycle.
+// Indexes the arcs by head, and ranks the vertices; or the length of a path that closes a cycle.
 pub fn index_and_rank(
     records: &[u32],
     ranks: &mut [u32],
@@ -66,7 +62,7 @@ pub fn index_and_rank(
     into: &mut [u16],
     path: &mut [usize],
     spot: &mut [usize],
-) -> usize
+) -> Option<usize>
     requires arcs { Arcs (length ranks.old) (record_tails records.now) (record_heads records.now) × (length links.old ≡ 256 + length records.now) }
     requires ranks_value { (ranks.old ≡ zero_list (length ranks.old)) × (length into.old ≡ length ranks.old) × (length path.old ≡ length ranks.old) × (spot.old ≡ zero_list (length ranks.old)) }
     ensures { Searched (record_tails records.now) (record_heads records.now) ranks.new into.new path.new spot.new result }

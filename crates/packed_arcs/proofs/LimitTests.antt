@@ -1,13 +1,12 @@
 -- The tests of what a flow search is handed, and what it is to pass them.
-use mathlib.Core.Path.{◌≡◌, ap, ◌∙◌}
-use mathlib.Core.Bool.{true, false, ◌&&◌}
+use mathlib.Core.Path.{◌≡◌, ◌∙◌}
+use mathlib.Core.Bool.{true, ◌&&◌}
 use mathlib.Core.List.{List}
 use Prim.Native.Nat.{ℕ, ◌<◌, ◌≤◌}
 use native.Mathlib.Omega.{arith}
 use native.Mathlib.Decide.{dec_lt}
 use lib.Dec.{T, eqb, ltb, leb, eqb→eq, leb→le, ltb→lt}
 use lib.ListN.{length, length-map, get_or-eq_default}
-use borrow.Author.Tests.{lt-ltb, le-ltb}
 use Rattle.prelude.specs.Lists.{all}
 use Rattle.prelude.proofs.Booleans.{and_left, and_right, true→T}
 use Rattle.packed_arcs.specs.Entries.{entry}
@@ -15,19 +14,6 @@ use Rattle.packed_arcs.specs.PackedArcs.{tail_of, head_of, cost_of, tails_of, he
 use Rattle.packed_arcs.specs.Limits.{arc_fits, arcs_fit, is_free, sendable}
 use Rattle.packed_arcs.proofs.ListLoops.{each_entry}
 use Rattle.packed_arcs.proofs.ArcColumns.{tail_at, head_at, cost_at}
-
--- ---- the tests
-
--- one arc, whose tail a, head b and cost w were read
-module _ (n arc a b w : ℕ) where
-  pub tail_beyond : a ≡ tail_of arc → n ≤ a → false ≡ arc_fits n arc
-  tail_beyond ea h = rw (le-ltb (tail_of arc) n (omega arith))
-
-  pub head_beyond : a ≡ tail_of arc → a < n → b ≡ head_of arc → n ≤ b → false ≡ arc_fits n arc
-  head_beyond ea g eb h = rw (lt-ltb (tail_of arc) n (omega arith), le-ltb (head_of arc) n (omega arith))
-
-  pub cost_decides : a ≡ tail_of arc → a < n → b ≡ head_of arc → b < n → w ≡ cost_of arc → leb w 32767 ≡ arc_fits n arc
-  cost_decides ea g eb h ew = rw (lt-ltb (tail_of arc) n (omega arith), lt-ltb (head_of arc) n (omega arith)) (ap (λ (z : ℕ). leb z 32767) ew)
 
 -- ---- what it is to pass them
 

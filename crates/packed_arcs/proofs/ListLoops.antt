@@ -1,19 +1,18 @@
--- What loops over a list reach: an entry that was stored, a list that was written from its front or set to 0, and the test of every entry.
-use mathlib.Core.Path.{◌≡◌, refl, sym, ◌∙◌, ap, subst}
-use mathlib.Core.Bool.{Bool, true, false, ◌&&◌}
+-- What loops over a list reach: an entry that was stored, a list that was written from its front, and the test of every entry.
+use mathlib.Core.Path.{◌≡◌, sym, ◌∙◌, subst}
+use mathlib.Core.Bool.{Bool}
 use mathlib.Core.List.{List, [], ◌∷◌}
 use mathlib.Core.Logic.{◌⊎◌, inl, inr, ◌≢◌}
-use Prim.Native.Nat.{ℕ, zero, suc, ◌+◌, ◌≤◌, ◌<◌}
+use Prim.Native.Nat.{ℕ, zero, suc, ◌≤◌, ◌<◌}
 use native.Mathlib.Decide.{ℕ_discrete}
-use native.Mathlib.Numerals.{add-one}
 use native.Mathlib.Omega.{arith}
 use lib.Dec.{T}
-use lib.ListN.{length, get_or, set, drop, drop_of_length-le, length-replicate, get_or-replicate}
-use lib.Seq.{drop-cons, ext_get_or, get_or-set_same, get_or-set_other}
+use lib.ListN.{length, get_or, set}
+use lib.Seq.{ext_get_or, get_or-set_same, get_or-set_other}
 use Rattle.prelude.specs.Lists.{all}
 use Rattle.prelude.proofs.Booleans.{and_left, and_right}
-use Rattle.prelude.proofs.Filling.{Filling, fill_start, fill_turn}
-use Rattle.packed_arcs.specs.Entries.{entry, zero_list}
+use Rattle.prelude.proofs.Filling.{Filling}
+use Rattle.packed_arcs.specs.Entries.{entry}
 
 -- ---- an entry that was stored
 
@@ -32,41 +31,7 @@ pub filled_as : (g : ℕ → ℕ) (d : ℕ) (l₀ l m : List ℕ) (e : ℕ) → 
 filled_as g d l₀ l m e h k by F =
     ext_get_or d l m (F.len ∙ sym k) (λ i b. F.below i (omega (arith, F.len)) ∙ sym (by i (omega (arith, F.len))))
 
--- ---- a list that is set to 0
-
--- l is as long as l₀, and 0 below e
-abbrev pub Clearing : List ℕ → List ℕ → ℕ → Type 0
-Clearing l₀ l e = Filling (λ i x. x ≡ 0) 0 l₀ l e
-
-pub clear_start : (l₀ : List ℕ) → Clearing l₀ l₀ 0
-clear_start l₀ = fill_start (λ i x. x ≡ 0) 0 l₀
-
-pub clear_turn : (l₀ l : List ℕ) (e : ℕ) → e < length l → Clearing l₀ l e → Clearing l₀ (set l e 0) (e + 1)
-clear_turn l₀ l e h F = fill_turn (λ i x. x ≡ 0) 0 l₀ l e 0 (omega (arith, F.len)) refl F
-
-pub clear_end : (l₀ l : List ℕ) (e : ℕ) → length l ≤ e → Clearing l₀ l e → l ≡ zero_list (length l₀)
-clear_end l₀ l e h F =
-    let n = length l₀ in
-    filled_as (λ i. 0) 0 l₀ l (zero_list n) e (omega (arith, F.len)) (length-replicate n 0) (λ i b. get_or-replicate n i 0 0 b) F
-
 -- ---- the test of every entry
-
-module _ (p : ℕ → Bool) (l : List ℕ) where
-  -- the entries from e on decide
-  abbrev pub Undecided : ℕ → Type 0
-  Undecided e = all p (drop e l) ≡ all p l
-
-  first : (e : ℕ) → e < length l → all p (drop e l) ≡ (p (get_or l e 0) && all p (drop (suc e) l))
-  first e h = ap (λ (m : List ℕ). all p m) (drop-cons l e 0 h)
-
-  pub all_more : (e : ℕ) → e < length l → p (get_or l e 0) ≡ true → Undecided e → Undecided (e + 1)
-  all_more e h t q = rw add-one (sym (first e h ∙ ap (λ (b : Bool). b && all p (drop (suc e) l)) t) ∙ q)
-
-  pub all_fails : (e : ℕ) → e < length l → p (get_or l e 0) ≡ false → Undecided e → false ≡ all p l
-  all_fails e h t q = sym (first e h ∙ ap (λ (b : Bool). b && all p (drop (suc e) l)) t) ∙ q
-
-  pub all_end : (e : ℕ) → length l ≤ e → Undecided e → true ≡ all p l
-  all_end e h q = sym (ap (λ (m : List ℕ). all p m) (drop_of_length-le l h)) ∙ q
 
 -- where every entry passes, each one does
 pub each_entry : (p : ℕ → Bool) (l : List ℕ) → T (all p l) → (e : ℕ) → e < length l → T (p (entry l e))

@@ -1,7 +1,9 @@
-// Packed arcs: their columns, the limits of what flows take, and arrays set to 0.
+// Packed arcs: their columns, and the limits of what flows take.
 #![tactic(auto)]
 
 pub mod arcs;
-pub mod clearing;
 pub mod limits;
-pub mod numbers;
+
+// The input of a search is not within its limits.
+#[derive(Clone, Copy, Debug, PartialEq, Eq)]
+pub struct OutOfLimits;

@@ -9,42 +9,20 @@ use super::arcs::{cost_of, head_of, tail_of};
 fn arc_fits(n: usize, arc: u64) -> bool
     ensures { result ≡ arc_fits n arc }
 {
-    if n <= tail_of(arc) {
-        return false;
-    }
-    if n <= head_of(arc) {
-        return false;
-    }
-    cost_of(arc) <= 32767
+    tail_of(arc) < n && head_of(arc) < n && cost_of(arc) <= 32767
 }
 
 fn each_fits(n: usize, arcs: &[u64]) -> bool
     ensures { result ≡ all (arc_fits n) arcs.now }
 {
-    let mut e = 0;
-    while e < arcs.len() {
-        if !arc_fits(n, arcs[e]) {
-            return false;
-        }
-        e += 1;
-    }
-    true
+    arcs.iter().all(|arc| arc_fits(n, *arc))
 }
 
 // Are there few enough vertices and arcs, an amount for each arc, and does each arc fit?
 pub fn arcs_fit(arcs: &[u64], amounts: usize, n: usize) -> bool
     ensures { result ≡ arcs_fit arcs.now amounts n }
 {
-    if 255 < n {
-        return false;
-    }
-    if 4096 < arcs.len() {
-        return false;
-    }
-    if amounts != arcs.len() {
-        return false;
-    }
-    each_fits(n, arcs)
+    n <= 255 && arcs.len() <= 4096 && amounts == arcs.len() && each_fits(n, arcs)
 }
 
 fn costs_nothing(arc: u64) -> bool
@@ -57,25 +35,12 @@ fn costs_nothing(arc: u64) -> bool
 pub fn all_free(arcs: &[u64]) -> bool
     ensures { result ≡ all is_free arcs.now }
 {
-    let mut e = 0;
-    while e < arcs.len() {
-        if !costs_nothing(arcs[e]) {
-            return false;
-        }
-        e += 1;
-    }
-    true
+    arcs.iter().all(|arc| costs_nothing(*arc))
 }
 
 // Is this what `send` answers?
 pub fn is_sendable(arcs: &[u64], t: usize, amounts: usize, n: usize, keys: usize) -> bool
     ensures { result ≡ sendable arcs.now t amounts n keys }
 {
-    if n <= t {
-        return false;
-    }
-    if keys != n {
-        return false;
-    }
-    arcs_fit(arcs, amounts, n)
+    t < n && keys == n && arcs_fit(arcs, amounts, n)
 }

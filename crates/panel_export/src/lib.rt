@@ -3,35 +3,33 @@
 
 ghost use Rattle.std.specs.Prelude.{◌≡◌, length};
 ghost use Rattle.points.specs.Points.{pair};
-ghost use Rattle.state.specs.Answers.{said};
+ghost use Rattle.state.specs.Results.{verdict};
 ghost use Rattle.judging.specs.Judging.{judged};
 ghost use Rattle.format.specs.Replies.{writer_said};
 ghost use Rattle.helper.specs.Helper.{annotated, BufferAfter};
 ghost use Rattle.panel_export.specs.Codes.{said_code, reply_code};
 
-use format::Written;
 use points::Point;
-use state::Response;
+use refusals::Refusal;
 
 // An answer as one number: the value, 4294967296 for none, that plus k for the refusal k.
-fn answer_code(answer: Response) -> u64
-    ensures { result ≡ said_code (said answer) }
+fn answer_code(answer: Result<Option<u64>, Refusal>) -> u64
+    ensures { result ≡ said_code (verdict answer) }
 {
     match answer {
-        Response::Value(v) => v,
-        Response::None => 4294967296,
-        Response::Refused(k) => 4294967296 + (k as u64),
-        Response::Accepted => 4294967296 + 256,
+        Ok(Some(v)) => v,
+        Ok(None) => 4294967296,
+        Err(refusal) => 4294967296 + u64::from(u8::from(refusal)),
     }
 }
 
 // A reply of the helper as one number: the length, or 4294967296 plus k for the refusal k.
-fn written_code(written: Written) -> u64
+fn written_code(written: Result<u32, Refusal>) -> u64
     ensures { result ≡ reply_code (writer_said written) }
 {
     match written {
-        Written::Length(k) => k as u64,
-        Written::Refused(k) => 4294967296 + (k as u64),
+        Ok(k) => u64::from(k),
+        Err(refusal) => 4294967296 + u64::from(u8::from(refusal)),
     }
 }
 

@@ -1,5 +1,5 @@
 -- What the judging program prints, as a function of the bytes of its three files (PANEL 10).
-use Rattle.std.specs.Prelude.{List, [], ◌∷◌, ℕ, leb, length, take}
+use Rattle.std.specs.Prelude.{◌≡◌, List, [], ◌∷◌, ℕ, leb, length, take}
 use Rattle.prelude.specs.Choice.{pick}
 use Rattle.network.specs.Question.{value, none}
 use Rattle.points.specs.Points.{pair}
@@ -8,7 +8,7 @@ use Rattle.state.specs.Answers.{Said, accepted, gives, refused}
 use Rattle.file_fields.specs.Bytes.{read32}
 use Rattle.judging.specs.Judging.{judged}
 use Rattle.io.specs.Counts.{IsPrefixLen}
-use Rattle.program_io.specs.Line.{number_line, refused_line, LineIn}
+use Rattle.program_io.specs.Line.{number_line, refused_line}
 use Rattle.program_io.specs.Counted.{counted}
 use Rattle.plan_files.specs.declared.answer_line.Judged.{Judged}
 
@@ -31,10 +31,9 @@ answer_line accepted = []
 abbrev pub program_line : List ℕ → List ℕ → List ℕ → List ℕ
 program_line point net ann = answer_line (program_answer point net ann)
 
--- The three files were read into buffers, so many bytes of each, and the line for what was read stands at the front of the text's buffer.
-pub record JudgedFiles (point net ann before : List ℕ) (r : Judged) (after : List ℕ) : Type 0 where
+-- The three files were read into buffers, so many bytes of each, and the line is that for what was read.
+pub record JudgedFiles (point net ann : List ℕ) (r : Judged) : Type 0 where
   pub point_read : IsPrefixLen r.point point
   pub net_read : IsPrefixLen r.net net
   pub ann_read : IsPrefixLen r.ann ann
-  pub line_made : IsPrefixLen r.line after
-  pub line_is : LineIn (program_line (take r.point point) (take r.net net) (take r.ann ann)) before r.line after
+  pub line_is : r.line ≡ program_line (take r.point point) (take r.net net) (take r.ann ann)

@@ -8,7 +8,7 @@ use native.Mathlib.Omega.{arith}
 use lib.ListN.{length, take, length-map}
 use lib.Seq.{sets, length-sets}
 use borrow.Author.Tests.{eq-eqb, ne_eqb}
-use Rattle.io.specs.Counts.{IsPrefixLen}
+use Rattle.std.specs.Prelude.{Option}
 use Rattle.io.proofs.Counting.{prefix_len_of_le}
 use Rattle.format.proofs.LentRests.{sets_shift}
 use Rattle.tide_windows.specs.Windows.{Window, windows_in}
@@ -16,8 +16,6 @@ use Rattle.calendar.specs.Schedule.{schedule_reply, buffer_after}
 use Rattle.calendar.proofs.Promises.{first_decide}
 use Rattle.tide_table.specs.Text.{is_number, value}
 use Rattle.tide_table.specs.TideTable.{bad_line_of, windows_of, row_of}
-use Rattle.program_io.specs.Line.{LineIn}
-use Rattle.program_io.proofs.Lines.{same_in}
 use Rattle.program_io.specs.Counted.{counted}
 use Rattle.plan_schedules.specs.ScheduleLine.{Outcome, miscalled, untabled, bad_line, replied, windows_outcome, table_outcome, front_outcome, schedule_outcome, windows_buffer, table_buffer, front_buffer, schedule_buffer, outcome_line, DoneAs}
 use Rattle.plan_schedules.specs.declared.schedule_line.Done.{Done}
@@ -52,38 +50,36 @@ module _ (ws : List Window) (before after : List (List ℕ)) (n count : ℕ) (ro
 -- ---- what is done without the calendar
 
 -- nothing was read or written, and the line is that of the outcome
-pub undone : (outcome : List ℕ → Outcome) (buffer : List ℕ → List ℕ) (said : Outcome) (net out before : List ℕ) (k : ℕ) (r : Done) (after : List ℕ)
-    → outcome [] ≡ said → buffer [] ≡ out → r ≡ record { net = 0; saved = false; line = k } → IsPrefixLen k after → LineIn (outcome_line said false) before k after
-    → DoneAs outcome buffer net out before r after
-undone outcome buffer said net out before k r after is keeps nothing made line =
-    subst (λ (d : Done). DoneAs outcome buffer net out before d after) (sym nothing)
+pub undone : (outcome : List ℕ → Outcome) (buffer : List ℕ → List ℕ) (said : Outcome) (net out line : List ℕ) (r : Done)
+    → outcome [] ≡ said → buffer [] ≡ out → r ≡ record { net = 0; saved = false; line = line } → line ≡ outcome_line said false
+    → DoneAs outcome buffer net out r
+undone outcome buffer said net out line r is keeps nothing made =
+    subst (λ (d : Done). DoneAs outcome buffer net out d) (sym nothing)
     (record {
       net_read = prefix_len_of_le 0 net (omega arith);
       out_is = sym keeps;
-      line_made = made;
-      line_is = same_in before k after (ap (λ (o : Outcome). outcome_line o false) (sym is)) line;
+      line_is = made ∙ ap (λ (o : Outcome). outcome_line o false) (sym is);
     })
 
 -- what is done for one outcome is done for another that is the same
-pub done_same : (outcome outcome₂ : List ℕ → Outcome) (buffer buffer₂ : List ℕ → List ℕ) (net out before : List ℕ) (r : Done) (after : List ℕ)
+pub done_same : (outcome outcome₂ : List ℕ → Outcome) (buffer buffer₂ : List ℕ → List ℕ) (net out : List ℕ) (r : Done)
     → ((l : List ℕ) → outcome l ≡ outcome₂ l) → ((l : List ℕ) → buffer l ≡ buffer₂ l)
-    → DoneAs outcome buffer net out before r after → DoneAs outcome₂ buffer₂ net out before r after
-done_same outcome outcome₂ buffer buffer₂ net out before r after is keeps done =
+    → DoneAs outcome buffer net out r → DoneAs outcome₂ buffer₂ net out r
+done_same outcome outcome₂ buffer buffer₂ net out r is keeps done =
     let read = take r.net net in
     record {
       net_read = done.net_read;
       out_is = done.out_is ∙ keeps read;
-      line_made = done.line_made;
-      line_is = same_in before r.line after (ap (λ (o : Outcome). outcome_line o r.saved) (is read)) done.line_is;
+      line_is = done.line_is ∙ ap (λ (o : Outcome). outcome_line o r.saved) (is read);
     }
 
 -- ---- the outcomes, step by step
 
 module _ (table : List ℕ) (minute : ℕ) where
-  pub table_bad : (k : ℕ) → k ≡ bad_line_of table → (k ≡ 0 → ⊥) → (room : ℕ) (out net : List ℕ) → (table_outcome table minute room net ≡ bad_line k) × (table_buffer table minute out net ≡ out)
+  pub table_bad : (k : ℕ) → k ≡ bad_line_of table → (bad_line_of table ≡ 0 → ⊥) → (room : ℕ) (out net : List ℕ) → (table_outcome table minute room net ≡ bad_line k) × (table_buffer table minute out net ≡ out)
   unfolding table_outcome table_buffer
   table_bad k is n room out net =
-      let off = ne_eqb (bad_line_of table) 0 (λ e. n (is ∙ e)) in
+      let off = ne_eqb (bad_line_of table) 0 n in
       (rw off (ap bad_line (sym is)), rw off)
 
   -- the first 65 windows decide
@@ -97,24 +93,15 @@ module _ (table : List ℕ) (minute : ℕ) where
         ap (λ (l : List Window). buffer_after (counted net) l minute out) first ∙ decide.1 ∙ rw on,
       )
 
-module _ (is_table : Bool) (table : List ℕ) (minute : ℕ) (out net : List ℕ) where
-  pub front_missing : is_table ≡ false → (room : ℕ) → (front_outcome is_table table minute room net ≡ untabled) × (front_buffer is_table table minute out net ≡ out)
-  unfolding front_outcome front_buffer
-  front_missing off room = (rw off, rw off)
-
-  pub front_there : is_table ≡ true → (room : ℕ) → (table_outcome table minute room net ≡ front_outcome is_table table minute room net) × (table_buffer table minute out net ≡ front_buffer is_table table minute out net)
-  unfolding front_outcome front_buffer
-  front_there on room = (rw on, rw on)
-
-module _ (argument : List ℕ) (is_table : Bool) (table out net : List ℕ) (room : ℕ) where
-  pub not_called : is_number argument ≡ false → (schedule_outcome argument is_table table room net ≡ miscalled) × (schedule_buffer argument is_table table out net ≡ out)
+module _ (argument : List ℕ) (table : Option (List ℕ)) (out net : List ℕ) (room : ℕ) where
+  pub not_called : is_number argument ≡ false → (schedule_outcome argument table room net ≡ miscalled) × (schedule_buffer argument table out net ≡ out)
   unfolding schedule_outcome schedule_buffer
   not_called off = (rw off, rw off)
 
   pub called : (minute : ℕ) → is_number argument ≡ true → minute ≡ value argument
-      → (front_outcome is_table table minute room net ≡ schedule_outcome argument is_table table room net) × (front_buffer is_table table minute out net ≡ schedule_buffer argument is_table table out net)
+      → (front_outcome table minute room net ≡ schedule_outcome argument table room net) × (front_buffer table minute out net ≡ schedule_buffer argument table out net)
   unfolding schedule_outcome schedule_buffer
   called minute on is = (
-    ap (λ (t : ℕ). front_outcome is_table table t room net) is ∙ rw on,
-    ap (λ (t : ℕ). front_buffer is_table table t out net) is ∙ rw on,
+    ap (λ (t : ℕ). front_outcome table t room net) is ∙ rw on,
+    ap (λ (t : ℕ). front_buffer table t out net) is ∙ rw on,
   )

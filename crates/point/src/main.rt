@@ -5,8 +5,6 @@
 fn main(rt: HostRuntime) {
     let mut random = [0u8; 128];
     let mut file = [0u8; 8];
-    let mut text = [0u8; 32];
-    let made = point_draw::make_point(&rt, b"point.bin", &mut random, &mut file, &mut text);
-    let n = made.line;
-    io::write_all(1, &text[..n]);
+    let made = point_draw::make_point(&rt, b"point.bin", &mut random, &mut file);
+    io::write_all(1, made.line.as_bytes());
 }

@@ -6,11 +6,13 @@ use native.Mathlib.Nat.{add-zero, add-suc}
 use native.Mathlib.Omega.{arith}
 use lib.ListN.{length, take, drop, length-take, length-drop}
 use lib.Seq.{take_at, drop_at}
+use Rattle.std.specs.Prelude.{Option, Some, None}
+use Rattle.std.specs.Option.{option_zip}
 use Rattle.prelude.specs.Lists.{list_to}
 use Rattle.prelude.proofs.Lists.{list_to_length}
 use Rattle.file_fields.specs.Bytes.{read32}
 use Rattle.file_fields.proofs.Reading.{read32_front, read32_rest}
-use Rattle.point_draw.specs.Draw.{word_in, words_in}
+use Rattle.point_draw.specs.Draw.{word_in, words_in, paired}
 
 -- ---- lists of what is numbered from 0 on
 
@@ -42,7 +44,7 @@ module _ (random : List ℕ) (j h : ℕ) (part : h ≡ j * 4) (fits : h ≤ leng
   rest_word : (i : ℕ) → word_in random (j + i) ≡ word_in (drop h random) i
   rest_word i = let e : 4 * (j + i) ≡ h + 4 * i = omega arith in ap (read32 random) e ∙ sym (read32_rest random h (4 * i))
 
-  joined : words_in random ≡ words_in (take h random) ++ words_in (drop h random)
+  pub joined : words_in random ≡ words_in (take h random) ++ words_in (drop h random)
   joined =
       ap (λ (n : ℕ). list_to n (word_in random)) (sym count_rest)
       ∙ list_to_split j (length (drop h random) / 4) (word_in random)
@@ -56,3 +58,10 @@ module _ (random : List ℕ) (j h : ℕ) (part : h ≡ j * 4) (fits : h ≤ leng
 
   pub rest_words : words_in (drop h random) ≡ drop j (words_in random)
   rest_words = sym (ap (drop j) joined ∙ drop_at (words_in (take h random)) (words_in (drop h random)) j size_front)
+
+-- ---- two points
+
+pub zip_paired : (a b : Option ℕ) → option_zip a b ≡ paired a b
+zip_paired None b = refl
+zip_paired (Some r) None = refl
+zip_paired (Some r) (Some q) = refl

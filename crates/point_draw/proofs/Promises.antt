@@ -9,24 +9,23 @@ use native.Mathlib.Omega.{arith}
 use borrow.Author.Tests.{lt-ltb, ltb-true, eq-eqb, ne_eqb}
 use lib.Dec.{ltb, eqb}
 use lib.ListN.{length, take, drop}
+use Rattle.std.specs.Prelude.{Option, Some, None}
+use Rattle.std.proofs.lemmas.Option.{some_pair_parts}
 use Rattle.prelude.specs.Choice.{pick, indicator}
 use Rattle.prelude.specs.Sums.{sum_to}
 use Rattle.prelude.proofs.Sums.{sum_to_ext, sum_to_add, sum_to_none, sum_to_split}
 use Rattle.field.specs.Field.{p}
 use Rattle.file_fields.specs.Bytes.{read32, bytes32}
-use Rattle.point_draw.specs.declared.Drawn.{Drawn}
-use Rattle.point_draw.specs.declared.Drawn.TheVariants.{Point, Nothing}
-use Rattle.point_draw.specs.declared.DrawnPair.TheVariants.{Points}
 use Rattle.point_draw.specs.Draw.{low31, or_else, first_point, words_in, paired, first_pair}
 use Rattle.point_draw.specs.Promises.{DrawsPoints, is_drawn, words, count_lists, TwoWordsEach, NoOther, EquallyLikely, DrawsPairs, is_drawn_pair, PairsEquallyLikely}
 
 -- ---- what is drawn is a point
 
-below : (ws : List ℕ) (r : ℕ) → first_point ws ≡ Point r → r < p
+below : (ws : List ℕ) (r : ℕ) → first_point ws ≡ Some r → r < p
 below [] r e = let z : ◌≡◌ {A = ℕ} 0 1 = cc in absurd (omega arith)
 below (w ∷ ws) r e = go (ltb (low31 w) p) refl (below ws r) e
   where
-    go : (b : Bool) → ltb (low31 w) p ≡ b → (first_point ws ≡ Point r → r < p) → pick b (Point (low31 w)) (first_point ws) ≡ Point r → r < p
+    go : (b : Bool) → ltb (low31 w) p ≡ b → (first_point ws ≡ Some r → r < p) → pick b (Some (low31 w)) (first_point ws) ≡ Some r → r < p
     go true t later e = let same : low31 w ≡ r = cc in omega (arith, ltb-true (low31 w) p t)
     go false t later e = later e
 
@@ -39,11 +38,11 @@ draws_points random r e = (below (words_in random) r e, read_back r)
 -- ---- how many words give a point
 
 -- what a word of which k is the number and b says whether it is a point gives
-gives_on : (b : Bool) (k r : ℕ) → b ≡ true → k ≡ r → indicator (is_drawn r (pick b (Point k) Nothing)) ≡ 1
+gives_on : (b : Bool) (k r : ℕ) → b ≡ true → k ≡ r → indicator (is_drawn r (pick b (Some k) None)) ≡ 1
 gives_on true k r t e = ap indicator (eq-eqb k r e)
 gives_on false k r t e = absurd (let z : ◌≡◌ {A = ℕ} 0 1 = cc in omega arith)
 
-gives_off : (b : Bool) (k r : ℕ) → (b ≡ true → k ≡ r → ⊥) → indicator (is_drawn r (pick b (Point k) Nothing)) ≡ 0
+gives_off : (b : Bool) (k r : ℕ) → (b ≡ true → k ≡ r → ⊥) → indicator (is_drawn r (pick b (Some k) None)) ≡ 0
 gives_off true k r h = ap indicator (ne_eqb k r (h refl))
 gives_off false k r h = refl
 
@@ -59,7 +58,7 @@ one_counts (suc n) r g h one none = go (ℕ_discrete n r) (one_counts n r g)
 
 -- 1 for a word that gives r, else 0
 abbrev gives : ℕ → ℕ → ℕ
-gives r w = indicator (is_drawn r (or_else w Nothing))
+gives r w = indicator (is_drawn r (or_else w None))
 
 -- half of the words: each number of 31 bits stands once in their low bits
 abbrev half : ℕ
@@ -115,7 +114,7 @@ one_test k b = count_lists_ext k _ _ (λ ws. sym (and-true b)) ∙ one_test_and 
 
 -- the lists that begin with a word: all or none where it gives a point, and those whose rest draws r where it is dropped
 beginning : (k r w : ℕ) (b : Bool)
-    → count_lists k (λ ws. is_drawn r (pick b (Point w) (first_point ws))) ≡ indicator (is_drawn r (pick b (Point w) Nothing)) * lists k + pick b 0 (draws k r)
+    → count_lists k (λ ws. is_drawn r (pick b (Some w) (first_point ws))) ≡ indicator (is_drawn r (pick b (Some w) None)) * lists k + pick b 0 (draws k r)
 beginning k r w true = one_test k (eqb w r) ∙ omega arith
 beginning k r w false = omega arith
 
@@ -146,10 +145,10 @@ parts_counted (suc j) k f g =
     (sum_to_ext words _ (λ w. count_lists j (λ ws. f (w ∷ ws)) * count_lists k g) (λ w b. parts_counted j k (λ ws. f (w ∷ ws)) g)
     ∙ sum_to_scale words (λ w. count_lists j (λ ws. f (w ∷ ws))) (count_lists k g))
 
-paired_drawn : (r q : ℕ) (a b : Drawn) → is_drawn_pair r q (paired a b) ≡ (is_drawn r a && is_drawn q b)
-paired_drawn r q (Point k) (Point l) = refl
-paired_drawn r q (Point k) Nothing = sym (and-false (eqb k r))
-paired_drawn r q Nothing b = refl
+paired_drawn : (r q : ℕ) (a b : Option ℕ) → is_drawn_pair r q (paired a b) ≡ (is_drawn r a && is_drawn q b)
+paired_drawn r q (Some k) (Some l) = refl
+paired_drawn r q (Some k) None = sym (and-false (eqb k r))
+paired_drawn r q None b = refl
 
 pairs_counted : (j k r q : ℕ) → count_lists (j + k) (λ ws. is_drawn_pair r q (first_pair j ws)) ≡ draws j r * draws k q
 pairs_counted j k r q =
@@ -163,10 +162,10 @@ pairs_equally_likely j k r q s t hr hq hs ht =
 -- ---- what is drawn is a pair of points
 
 -- a pair is drawn where both of its points are
-paired_are : (a b : Drawn) (r q : ℕ) → paired a b ≡ Points r q → (a ≡ Point r) × (b ≡ Point q)
-paired_are (Point k) (Point l) r q e = (cc, cc)
-paired_are (Point k) Nothing r q e = let z : ◌≡◌ {A = ℕ} 0 1 = cc in absurd (omega arith)
-paired_are Nothing b r q e = let z : ◌≡◌ {A = ℕ} 0 1 = cc in absurd (omega arith)
+paired_are : (a b : Option ℕ) (r q : ℕ) → paired a b ≡ Some (r, q) → (a ≡ Some r) × (b ≡ Some q)
+paired_are (Some k) (Some l) r q e = let same = some_pair_parts k r l q e in (ap Some same.0, ap Some same.1)
+paired_are (Some k) None r q e = let z : ◌≡◌ {A = ℕ} 0 1 = cc in absurd (omega arith)
+paired_are None b r q e = let z : ◌≡◌ {A = ℕ} 0 1 = cc in absurd (omega arith)
 
 pub draws_pairs : DrawsPairs
 draws_pairs random r q e =

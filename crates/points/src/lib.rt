@@ -3,21 +3,23 @@
 
 ghost use Rattle.std.specs.Prelude.{◌≡◌, [], ◌∷◌, leb};
 ghost use Rattle.prelude.specs.Checks.{◌unless◌, first_broken};
+ghost use Rattle.refusals.specs.Refusals.{why};
 ghost use Rattle.arc_records.specs.Arcs.{arc_held};
 ghost use Rattle.network.specs.Network.{key};
 ghost use Rattle.points.specs.Points.{no_point, point_ok, empty_print, extend_print, same_print};
 
 use arc_records::Record;
+use refusals::Refusal;
 
 // The pair of points of a session: numbers below p, which may be equal.
-#[derive(Clone, Copy)]
+#[derive(Clone, Copy, PartialEq, Eq)]
 pub struct Point {
     pub first: u32,
     pub second: u32,
 }
 
 // What a list of arcs has at a pair: the product at each of its points, reduced.
-#[derive(Clone, Copy)]
+#[derive(Clone, Copy, PartialEq, Eq)]
 pub struct Print {
     pub first: u32,
     pub second: u32,
@@ -44,13 +46,10 @@ pub fn no_point() -> Point
 pub fn is_point(point: Point) -> bool
     ensures { result ≡ point_ok point }
 {
-    if !field::is_residue(point.first) {
-        return false;
-    }
-    field::is_residue(point.second)
+    field::is_residue(point.first) && field::is_residue(point.second)
 }
 
-// The fingerprint of no arc.
+// The fingerprint of no arc. (Two numbers as in the pair above, but another type and another meaning.)
 pub fn no_arcs() -> Print
     ensures { result ≡ empty_print }
 {
@@ -82,25 +81,22 @@ pub fn with_arc(point: Point, print: Print, arc: Record) -> Print
 fn is_same(read: Print, repeated: Print) -> bool
     ensures { result ≡ same_print read repeated }
 {
-    if read.first == repeated.first {
-        return read.second == repeated.second;
-    }
-    false
+    read == repeated
 }
 
-// The two lists of arcs at finishing: 0, or the number of the first check that refuses them, 13 or 14.
-pub fn lists_check(read: Stream, repeated: Stream) -> u8
-    ensures { result ≡ first_broken (13 unless leb read.count repeated.count ∷ 14 unless same_print read.print repeated.print ∷ []) }
+// The two lists of arcs at finishing: the first check that refuses them, 13 or 14.
+pub fn lists_check(read: Stream, repeated: Stream) -> Result<(), Refusal>
+    ensures { why result ≡ first_broken (13 unless leb read.count repeated.count ∷ 14 unless same_print read.print repeated.print ∷ []) }
 {
     let m = read.count;
     let count = repeated.count;
     let first = read.print;
     let second = repeated.print;
     if count < m {
-        return 13;
+        return Err(Refusal::ArcsMissing);
     }
     if !is_same(first, second) {
-        return 14;
+        return Err(Refusal::FingerprintsDiffer);
     }
-    0
+    Ok(())
 }

@@ -4,9 +4,9 @@ pub mod Settle
 pub mod Booleans
 pub mod Integers
 pub mod Lists
-pub mod Searches
 pub mod Permutations
 pub mod Sums
 pub mod Counts
 pub mod Bounds
 pub mod Filling
+pub mod SliceTests

@@ -1,46 +1,13 @@
--- Lines in a buffer: a text behind a text, and the decimal digits of a number.
-use mathlib.Core.Path.{◌≡◌, refl, sym, ap, ap₂, ◌∙◌, subst}
+-- The decimal digits of a number.
+use mathlib.Core.Path.{◌≡◌, ap, subst}
 use mathlib.Core.List.{List, [], ◌∷◌, ◌++◌}
-use Prim.Native.Nat.{ℕ, zero, suc, ◌+◌, ◌/◌, ◌%◌, ◌^◌, ◌≤◌, ◌<◌}
+use Prim.Native.Nat.{ℕ, zero, suc, ◌-◌, ◌/◌, ◌%◌, ◌^◌, ◌≤◌, ◌<◌}
 use native.Mathlib.Decide.{dec_le}
-use native.Mathlib.Nat.{pow-suc}
+use native.Mathlib.Nat.{pow-suc, le_of_suc-le-suc, lt_of_not-le, pow-le-pow_right}
 use native.Mathlib.Omega.{arith}
-use lib.ListN.{length, take, drop, length-append}
-use lib.Seq.{paste, take_at, take-length, drop-append-add, drop-drop}
 use Rattle.io.specs.Digits.{hex_digit_ascii, last_digits, IsDigitCount}
 use Rattle.prelude.proofs.Choice.{ltb_on, ltb_off}
-use Rattle.program_io.specs.Line.{decimal_to, decimal, LineIn}
-
--- ---- texts
-
--- nothing stands in a buffer that is as it was
-pub none_in : (before : List ℕ) → LineIn [] before 0 before
-none_in before = record { size = refl; bytes = refl }
-
-pub same_in : {t u : List ℕ} (before : List ℕ) (r : ℕ) (after : List ℕ) → t ≡ u → LineIn t before r after → LineIn u before r after
-same_in before r after e w = subst (λ (t : List ℕ). LineIn t before r after) e w
-
--- a text behind a text
-pub more_in : (t s before : List ℕ) (at r : ℕ) (b after : List ℕ) → LineIn t before at b → r ≡ at + length s → after ≡ paste b at s (length s) → LineIn (t ++ s) before r after
-more_in t s before at r b after w e h = record { size = size; bytes = h ∙ pasted }
-  where
-    size : r ≡ length (t ++ s)
-    size = e ∙ ap (λ (k : ℕ). k + length s) w.size ∙ sym (length-append t s)
-
-    front : take at b ≡ t
-    front = ap (take at) w.bytes ∙ take_at t (drop (length t) before) at (sym w.size)
-
-    back : drop (at + length s) b ≡ drop (length (t ++ s)) before
-    back =
-        ap₂ (λ (k : ℕ) (l : List ℕ). drop (k + length s) l) w.size w.bytes
-        ∙ drop-append-add t (drop (length t) before) (length s)
-        ∙ drop-drop (length s) (length t) before
-        ∙ ap (λ (k : ℕ). drop k before) (sym (length-append t s))
-
-    pasted : paste b at s (length s) ≡ t ++ s ++ drop (length (t ++ s)) before
-    pasted =
-        ap₂ (λ (u v : List ℕ). u ++ take (length s) s ++ v) front back
-        ∙ ap (λ (u : List ℕ). t ++ u ++ drop (length (t ++ s)) before) (take-length s)
+use Rattle.program_io.specs.Line.{decimal_to, decimal}
 
 -- ---- digits
 
@@ -80,3 +47,13 @@ decimal_digits n (suc k) w = decimal_to_lem k (suc n) n w (few (dec_le (suc k) 1
     few (no h) =
         let high : 10 ^ k ≤ n = subst (λ (j : ℕ). 10 ^ j ≤ n) (omega arith) (w.2 (omega arith)) in
         omega (arith, below_power k)
+
+-- no more than twenty digits hold a number of 64 bits
+pub few_digits : (n k : ℕ) → n < 2 ^ 64 → IsDigitCount 10 1 n k → k ≤ 20
+few_digits n k small fewest = le_of_suc-le-suc (lt_of_not-le more)
+  where
+    more : 20 < k → ⊥
+    more over =
+        let p : 10 ^ (k - 1) ≤ n = fewest.2 (omega arith) in
+        let q : 10 ^ 20 ≤ 10 ^ (k - 1) = pow-le-pow_right {n = 10} (omega arith) {i = 20} {j = k - 1} (omega arith) in
+        omega arith

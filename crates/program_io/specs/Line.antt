@@ -1,5 +1,5 @@
--- The lines that the programs print, as lists of bytes, and a line in a lent buffer (PANEL 10).
-use Rattle.std.specs.Prelude.{◌≡◌, Bool, List, [], ◌∷◌, ◌++◌, ℕ, zero, suc, ◌/◌, ◌%◌, ltb, leb, length, drop}
+-- The lines that the programs print, as lists of bytes (PANEL 10).
+use Rattle.std.specs.Prelude.{Bool, List, [], ◌∷◌, ◌++◌, ℕ, zero, suc, ◌/◌, ◌%◌, ltb, leb, length}
 use Rattle.io.specs.Digits.{hex_digit_ascii}
 use Rattle.prelude.specs.Choice.{pick}
 
@@ -33,8 +33,3 @@ fitting_text text = pick (leb (length text) 32) text []
 
 abbrev pub fitting_line : List ℕ → ℕ → List ℕ
 fitting_line word n = pick (leb (length word) 11) (number_line word n) []
-
--- The text stands at the front of a buffer, r is its length, and the bytes behind it are as they were.
-pub record LineIn (text before : List ℕ) (r : ℕ) (after : List ℕ) : Type 0 where
-  pub size : r ≡ length text
-  pub bytes : after ≡ text ++ drop (length text) before

@@ -1,15 +1,10 @@
 // How much of a file counts.
-ghost use Rattle.std.specs.Prelude.{◌≡◌, take};
-ghost use Rattle.io.specs.Counts.{IsPrefixLen};
-ghost use Rattle.program_io.specs.Counted.{counted as in_room};
+ghost use Rattle.std.specs.Prelude.{◌≡◌};
+ghost use Rattle.program_io.specs.Counted.{counted};
 
-// How many bytes of the file count.
-pub fn counted(file: &[u8]) -> usize
-    ensures prefix_len { IsPrefixLen result file.now }
-    ensures file_value { take result file.now ≡ in_room file.now }
+// The bytes of the file that count.
+pub fn counted(file: &[u8]) -> &[u8]
+    ensures { result.now ≡ counted file.now }
 {
-    if file.len() < 32768 {
-        return file.len();
-    }
-    32768
+    &file[..file.len().min(32768)]
 }

@@ -1,9 +1,9 @@
 // The front of a file, read into a lent buffer.
-ghost use Rattle.std.specs.Prelude.{◌≡◌, length};
+ghost use Rattle.std.specs.Prelude.{◌≡◌, length, IfOk, IfSome};
 ghost use Rattle.io.specs.Counts.{IsPrefixLen};
 
 use std::fs::{File, Files};
-use std::io::Read;
+use std::io::{self, Read};
 use std::str;
 
 // Room for the bytes of a file that count.
@@ -13,73 +13,36 @@ pub fn room() -> [u8; 32768]
     [0; 32768]
 }
 
-// What came of reading the front of a file: whether it could be read, and how many bytes came. Of a file that could not be read none count.
-#[derive(Clone, Copy)]
-pub struct Front {
-    pub is_read: bool,
-    pub size: usize,
-}
-
-// Of a file that cannot be read nothing counts.
-fn unread() -> Front
-    ensures { result.size ≡ 0 }
-{
-    Front {
-        is_read: false,
-        size: 0,
-    }
-}
-
-// Fills the buffer until the file ends, or until a read fails.
-fn fill<F: Read>(file: &mut F, buffer: &mut [u8]) -> Front
-    ensures { IsPrefixLen result.size buffer.new }
+// Fills the buffer until the file ends, and answers how many bytes that is; an error where a read fails. The loop counts no index: each
+// read says how far it came.
+fn fill<F: Read>(file: &mut F, buffer: &mut [u8]) -> io::Result<usize>
+    ensures { IfOk result (λ n. IsPrefixLen n buffer.new) }
 {
     let mut n = 0;
     while n < buffer.len() {
-        let Ok(more) = file.read(&mut buffer[n..]) else {
-            return unread();
-        };
+        let more = file.read(&mut buffer[n..])?;
         if more == 0 {
-            return Front {
-                is_read: true,
-                size: n,
-            };
+            break;
         }
         n += more;
     }
-    Front {
-        is_read: true,
-        size: n,
-    }
+    Ok(n)
 }
 
-// Puts the front of the file into the buffer. A file whose name is not in UTF-8 cannot be read.
-pub fn read_file<R: Files>(files: &R, name: &[u8], buffer: &mut [u8]) -> Front
-    ensures { IsPrefixLen result.size buffer.new }
+// Puts the front of the file into the buffer, and answers how many bytes that is; none for a file that cannot be read. A length and no
+// slice: of a buffer that is lent on in the result a clause cannot name what it holds. Names are any bytes, as for the programs' libraries
+// (plan_files, plan_annotations, plan_schedules and point_draw take no fewer): a file whose name is not in UTF-8 cannot be read.
+pub fn read_file<R: Files>(files: &R, name: &[u8], buffer: &mut [u8]) -> Option<usize>
+    ensures { IfSome result (λ n. IsPrefixLen n buffer.new) }
 {
-    let Ok(path) = str::from_utf8(name) else {
-        return unread();
-    };
-    let Ok(mut file) = File::open(files, path) else {
-        return unread();
-    };
-    fill(&mut file, buffer)
+    let path = str::from_utf8(name).ok()?;
+    let mut file = File::open(files, path).ok()?;
+    fill(&mut file, buffer).ok()
 }
 
-// Puts the front of the file into the buffer, and answers how many bytes that is. A file that cannot be read counts as empty.
+// The same, where a file that cannot be read counts as empty.
 pub fn read_front<R: Files>(files: &R, name: &[u8], buffer: &mut [u8]) -> usize
     ensures { IsPrefixLen result buffer.new }
 {
-    let front = read_file(files, name, buffer);
-    front.size
-}
-
-// The same where the file is wanted, else nothing: it is not opened.
-pub fn read_if<R: Files>(files: &R, is_wanted: bool, name: &[u8], buffer: &mut [u8]) -> usize
-    ensures { IsPrefixLen result buffer.new }
-{
-    if is_wanted {
-        return read_front(files, name, buffer);
-    }
-    0
+    read_file(files, name, buffer).unwrap_or(0)
 }

@@ -1,73 +1,107 @@
-// A line of text, made in a lent buffer and then printed.
-ghost use Rattle.std.specs.Prelude.{◌≡◌, ◌+◌, ◌≤◌, length};
-ghost use Rattle.std.proofs.Math.Seq.{paste};
-ghost use Rattle.io.specs.Counts.{IsPrefixLen};
-ghost use Rattle.program_io.specs.Line.{number_line, refused_line, saved_line, fitting_text, fitting_line, LineIn};
+// Text in fixed memory, and the lines that the programs print.
+ghost use Rattle.std.specs.Prelude.{◌≡◌, ◌+◌, ◌≤◌, ℕ, List, [], ◌++◌, length, take};
+ghost use Rattle.program_io.specs.Line.{decimal, number_line, refused_line, saved_line, fitting_text, fitting_line};
 
-// Copies the text into the buffer from `at` on, and answers where it ends.
-pub(crate) fn put(text: &[u8], buffer: &mut [u8], at: usize) -> usize
-    requires { at + length text.now ≤ length buffer.old }
-    ensures value { result ≡ at + length text.now }
-    ensures buffer_after { buffer.new ≡ paste buffer.old at text.now (length text.now) }
-{
-    let mut i = 0;
-    while i < text.len() {
-        buffer[at + i] = text[i];
-        i += 1;
+use std::marker::Model;
+
+// A text of at most N bytes: no heap, so no String.
+#[derive(Drop)]
+pub struct Text<const N: usize> {
+    bytes: [u8; N],
+    length: usize,
+}
+
+impl<const N: usize> Model for Text<N> {
+    ghost Value = { List ℕ };
+
+    ghost view = { λ t. take t.length t.bytes };
+
+    ghost invariant = { λ t. t.length ≤ N };
+}
+
+// A line holds a word of eleven bytes, a number of 64 bits and a line end.
+pub type Line = Text<32>;
+
+impl<const N: usize> Text<N> {
+    pub(crate) fn new() -> Self
+        ensures { result ≡ [] }
+    {
+        Text {
+            bytes: [0; N],
+            length: 0,
+        }
     }
-    at + i
-}
 
-// The text at the front of the line, and how long it is; 0 for a text that is longer than a line.
-pub fn plain(text: &[u8], line: &mut [u8; 32]) -> usize
-    ensures prefix_len { IsPrefixLen result line.new }
-    ensures line_in { LineIn (fitting_text text.now) line.old result line.new }
-{
-    if 32 < text.len() {
-        return 0;
+    // The bytes of the text.
+    pub fn as_bytes(&self) -> &[u8]
+        ensures { result.now ≡ self.now }
+    {
+        &self.bytes[..self.length]
     }
-    put(text, line, 0)
-}
 
-// The word, the number in decimal and a line end at the front of the line, and how long that is.
-fn spelled(word: &[u8], n: u64, line: &mut [u8; 32]) -> usize
-    requires { length word.now ≤ 11 }
-    ensures prefix_len { IsPrefixLen result line.new }
-    ensures line_in { LineIn (number_line word.now n) line.old result line.new }
-{
-    let mut digits = [0u8; 20];
-    let k = io::decimal(n, &mut digits);
-    let at = put(word, line, 0);
-    let end = put(&digits[..k], line, at);
-    put(b"\n", line, end)
-}
-
-// The same for any word; 0 for one that leaves too little room.
-pub fn numbered(word: &[u8], n: u64, line: &mut [u8; 32]) -> usize
-    ensures prefix_len { IsPrefixLen result line.new }
-    ensures line_in { LineIn (fitting_line word.now n) line.old result line.new }
-{
-    if 11 < word.len() {
-        return 0;
+    // Puts the bytes behind the text.
+    pub(crate) fn push(&mut self, bytes: &[u8])
+        requires { length self.old + length bytes.now ≤ N }
+        ensures { self.new ≡ self.old ++ bytes.now }
+    {
+        let end = self.length + bytes.len();
+        let room = &mut self.bytes[..];
+        room[self.length..end].copy_from_slice(bytes);
+        self.length = end;
     }
-    spelled(word, n, line)
-}
 
-// The line of a refusal, and how long it is.
-pub fn refused(k: u8, line: &mut [u8; 32]) -> usize
-    ensures prefix_len { IsPrefixLen result line.new }
-    ensures line_in { LineIn (refused_line k) line.old result line.new }
-{
-    numbered(b"refused ", k as u64, line)
-}
-
-// The line for a file of so many bytes that was saved or not, and how long it is.
-pub fn saved(size: u32, done: bool, line: &mut [u8; 32]) -> usize
-    ensures prefix_len { IsPrefixLen result line.new }
-    ensures line_in { LineIn (saved_line size done) line.old result line.new }
-{
-    if done {
-        return numbered(b"written ", size as u64, line);
+    // Puts the number in decimal behind the text.
+    #[tactic(auto, using(crate::proofs::Lines::decimal_digits, crate::proofs::Lines::few_digits))]
+    pub(crate) fn push_decimal(&mut self, n: u64)
+        requires { length self.old + 20 ≤ N }
+        ensures text { self.new ≡ self.old ++ decimal n }
+        ensures digits { length self.new ≤ length self.old + 20 }
+    {
+        let mut digits = [0u8; 20];
+        let k = io::decimal(n, &mut digits);
+        self.push(&digits[..k]);
     }
-    plain(b"not written\n", line)
+}
+
+impl Line {
+    // The text; none where it is longer than a line.
+    pub fn plain(text: &[u8]) -> Line
+        ensures { result ≡ fitting_text text.now }
+    {
+        let mut line = Line::new();
+        if text.len() <= 32 {
+            line.push(text);
+        }
+        line
+    }
+
+    // The word, the number in decimal and a line end; nothing where the word leaves too little room.
+    pub fn numbered(word: &[u8], n: u64) -> Line
+        ensures { result ≡ fitting_line word.now n }
+    {
+        let mut line = Line::new();
+        if word.len() <= 11 {
+            line.push(word);
+            line.push_decimal(n);
+            line.push(b"\n");
+        }
+        line
+    }
+
+    // The line of a refusal.
+    pub fn refused(k: u8) -> Line
+        ensures { result ≡ refused_line k }
+    {
+        Line::numbered(b"refused ", u64::from(k))
+    }
+
+    // The line for a file of so many bytes that was saved or not.
+    pub fn saved(size: u32, done: bool) -> Line
+        ensures { result ≡ saved_line size done }
+    {
+        if done {
+            return Line::numbered(b"written ", u64::from(size));
+        }
+        Line::plain(b"not written\n")
+    }
 }

@@ -1,38 +1,35 @@
 // Bytes saved in a file that appears whole or not at all.
 ghost use Rattle.std.specs.Prelude.{◌≤◌, length};
-ghost use Rattle.io.specs.Counts.{IsPrefixLen};
 
-use super::line::put;
+use super::line::Text;
 use std::fs::{Files, OpenFile, OpenOptions, Permissions};
-use std::io::{ErrorKind, Write};
+use std::io::{self, ErrorKind, Write};
 use std::os::unix::fs::{OpenOptionsExt, PermissionsExt};
 use std::{fs, str};
 
 // How many names of new files are tried, one after the other.
 const TRIES: u32 = 1000000;
 
-// Writes the bytes to the open file, waits until they last and closes it; whether all went well until they lasted.
-fn write_out<F: Write + OpenFile + Drop>(mut file: F, bytes: &[u8], mode: u32) -> bool {
-    let is_set = file.set_permissions(Permissions::from_mode(mode)).is_ok();
-    let is_written = file.write_all(bytes).is_ok();
-    let lasts = file.sync_all().is_ok();
-    is_set && is_written && lasts
+// Writes the bytes to the open file, waits until they last and closes it.
+fn write_out<F: Write + OpenFile + Drop>(mut file: F, bytes: &[u8], mode: u32) -> io::Result<()> {
+    file.set_permissions(Permissions::from_mode(mode))?;
+    file.write_all(bytes)?;
+    file.sync_all()
 }
 
-// The name of a new file beside the named one, by a number, and how long it is.
-fn beside(name: &[u8], number: u32, space: &mut [u8; 4096]) -> usize
+// The name of a new file beside the named one, by a number.
+fn beside(name: &[u8], number: u32) -> Text<4096>
     requires { length name.now ≤ 4000 }
-    ensures { IsPrefixLen result space.new }
 {
-    let mut digits = [0u8; 20];
-    let k = io::decimal(number as u64, &mut digits);
-    let at = put(name, space, 0);
-    let end = put(b".", space, at);
-    put(&digits[..k], space, end)
+    let mut temp = Text::new();
+    temp.push(name);
+    temp.push(b".");
+    temp.push_decimal(u64::from(number));
+    temp
 }
 
 // Makes a file that was not there, for its owner alone.
-fn create_new<R: Files>(files: &R, name: &str) -> std::io::Result<R::File> {
+fn create_new<R: Files>(files: &R, name: &str) -> io::Result<R::File> {
     OpenOptions::new()
         .write(true)
         .create_new(true)
@@ -48,39 +45,30 @@ fn save_by<R: Files>(
     name: &str,
     bytes: &[u8],
     mode: u32,
-) -> bool {
-    if write_out(file, bytes, mode) {
-        if fs::rename(files, temp, name).is_ok() {
-            return true;
-        }
+) -> io::Result<()> {
+    let saved = write_out(file, bytes, mode).and_then(|_| fs::rename(files, temp, name));
+    if saved.is_err() {
+        let _ = fs::remove_file(files, temp);
     }
-    let _ = fs::remove_file(files, temp);
-    false
+    saved
 }
 
-// Makes a file of these bytes, with the mode, and gives it the name, in place of any older file of that name; whether it did. The bytes go
-// into a new file first, so that an older one stays as it was where something fails. No file gets a name that is not in UTF-8.
-pub fn save<R: Files>(files: &R, name: &[u8], bytes: &[u8], mode: u32) -> bool {
+// Makes a file of these bytes, with the mode, and gives it the name, in place of any older file of that name. The bytes go into a new file
+// first, so that an older one stays as it was where something fails. Names are any bytes, as in `front`: no file gets one that is
+// not in UTF-8.
+pub fn save<R: Files>(files: &R, name: &[u8], bytes: &[u8], mode: u32) -> io::Result<()> {
     if 4000 < name.len() {
-        return false;
+        return Err(ErrorKind::InvalidFilename.into());
     }
-    let Ok(path) = str::from_utf8(name) else {
-        return false;
-    };
+    let path = str::from_utf8(name).map_err(|_| ErrorKind::InvalidFilename)?;
     for number in 0..TRIES {
-        let mut space = io::buffer();
-        let n = beside(name, number, &mut space);
-        let Ok(temp) = str::from_utf8(&space[..n]) else {
-            return false;
-        };
+        let space = beside(name, number);
+        let temp = str::from_utf8(space.as_bytes()).map_err(|_| ErrorKind::InvalidFilename)?;
         match create_new(files, temp) {
             Ok(file) => return save_by(files, file, temp, path, bytes, mode),
-            Err(e) => {
-                if e.kind() != ErrorKind::AlreadyExists {
-                    return false;
-                }
-            }
+            Err(e) if e.kind() == ErrorKind::AlreadyExists => {}
+            Err(e) => return Err(e),
         }
     }
-    false
+    Err(ErrorKind::AlreadyExists.into())
 }

@@ -12,43 +12,41 @@ mod tally;
 mod trial;
 mod twists;
 
-use reference::instances::network;
-use testing::numbers::at;
-use testing::print;
-use testing::tally::Tally;
+use reference::instances::{QUESTIONS, Question, network};
+use std::io;
+use tally::Tally;
 
-// How many networks there are for each question; of every 64 two have all 4096 records.
+// How many networks there are for each question; of every 64 two have all 4096 arcs.
 const COUNT: usize = 1920;
 
 // One network; names its seed if it is wrong.
-fn turn(question: usize, seed: usize, tally: &mut Tally) {
-    let before = at(tally, tally::WRONG);
-    trial::run(network(question, seed), tally);
-    if before < at(tally, tally::WRONG) {
-        print::number(b"wrong: ", seed);
+fn turn<R: Print + AllocGlobal>(
+    rt: &R,
+    question: Question,
+    seed: usize,
+    tally: &mut Tally,
+) -> io::Result<()> {
+    let before = tally.wrong;
+    trial::run(rt.alloc(), network(question, seed), tally)?;
+    if before < tally.wrong {
+        print!(rt; "wrong: {seed}")?;
     }
+    Ok(())
 }
 
 // All networks of one question.
-fn all(question: usize, tally: &mut Tally) {
-    let mut seed: usize = 0;
-    while seed < COUNT {
-        turn(question, seed, tally);
-        seed += 1;
+fn ask<R: Print + AllocGlobal>(rt: &R, names: &str, question: Question) -> io::Result<()> {
+    let mut tally = Tally::new();
+    for seed in 0..COUNT {
+        turn(rt, question, seed, &mut tally)?;
     }
+    tally.show(rt, names, question)
 }
 
-fn question(names: &[u8], number: u32) {
-    let mut tally = [0usize; 64];
-    all(number as usize, &mut tally);
-    tally::show(names, number, &tally);
-}
-
-fn main() {
-    let mut input = io::buffer();
-    let n = io::read_full(0, &mut input);
-    question(&input[..n], 1);
-    question(&input[..n], 2);
-    question(&input[..n], 3);
-    question(&input[..n], 4);
+fn main(rt: HostRuntime) -> io::Result<()> {
+    let names = io::read_to_string(rt.alloc(), rt.reader())?;
+    for question in QUESTIONS.iter() {
+        ask(&rt, names.as_str(), *question)?;
+    }
+    Ok(())
 }

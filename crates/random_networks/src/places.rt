@@ -1,67 +1,79 @@
-// What is known of a network besides its files, the pairs of points to judge at, and what judging says there as one number.
-use super::annotations::record_at;
+// What is known of a network besides its files, the pairs of points to judge at, and what judging says there.
+use judging::judge;
 use points::Point;
+use reference::arcs::Arc;
 use reference::instances::Net;
-use reference::network_files::size;
 use reference::random::below;
-use test_calls::judged_files::{judged, pair};
-use testing::files::{Files, START};
-use testing::numbers::{minus, plus};
+use testing::answers::Judged;
 
-// Its question, how many vertices it has, its source or the number of its pumps, how many records it has, its seed, the key of one of its
-// records, and its true answer.
+// The network, one of its arcs, and its true answer.
 #[derive(Clone, Copy)]
 pub struct Case {
-    pub question: usize,
-    pub n: usize,
-    pub s: usize,
-    pub m: usize,
-    pub seed: usize,
-    pub key: usize,
-    pub answer: usize,
+    pub net: Net,
+    pub arc: Arc,
+    pub answer: Option<u64>,
 }
 
-pub fn known(net: Net, key: usize, answer: usize) -> Case {
-    Case {
-        question: net.question,
-        n: net.n,
-        s: net.s,
-        m: net.m,
-        seed: net.seed,
-        key: key,
-        answer: answer,
+impl Case {
+    // A number below the limit that looks random, for a round and a purpose.
+    pub fn below(self, limit: usize, round: usize, purpose: usize) -> usize {
+        below(limit, self.net.seed, round, purpose)
+    }
+
+    // A point that looks random.
+    pub fn any_point(self, place: usize) -> u32 {
+        (self.below(2147483647, place, 5) & 0xffffffff) as u32
+    }
+
+    // Two of them.
+    pub fn any_pair(self, place: usize) -> Point {
+        Point {
+            first: self.any_point(place),
+            second: self.any_point(place.saturating_add(64)),
+        }
+    }
+
+    // The key of the arc twice, where both products are 0.
+    pub fn key_twice(self) -> Point {
+        let key = self.arc.key();
+        Point {
+            first: key,
+            second: key,
+        }
     }
 }
 
-// How long an annotation is.
-pub fn annotation_size(n: usize, m: usize) -> usize {
-    minus(record_at(n, m), START)
+// How many pairs of points every annotation is judged at.
+pub const PAIRS: usize = 6;
+
+// 0 and p - 1, 1 twice, p - 1 and any, the key of an arc, at which the product is 0, and any, that key twice, and any two.
+pub fn pairs(c: Case) -> [Point; PAIRS] {
+    [
+        Point {
+            first: 0,
+            second: 2147483646,
+        },
+        Point {
+            first: 1,
+            second: 1,
+        },
+        Point {
+            first: 2147483646,
+            second: c.any_point(2),
+        },
+        Point {
+            first: c.arc.key(),
+            second: c.any_point(3),
+        },
+        c.key_twice(),
+        c.any_pair(5),
+    ]
 }
 
-// What comes of judging, with an annotation of m records.
-pub fn judged_with(c: Case, f: &Files, m: usize, point: Point) -> usize {
-    judged(f, size(c.m), annotation_size(c.n, m), point)
-}
-
-// A point that looks random.
-pub fn any_point(seed: usize, place: usize) -> usize {
-    below(2147483647, seed, place, 5)
-}
-
-// Two of them.
-pub fn any_pair(seed: usize, place: usize) -> Point {
-    pair(any_point(seed, place), any_point(seed, plus(place, 64)))
-}
-
-// 0 and p - 1, 1 twice, p - 1 and any, the key of a record, at which the product is 0, and any, that key twice, and any two.
-pub fn pair_at(c: Case, i: usize) -> Point {
-    let any = any_point(c.seed, i);
-    match i {
-        0 => pair(0, 2147483646),
-        1 => pair(1, 1),
-        2 => pair(2147483646, any),
-        3 => pair(c.key, any),
-        4 => pair(c.key, c.key),
-        _ => any_pair(c.seed, i),
-    }
+// How many of some points give another answer than a wanted one.
+pub fn others(net: &[u8], ann: &[u8], points: &[Point], wanted: Judged) -> usize {
+    points
+        .iter()
+        .filter(|point| judge(net, ann, **point) != wanted)
+        .count()
 }

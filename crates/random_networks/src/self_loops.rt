@@ -1,60 +1,39 @@
-// Basins: how many a network has, where one stands in an annotation, and what it may carry there.
-use super::annotations::record_at;
+// Basins: where one stands in an annotation, and what it may carry there.
+use super::annotations::{amount, arc, arc_at};
 use super::places::Case;
-use reference::rows::{Rows, is_self_loop, record, weight};
-use testing::answers::NONE;
-use testing::files::{Files, number};
-use testing::numbers::{modulo, plus};
+use reference::instances::Question;
+use reference::random::modulo;
 
-// 1 for a basin, else 0.
-fn one(r: usize) -> usize {
-    if is_self_loop(r) {
-        return 1;
-    }
-    0
-}
-
-// How many of the first m records are basins.
-pub fn count(m: usize, a: &Rows) -> usize {
-    let mut k: usize = 0;
-    let mut i: usize = 0;
-    while i < m {
-        k = plus(k, one(record(a, i)));
-        i += 1;
-    }
-    k
-}
-
-// The first basin of an annotation from record e on, round its end to its front; m where there is none.
-pub fn next(c: Case, f: &Files, e: usize) -> usize {
-    let m = c.m;
-    let mut k: usize = 0;
-    while k < m {
-        let i = modulo(plus(e, k), m);
-        if is_self_loop(number(f, record_at(c.n, i), 4)) {
-            return i;
+// The first place of an arc from e on, round the annotation's end to its front, whose arc is as wanted.
+pub fn first<F: Fn(usize) -> bool>(c: Case, e: usize, wanted: F) -> Option<usize>
+    requires { F.IsAlwaysCallable wanted }
+{
+    for k in 0..c.net.count {
+        let i = modulo(e.saturating_add(k), c.net.count);
+        if wanted(i) {
+            return Some(i);
         }
-        k += 1;
     }
-    m
+    None
+}
+
+// The first basin of an annotation from arc e on.
+pub fn next(c: Case, ann: &[u8], e: usize) -> Option<usize> {
+    first(c, e, |i| arc(ann, arc_at(c.net.n, i)).is_self_loop())
 }
 
 // Is an annotation that was right still right if a basin of weight w carries x? Where loops are asked for it shows one by itself.
-fn may_carry(c: Case, w: usize, x: usize) -> bool {
-    if c.question == 4 {
-        return x == 1;
+fn may_carry(c: Case, w: u16, x: u16) -> bool {
+    match c.net.question {
+        Question::Loops => x == 1,
+        Question::Discharge => x <= w,
+        _ if c.answer.is_none() => x == 0,
+        _ => x == 0 || x == 1 && w == 0,
     }
-    if c.question == 2 {
-        return x <= w;
-    }
-    if c.answer == NONE {
-        return x == 0;
-    }
-    x == 0 || x == 1 && w == 0
 }
 
-// Is the record at a place of an annotation a basin that may carry its amount?
-pub fn is_allowed(c: Case, f: &Files, at: usize) -> bool {
-    let r = number(f, at, 4);
-    is_self_loop(r) && may_carry(c, weight(r), number(f, plus(at, 4), 2))
+// Is the arc at a place of an annotation a basin that may carry its amount?
+pub fn is_allowed(c: Case, ann: &[u8], at: usize) -> bool {
+    let arc = arc(ann, at);
+    arc.is_self_loop() && may_carry(c, arc.weight, amount(ann, at))
 }

@@ -1,56 +1,43 @@
 // Sites of a pairing marked in an annotation that says none: right as long as more sites than pumps are unmarked.
-use super::annotations::number_at;
+use super::annotations::{node_number, put_node_number};
 use super::places::Case;
-use testing::files::{Files, number, put_number};
-use testing::numbers::{different, minus, plus};
+use super::twists::Round;
+use std::ops::Range;
 
-fn mark(f: &Files, v: usize) -> usize {
-    number(f, number_at(v), 4)
+fn is_marked(ann: &[u8], v: u8) -> bool {
+    node_number(ann, usize::from(v)) == 1
 }
 
-// How many vertices from one up to another have no mark.
-fn unmarked(f: &Files, from: usize, to: usize) -> usize {
-    let mut k: usize = 0;
-    let mut v = from;
-    while v < to {
-        k = plus(k, different(mark(f, v), 1));
-        v += 1;
-    }
-    k
+// How many of some vertices have no mark.
+fn unmarked(ann: &[u8], vertices: Range<u8>) -> usize {
+    vertices.filter(|v| !is_marked(ann, *v)).count()
 }
 
-// Marks a vertex, if marks are left; how many are left then.
-fn put_mark(f: &mut Files, v: usize, left: usize) -> usize {
-    if left == 0 || mark(f, v) == 1 {
-        return left;
-    }
-    put_number(f, number_at(v), 4, 1);
-    minus(left, 1)
-}
-
-// Marks the first unmarked vertices from one up to another, so many of them.
-fn put_marks(f: &mut Files, from: usize, to: usize, count: usize) {
+// Marks the first unmarked of some vertices, so many of them.
+fn put_marks(ann: &mut [u8], vertices: Range<u8>, count: usize) {
     let mut left = count;
-    let mut v = from;
-    while v < to {
-        left = put_mark(f, v, left);
-        v += 1;
+    for v in vertices {
+        if 0 < left && !is_marked(ann, v) {
+            put_node_number(ann, usize::from(v), 1);
+            left -= 1;
+        }
     }
 }
 
 // How many sites are marked, by the round: so many that as many sites as pumps are unmarked, one less, or all.
-fn marks(round: usize, more: usize, all: usize) -> usize {
+fn marks(round: Round, more: usize, all: usize) -> usize {
     match round {
-        0 => more,
-        1 => minus(more, 1),
-        _ => all,
+        Round::First => more,
+        Round::Second => more.saturating_sub(1),
+        Round::Third => all,
     }
 }
 
 // Marks sites. Is the annotation still right then?
-pub fn give(round: usize, c: Case, f: &mut Files) -> bool {
-    let sites = unmarked(f, c.s, c.n);
-    let more = minus(sites, unmarked(f, 0, c.s));
-    put_marks(f, c.s, c.n, marks(round, more, sites));
-    round == 1
+pub fn give(round: Round, c: Case, ann: &mut [u8]) -> bool {
+    let (n, pumps) = (c.net.n, c.net.s);
+    let sites = unmarked(ann, pumps..n);
+    let more = sites.saturating_sub(unmarked(ann, 0..pumps));
+    put_marks(ann, pumps..n, marks(round, more, sites));
+    round == Round::Second
 }

@@ -1,178 +1,148 @@
 // One network: the helper annotates it, its annotation is judged, shuffled and twisted, and every answer is compared with the true one.
-use super::annotations::{exchange, number_at, record_at};
-use super::places::{Case, annotation_size, any_pair, judged_with, known, pair_at};
-use super::twists::{EITHER, LEFT_OUT, REFUSED, RIGHT, applies, twist};
-use super::{collisions, self_loops, tally};
-use reference::arcs::write;
-use reference::instances::Net;
+use super::annotations::{arc_at, exchange, node_number, size};
+use super::collisions;
+use super::places::{Case, PAIRS, others, pairs};
+use super::tally::{Came, Tally};
+use super::twists::{Due, KINDS, Kind, ROUNDS, Round, applies, twist};
+use judging::judge;
+use reference::arcs::{Arc, arcs};
+use reference::instances::{Net, Question};
 use reference::random::below;
-use reference::routes::LENGTH;
-use reference::rows::{Rows, get, head, record, tail, weight};
-use reference::{network_files, truth};
-use test_calls::judged_files::{LONGEST, annotated, pair};
-use testing::answers::NONE;
-use testing::files::{Files, number};
-use testing::numbers::{different, minus, plus, smaller};
-use testing::tally::{Tally, count_network, grow};
+use reference::{network_files, routes, truth};
+use std::alloc::{AllocError, Global};
+use test_calls::writers::{LONGEST_ANNOTATION, Output, annotate};
+use testing::answers::Judged;
+use testing::tally::add;
 
-// How many networks are twisted, each three times in each of 8 ways.
+// How many networks are twisted.
 const TWISTED_NETWORKS: usize = 640;
 
-const TWISTS: usize = 24;
+// The greatest node number of a route.
+const HIGHEST: u64 = 8322818;
 
-// How many pairs of points every annotation is judged at.
-const PAIRS: usize = 6;
-
-// Judges at each pair: how many answers are not the true one.
-fn everywhere(c: Case, f: &Files) -> usize {
-    let mut wrong: usize = 0;
-    let mut i: usize = 0;
-    while i < PAIRS {
-        let said = judged_with(c, f, c.m, pair_at(c, i));
-        wrong = plus(wrong, different(said, c.answer));
-        i += 1;
-    }
-    wrong
-}
-
-// Exchanges each record with any.
-fn shuffle(c: Case, f: &mut Files) {
-    let m = c.m;
-    let mut i: usize = 0;
-    while i < m {
-        let j = below(m, c.seed, i, 7);
-        exchange(f, record_at(c.n, i), record_at(c.n, j));
-        i += 1;
+// Exchanges each arc with any.
+fn shuffle(c: Case, ann: &mut [u8]) {
+    let Net { n, count, .. } = c.net;
+    for i in 0..count {
+        exchange(ann, arc_at(n, i), arc_at(n, c.below(count, i, 7)));
     }
 }
 
-// Judges at each pair, and in another order of the records: how many answers are not the true one.
-fn wrong_answers(c: Case, f: &mut Files) -> usize {
-    let wrong = everywhere(c, f);
-    shuffle(c, f);
-    let said = judged_with(c, f, c.m, any_pair(c.seed, 7));
-    plus(wrong, different(said, c.answer))
+// Judges at each pair, and in another order of the arcs: how many answers are not the true one.
+fn wrong_answers(c: Case, net: &[u8], ann: &mut [u8]) -> usize {
+    let wrong = others(net, ann, &pairs(c), Ok(c.answer));
+    shuffle(c, ann);
+    wrong.saturating_add(others(net, ann, &[c.any_pair(7)], Ok(c.answer)))
 }
 
-// How many records a twisted annotation has.
-fn records(c: Case, t: usize) -> usize {
-    if t % 8 == LEFT_OUT {
-        return minus(c.m, 1);
+// What came of a twisted annotation, where what had to come of it is known.
+fn came(due: Due, said: Judged, answer: Option<u64>) -> Came {
+    match said {
+        Err(_) if due != Due::Right => Came::Refused,
+        Ok(value) if due != Due::Refused && value == answer => Came::Right,
+        _ => Came::Wrong,
     }
-    c.m
-}
-
-// What judging says of a twisted annotation: with a record left out at the key of one twice, where the products may agree; else anywhere.
-fn said_of(c: Case, f: &Files, t: usize) -> usize {
-    if t % 8 == LEFT_OUT {
-        return judged_with(c, f, records(c, t), pair(c.key, c.key));
-    }
-    judged_with(c, f, c.m, any_pair(c.seed, plus(t, 8)))
-}
-
-// What was said of a twisted annotation: REFUSED, RIGHT, or 2 for another answer.
-fn weighed(said: usize, answer: usize) -> usize {
-    if NONE < said {
-        return REFUSED;
-    }
-    plus(RIGHT, different(said, answer))
-}
-
-// What was said of it, and 2 for what ought not to come of it.
-fn came(due: usize, said: usize, answer: usize) -> usize {
-    let k = weighed(said, answer);
-    if due == EITHER || due == k {
-        return k;
-    }
-    2
 }
 
 // Twists the annotation once.
-fn twist_once(c: Case, f: &Files, t: usize, tally: &mut Tally) {
-    let mut other = *f;
-    let due = twist(t % 8, t / 8, c, &mut other);
-    let said = said_of(c, &other, t);
-    let k = came(due, said, c.answer);
-    grow(tally, plus(tally::TWISTED + 3 * (t % 8), k), 1);
-    grow(tally, tally::WRONG, k / 2);
-    collisions::judge_at_key(c, &other, records(c, t), plus(t, 32), said, tally);
+fn twist_once(
+    c: Case,
+    net: &[u8],
+    ann: &Vec<u8>,
+    kind: Kind,
+    round: Round,
+    tally: &mut Tally,
+) -> Result<(), AllocError> {
+    let mut other = ann.clone()?;
+    let due = twist(kind, round, c, other.as_mut_slice());
+    let t = kind as usize + 8 * (round as usize);
+    // a left out arc at its key twice, where the products may agree
+    let (count, point) = match kind {
+        Kind::LeftOut => (c.net.count.saturating_sub(1), c.key_twice()),
+        _ => (c.net.count, c.any_pair(t + 8)),
+    };
+    other.truncate(size(c.net.n, count));
+    let said = judge(net, other.as_slice(), point);
+    tally.count_twist(kind, came(due, said, c.answer));
+    collisions::judge_at_key(c, net, other.as_slice(), count, t + 32, said, tally);
+    Ok(())
 }
 
-// Twists it if there is anything to change.
-fn twist_if(c: Case, f: &Files, t: usize, tally: &mut Tally) {
-    if applies(t % 8, c, f) {
-        twist_once(c, f, t, tally);
+// Twists it in each way in which there is anything to change.
+fn twist_all(
+    c: Case,
+    net: &[u8],
+    ann: &Vec<u8>,
+    round: Round,
+    tally: &mut Tally,
+) -> Result<(), AllocError> {
+    for kind in KINDS {
+        if applies(kind, c, ann.as_slice()) {
+            twist_once(c, net, ann, kind, round, tally)?;
+        }
     }
-}
-
-fn twist_all(c: Case, f: &Files, tally: &mut Tally) {
-    let mut t: usize = 0;
-    while t < TWISTS {
-        twist_if(c, f, t, tally);
-        t += 1;
-    }
+    Ok(())
 }
 
 // All that is done with an annotation.
-fn try_all(c: Case, f: &mut Files, tally: &mut Tally) {
-    grow(tally, tally::JUDGED, PAIRS + 1);
-    grow(tally, tally::WRONG, wrong_answers(c, f));
-    if c.seed < TWISTED_NETWORKS {
-        twist_all(c, f, tally);
+fn try_all(c: Case, net: &[u8], ann: &mut Vec<u8>, tally: &mut Tally) -> Result<(), AllocError> {
+    add(&mut tally.judged, PAIRS + 1);
+    add(&mut tally.wrong, wrong_answers(c, net, ann.as_mut_slice()));
+    if c.net.seed < TWISTED_NETWORKS {
+        for round in ROUNDS {
+            twist_all(c, net, ann, round, tally)?;
+        }
     }
+    Ok(())
 }
 
 // The node number that a route's vertex has to have: its least length, the highest where it is not reached; with none its mark.
-fn wanted(answer: usize, length: usize) -> usize {
-    if answer == NONE {
-        return different(length, NONE);
+fn wanted(answer: Option<u64>, length: Option<u64>) -> u64 {
+    match answer {
+        Some(_) => length.unwrap_or(HIGHEST).min(HIGHEST),
+        None => u64::from(length.is_some()),
     }
-    smaller(length, 8322818)
 }
 
 // How many node numbers of a route are not what the least lengths ask for.
-fn strays(n: usize, answer: usize, a: &Rows, f: &Files) -> usize {
-    let mut wrong: usize = 0;
-    let mut v: usize = 0;
-    while v < n {
-        let y = wanted(answer, get(a, LENGTH, v));
-        wrong = plus(wrong, different(number(f, number_at(v), 4), y));
-        v += 1;
-    }
-    wrong
+fn strays(c: Case, arcs: &[Arc], ann: &[u8]) -> usize {
+    let Net { n, s, .. } = c.net;
+    let lengths = routes::lengths(arcs, n, s);
+    (0..usize::from(n))
+        .zip(&lengths)
+        .filter(|(v, length)| u64::from(node_number(ann, *v)) != wanted(c.answer, **length))
+        .count()
 }
 
-// The key of a record.
-fn key(r: usize) -> usize {
-    plus(tail(r) % 256 * 8388608 + head(r) % 256 * 32768, weight(r))
-}
-
-// Makes the network and its file; what is known of it then, with the true answer.
-fn make(net: Net, a: &mut Rows, f: &mut Files) -> Case {
-    write(net, a);
-    network_files::write(net, a, f);
-    let answer = truth(net, a);
-    known(net, key(record(a, below(net.m, net.seed, 0, 6))), answer)
-}
-
-// Has the helper annotate the network: how many node numbers stray, or 1 for another length.
-fn annotate(net: Net, answer: usize, a: &Rows, f: &mut Files) -> usize {
-    let length = annotated(f, network_files::size(net.m), LONGEST);
-    if length != annotation_size(net.n, net.m) {
+// How many things are wrong in the helper's annotation before it is judged.
+fn wrong_numbers(c: Case, arcs: &[Arc], output: &Output) -> usize {
+    if output.file.len() != size(c.net.n, c.net.count) {
         return 1;
     }
-    if net.question == 1 {
-        return strays(net.n, answer, a, f);
+    if c.net.question == Question::Route {
+        return strays(c, arcs, output.file.as_slice());
     }
     0
 }
 
-pub fn run(net: Net, tally: &mut Tally) {
-    let mut a = [0usize; 71680];
-    let mut f = [255u8; 65536];
-    let c = make(net, &mut a, &mut f);
-    count_network(tally, c.answer);
-    grow(tally, tally::SELF_LOOPS, self_loops::count(net.m, &a));
-    grow(tally, tally::WRONG, annotate(net, c.answer, &a, &mut f));
-    try_all(c, &mut f, tally);
+// What is known of a network: also one of its arcs.
+fn known(net: Net, arcs: &[Arc]) -> Case {
+    let arc = arcs.get(below(net.count, net.seed, 0, 6));
+    Case {
+        net,
+        arc: arc.copied().unwrap_or(Arc::from([0; 4])),
+        answer: truth(net, arcs),
+    }
+}
+
+pub fn run(alloc: Global, net: Net, tally: &mut Tally) -> Result<(), AllocError> {
+    let all = arcs(alloc, net)?;
+    let file = network_files::file(alloc, net, all.as_slice())?;
+    let c = known(net, all.as_slice());
+    let mut output = annotate(alloc, file.as_slice(), LONGEST_ANNOTATION)?;
+    let self_loops = all.iter().filter(|arc| arc.is_self_loop()).count();
+    tally.networks.count(c.answer);
+    add(&mut tally.self_loops, self_loops);
+    add(&mut tally.wrong, wrong_numbers(c, all.as_slice(), &output));
+    try_all(c, file.as_slice(), &mut output.file, tally)
 }

@@ -1,273 +1,268 @@
 // One thing changed in an annotation.
-use super::annotations::{exchange, number_at, record_at};
+use super::annotations::{
+    CLAIM, COUNT, amount, arc, arc_at, exchange, node_number, number_at, put_amount,
+    put_node_number,
+};
 use super::places::Case;
 use super::{other_pumps, self_loops, site_marks};
-use reference::random::below;
-use reference::rows::{head, tail, weight};
-use testing::answers::NONE;
-use testing::files::{Files, START, get, number, put, put_number};
-use testing::numbers::{low_byte, minus, modulo, plus};
+use reference::arcs::Arc;
+use reference::instances::Question;
+use reference::random::modulo;
+use testing::bytes::{get, put};
 
-// An amount, a node number, a weight, a record left out, the claim, another record in place of one, two weights, and what is given.
-pub const KINDS: u32 = 8;
+#[derive(Clone, Copy, PartialEq, Eq)]
+pub enum Kind {
+    Amount,
+    NodeNumber,
+    Weight,
+    LeftOut,
+    Claim,
+    // Another arc in place of one.
+    Replaced,
+    TwoWeights,
+    // A basin is given an amount; in a pairing, which has no basins, a site another pump, or a mark where the answer is none.
+    Given,
+}
 
-pub const LEFT_OUT: usize = 3;
+pub const KINDS: [Kind; 8] = [
+    Kind::Amount,
+    Kind::NodeNumber,
+    Kind::Weight,
+    Kind::LeftOut,
+    Kind::Claim,
+    Kind::Replaced,
+    Kind::TwoWeights,
+    Kind::Given,
+];
 
-// A basin is given an amount; in a pairing, which has no basins, a site another pump, or a mark where the answer is none.
-pub const GIVEN: u32 = 7;
+// Each kind is tried three times, differently.
+#[derive(Clone, Copy, PartialEq, Eq)]
+pub enum Round {
+    First,
+    Second,
+    Third,
+}
+
+pub const ROUNDS: [Round; 3] = [Round::First, Round::Second, Round::Third];
 
 // What has to come of a twisted annotation: a refusal, the true answer still, or either.
-pub const REFUSED: usize = 0;
-
-pub const RIGHT: usize = 1;
-
-pub const EITHER: usize = 2;
-
-fn gives(kind: usize) -> bool {
-    kind == GIVEN as usize
+#[derive(Clone, Copy, PartialEq, Eq)]
+pub enum Due {
+    Refused,
+    Right,
+    Either,
 }
 
 // Is there anything to give to?
-fn can_give(c: Case, f: &Files) -> bool {
-    if c.question == 3 {
-        return c.answer == NONE || other_pumps::applies(c, f);
+fn can_give(c: Case, ann: &[u8]) -> bool {
+    if c.net.question == Question::Pairing {
+        return c.answer.is_none() || other_pumps::applies(c, ann);
     }
-    self_loops::next(c, f, 0) < c.m
+    self_loops::next(c, ann, 0).is_some()
 }
 
-// Is there anything to change? Without records there is a node number and the claim.
-pub fn applies(kind: usize, c: Case, f: &Files) -> bool {
-    if gives(kind) {
-        return can_give(c, f);
-    }
-    kind == 1 || kind == 4 || c.m != 0
-}
-
-// The record to change, by the round.
-fn chosen(c: Case, round: usize) -> usize {
-    below(c.m, c.seed, round, 6)
-}
-
-// The byte to change: the last of an amount, a node number or a weight, or the claim.
-fn place(kind: usize, round: usize, c: Case) -> usize {
+// Is there anything to change? Without arcs there is a node number and the claim.
+pub fn applies(kind: Kind, c: Case, ann: &[u8]) -> bool {
     match kind {
-        0 => plus(record_at(c.n, chosen(c, round)), 5),
-        1 => plus(number_at(below(c.n, c.seed, round, 7)), 3),
-        2 => plus(record_at(c.n, chosen(c, round)), 3),
-        _ => START + 5,
+        Kind::Given => can_give(c, ann),
+        Kind::NodeNumber | Kind::Claim => true,
+        _ => c.net.count != 0,
     }
 }
 
-// The bits to change there, by turns; of a claim those that make it the other one.
-fn bits(kind: usize, round: usize) -> u8 {
-    if kind == 4 {
-        return 3;
-    }
-    low_byte(round % 3 + 1)
+// The arc to change, by the round.
+fn chosen(c: Case, round: Round) -> usize {
+    c.below(c.net.count, round as usize, 6)
 }
 
-fn flip(f: &mut Files, at: usize, bits: u8) {
-    let old = get(f, at);
-    put(f, at, old ^ bits);
+// The vertex whose number is changed.
+fn chosen_vertex(c: Case, round: Round) -> usize {
+    c.below(usize::from(c.net.n), round as usize, 7)
 }
 
-// Record e goes to the end, and the count is one less.
-fn leave_out(f: &mut Files, c: Case, e: usize) {
-    let last = minus(c.m, 1);
-    exchange(f, record_at(c.n, e), record_at(c.n, last));
-    put_number(f, START + 6, 2, last);
+// Changes bits of a byte, by turns.
+fn flip(ann: &mut [u8], at: usize, round: Round) {
+    let bits = match round {
+        Round::First => 1,
+        Round::Second => 2,
+        Round::Third => 3,
+    };
+    let [old] = get::<1>(ann, at);
+    put(ann, at, [old ^ bits]);
 }
 
-// The ends and the weight of another record; are the records the same then?
-fn replace(f: &mut Files, at: usize, from: usize) -> bool {
-    let old = number(f, at, 4);
-    let new = number(f, from, 4);
-    put_number(f, at, 4, new);
+// Makes the claim the other one.
+fn turn_claim(ann: &mut [u8]) {
+    let [old] = get::<1>(ann, CLAIM);
+    put(ann, CLAIM, [old ^ 3]);
+}
+
+// Arc e goes to the end, and the count is one less.
+fn leave_out(ann: &mut [u8], c: Case, e: usize) {
+    let last = c.net.count.saturating_sub(1);
+    exchange(ann, arc_at(c.net.n, e), arc_at(c.net.n, last));
+    put(ann, COUNT, ((last & 0xffff) as u16).to_be_bytes());
+}
+
+// The ends and the weight of another arc; are the arcs the same then?
+fn replace(ann: &mut [u8], at: usize, from: usize) -> bool {
+    let old = arc(ann, at);
+    let new = arc(ann, from);
+    put(ann, at, <[u8; 4]>::from(new));
     old == new
 }
 
-// Adds to the weight of a record.
-fn add(f: &mut Files, record: usize, d: usize) {
-    let at = plus(record, 2);
-    let w = number(f, at, 2);
-    put_number(f, at, 2, plus(w, d));
+// Adds to the weight of an arc.
+fn add(ann: &mut [u8], at: usize, d: u16) {
+    let Arc { ends, weight } = arc(ann, at);
+    let heavier = Arc {
+        ends,
+        weight: weight.wrapping_add(d),
+    };
+    put(ann, at, <[u8; 4]>::from(heavier));
 }
 
-// One weight one more and another one less, so that the sum of the keys stays; are the records the same then, in another order?
-// Of one record alone the weight is one less.
-fn two_weights(f: &mut Files, at: usize, from: usize) -> bool {
-    let old = number(f, from, 4);
-    add(f, from, 65535);
+// One weight one more and another one less, so that the sum of the keys stays; are the arcs the same then, in another order?
+// Of one arc alone the weight is one less.
+fn two_weights(ann: &mut [u8], at: usize, from: usize) -> bool {
+    let old = arc(ann, from);
+    add(ann, from, u16::MAX);
     if at == from {
         return false;
     }
-    add(f, at, 1);
-    number(f, at, 4) == old
+    add(ann, at, 1);
+    arc(ann, at) == old
 }
 
-// A record other than e, if there is one.
-fn another(c: Case, e: usize, round: usize) -> usize {
-    let steps = plus(1, below(minus(c.m, 1), c.seed, round, 4));
-    modulo(plus(e, steps), c.m)
+// An arc other than e, if there is one.
+fn another(c: Case, e: usize, round: Round) -> usize {
+    let steps = c.below(c.net.count.saturating_sub(1), round as usize, 4);
+    modulo(e.saturating_add(steps).saturating_add(1), c.net.count)
 }
 
-// Changes one record, or two; are the records the same then, in any order?
-fn same_records(kind: usize, f: &mut Files, at: usize, from: usize) -> bool {
-    if kind == 5 {
-        return replace(f, at, from);
+// What has to come of an annotation whose arcs are the same, in any order, or are not. Two weights may be exchanged where loops are asked
+// for, since they mean nothing there.
+fn with_arcs(c: Case, same: bool) -> Due {
+    if !same {
+        return Due::Refused;
     }
-    two_weights(f, at, from)
+    if c.net.question == Question::Loops {
+        return Due::Right;
+    }
+    Due::Either
 }
 
-// The same; what has to come of it. Two weights may be exchanged where loops are asked for, since they mean nothing there.
-fn with_other(kind: usize, c: Case, f: &mut Files, at: usize, from: usize) -> usize {
-    if !same_records(kind, f, at, from) {
-        return REFUSED;
-    }
-    if c.question == 4 {
-        return RIGHT;
-    }
-    EITHER
-}
-
-// The amount that a basin of weight w is given, by the round: 1, its weight, or one more.
-fn filling(round: usize, w: usize) -> usize {
-    match round {
-        0 => 1,
-        1 => w,
-        _ => plus(w, 1),
-    }
-}
-
-// The weight that the amounts of a basin go by; 1 for loops, where weights mean nothing.
-fn room(c: Case, r: usize) -> usize {
-    if c.question == 4 {
-        return 1;
-    }
-    weight(r)
-}
-
-// Gives a basin an amount.
-fn fill(c: Case, f: &mut Files, at: usize, round: usize) {
-    let w = room(c, number(f, at, 4));
-    put_number(f, plus(at, 4), 2, filling(round, w));
+// Gives a basin an amount: 1, its weight, or one more, by the round. For loops, where weights mean nothing, that is 1.
+fn fill(c: Case, ann: &mut [u8], at: usize, round: Round) {
+    let weight = match c.net.question {
+        Question::Loops => 1,
+        _ => arc(ann, at).weight,
+    };
+    let x = match round {
+        Round::First => 1,
+        Round::Second => weight,
+        Round::Third => weight.wrapping_add(1),
+    };
+    put_amount(ann, at, x);
 }
 
 // What has to come of an annotation that is still right, or is not.
-fn right_if(still: bool) -> usize {
-    if still {
-        return RIGHT;
-    }
-    REFUSED
+fn right_if(still: bool) -> Due {
+    if still { Due::Right } else { Due::Refused }
 }
 
-// What has to come of it if only the amount of the record at a place was changed, which cancels in a basin and nowhere else.
-fn with_amount(c: Case, f: &Files, at: usize) -> usize {
-    right_if(self_loops::is_allowed(c, f, at))
+// What has to come of it if only the amount of the arc at a place was changed, which cancels in a basin and nowhere else.
+fn with_amount(c: Case, ann: &[u8], at: usize) -> Due {
+    right_if(self_loops::is_allowed(c, ann, at))
 }
 
 // What has to come of it if only a node number was changed, each of which counts once in the sum of a pairing that there is.
-fn with_number(c: Case) -> usize {
-    if c.question == 3 && c.answer != NONE {
-        return REFUSED;
+fn with_number(c: Case) -> Due {
+    if c.net.question == Question::Pairing && c.answer.is_some() {
+        return Due::Refused;
     }
-    EITHER
+    Due::Either
 }
 
-// Gives the first basin from record e on an amount; what has to come of it.
-fn filled(round: usize, c: Case, f: &mut Files, e: usize) -> usize {
-    let at = record_at(c.n, self_loops::next(c, f, e));
-    fill(c, f, at, round);
-    with_amount(c, f, at)
-}
-
-// Is something given? Where loops are asked for, a basin whose amount is to change is given one too: if 1 were taken off, that might have
-// been the only loop that was shown.
-fn is_given(kind: usize, c: Case, f: &Files, e: usize) -> bool {
-    if kind == 0 && c.question == 4 {
-        return self_loops::next(c, f, e) == e;
-    }
-    gives(kind)
-}
-
-// Gives a site another pump or a mark; is the annotation still right then?
-fn site_given(round: usize, c: Case, f: &mut Files, e: usize) -> bool {
-    if c.answer == NONE {
-        return site_marks::give(round, c, f);
-    }
-    other_pumps::give(round, c, f, e)
+// Gives the first basin from arc e on an amount; what has to come of it.
+fn filled(round: Round, c: Case, ann: &mut [u8], e: usize) -> Due {
+    let basin = self_loops::next(c, ann, e).unwrap_or(c.net.count);
+    let at = arc_at(c.net.n, basin);
+    fill(c, ann, at, round);
+    with_amount(c, ann, at)
 }
 
 // Gives something to a site, or to a basin; what has to come of it.
-fn given(round: usize, c: Case, f: &mut Files, e: usize) -> usize {
-    if c.question == 3 {
-        return right_if(site_given(round, c, f, e));
+fn given(round: Round, c: Case, ann: &mut [u8], e: usize) -> Due {
+    match c.net.question {
+        Question::Pairing if c.answer.is_none() => right_if(site_marks::give(round, c, ann)),
+        Question::Pairing => right_if(other_pumps::give(round, c, ann, e)),
+        _ => filled(round, c, ann, e),
     }
-    filled(round, c, f, e)
 }
 
-// Gives the head of a record the node number of its tail.
-fn level(f: &mut Files, at: usize) {
-    let r = number(f, at, 4);
-    let y = number(f, number_at(tail(r)), 4);
-    put_number(f, number_at(head(r)), 4, y);
-}
-
-// The highest node number or the lowest, by turns.
-fn extreme(round: usize) -> usize {
-    if round % 2 == 0 {
-        return 8322818;
-    }
-    4286644478
+// Gives the head of an arc the node number of its tail.
+fn level(ann: &mut [u8], at: usize) {
+    let arc = arc(ann, at);
+    let y = node_number(ann, arc.tail());
+    put_node_number(ann, arc.head(), y);
 }
 
 // Changes a node number where loops are asked for; what has to come of it. With a loop all have to be 0. Else the highest is right where
-// no record leaves the vertex, and the lowest where none enters it; and a record whose ends have the same does not rise.
-fn ranked(round: usize, c: Case, f: &mut Files) -> usize {
-    let at = number_at(below(c.n, c.seed, round, 7));
-    if c.answer == NONE {
-        put_number(f, at, 4, plus(round, 1));
-        return REFUSED;
+// no arc leaves the vertex, and the lowest where none enters it; and an arc whose ends have the same does not rise.
+fn ranked(round: Round, c: Case, ann: &mut [u8]) -> Due {
+    let v = chosen_vertex(c, round);
+    if c.answer.is_none() {
+        put_node_number(ann, v, 1 + round as u32);
+        return Due::Refused;
     }
-    if round == 2 && c.m != 0 {
-        level(f, record_at(c.n, chosen(c, round)));
-        return REFUSED;
+    if round == Round::Third && c.net.count != 0 {
+        level(ann, arc_at(c.net.n, chosen(c, round)));
+        return Due::Refused;
     }
-    put_number(f, at, 4, extreme(round));
-    EITHER
+    let extreme = match round {
+        Round::Second => 4286644478,
+        _ => 8322818,
+    };
+    put_node_number(ann, v, extreme);
+    Due::Either
 }
 
-// Changes bits of an amount, a node number, a weight or the claim; what has to come of it.
-fn flipped(kind: usize, round: usize, c: Case, f: &mut Files) -> usize {
-    flip(f, place(kind, round, c), bits(kind, round));
-    match kind {
-        0 => with_amount(c, f, record_at(c.n, chosen(c, round))),
-        1 => with_number(c),
-        _ => REFUSED,
+// Changes the amount of arc e. Where loops are asked for, a basin is given one: if 1 were taken off, that might have been the only loop
+// that was shown.
+fn other_amount(round: Round, c: Case, ann: &mut [u8], e: usize) -> Due {
+    if c.net.question == Question::Loops && self_loops::next(c, ann, e) == Some(e) {
+        return filled(round, c, ann, e);
     }
+    let at = arc_at(c.net.n, e);
+    flip(ann, at.saturating_add(5), round);
+    with_amount(c, ann, at)
+}
+
+// Changes a node number.
+fn other_number(round: Round, c: Case, ann: &mut [u8]) -> Due {
+    if c.net.question == Question::Loops {
+        return ranked(round, c, ann);
+    }
+    let at = number_at(chosen_vertex(c, round));
+    flip(ann, at.saturating_add(3), round);
+    with_number(c)
 }
 
 // Changes one thing of a kind somewhere; what has to come of it.
-pub fn twist(kind: usize, round: usize, c: Case, f: &mut Files) -> usize {
+pub fn twist(kind: Kind, round: Round, c: Case, ann: &mut [u8]) -> Due {
     let e = chosen(c, round);
-    if kind == LEFT_OUT {
-        leave_out(f, c, e);
-        return REFUSED;
+    let at = arc_at(c.net.n, e);
+    let from = arc_at(c.net.n, another(c, e, round));
+    match kind {
+        Kind::Amount => return other_amount(round, c, ann, e),
+        Kind::NodeNumber => return other_number(round, c, ann),
+        Kind::Given => return given(round, c, ann, e),
+        Kind::Replaced => return with_arcs(c, replace(ann, at, from)),
+        Kind::TwoWeights => return with_arcs(c, two_weights(ann, at, from)),
+        Kind::Weight => flip(ann, at.saturating_add(3), round),
+        Kind::LeftOut => leave_out(ann, c, e),
+        Kind::Claim => turn_claim(ann),
     }
-    if is_given(kind, c, f, e) {
-        return given(round, c, f, e);
-    }
-    if kind == 1 && c.question == 4 {
-        return ranked(round, c, f);
-    }
-    if 4 < kind {
-        return with_other(
-            kind,
-            c,
-            f,
-            record_at(c.n, e),
-            record_at(c.n, another(c, e, round)),
-        );
-    }
-    flipped(kind, round, c, f)
+    Due::Refused
 }

@@ -1,49 +1,54 @@
 // Has the calendar write the file of a minute for random networks and windows, compares it with what another writer makes of them, has the
-// helper annotate it and judges that. A network is wrong where a byte differs, or an answer from the true one of its open records.
+// helper annotate it and judges that. A network is wrong where a byte differs, or an answer from the true one of its open arcs.
 #![tactic(auto)]
 
-mod flags;
+mod minutes;
 mod tables;
 mod tally;
 mod trial;
 
-use reference::instances::network;
-use testing::print;
-use testing::tally::Tally;
+use reference::instances::{QUESTIONS, Question, network};
+use std::io;
+use tally::Tally;
+use testing::names::name;
 
-// How many networks there are for each question; of every 64 two have all 4096 records.
+// How many networks there are for each question; of every 64 two have all 4096 arcs.
 const COUNT: usize = 640;
 
 // One network; names its seed if it is wrong.
-fn turn(question: usize, seed: usize, tally: &mut Tally) {
-    let o = trial::run(network(question, seed));
-    tally::count(tally, o);
-    if o.wrong != 0 {
-        print::number(b"wrong: ", seed);
-        print::text(b"\n");
+fn turn<R: Print + AllocGlobal>(
+    rt: &R,
+    question: Question,
+    seed: usize,
+    tally: &mut Tally,
+) -> io::Result<()> {
+    let outcome = trial::run(rt.alloc(), network(question, seed))?;
+    tally.count(outcome);
+    if outcome.wrong != 0 {
+        println!(rt; "wrong: {seed}")?;
     }
+    Ok(())
 }
 
-// All networks of one question.
-fn all(question: usize, tally: &mut Tally) {
-    let mut seed: usize = 0;
-    while seed < COUNT {
-        turn(question, seed, tally);
-        seed += 1;
+// All networks of one question, whose name stands at its place of the names.
+fn ask<R: Print + AllocGlobal>(
+    rt: &R,
+    names: &str,
+    place: usize,
+    question: Question,
+) -> io::Result<()> {
+    let mut tally = Tally::new();
+    for seed in 0..COUNT {
+        turn(rt, question, seed, &mut tally)?;
     }
+    rt.print(name(names, place))?;
+    tally.show(rt, names)
 }
 
-fn question(names: &[u8], number: u32) {
-    let mut tally = [0usize; 64];
-    all(number as usize, &mut tally);
-    tally::show(names, number, &tally);
-}
-
-fn main() {
-    let mut input = io::buffer();
-    let n = io::read_full(0, &mut input);
-    question(&input[..n], 1);
-    question(&input[..n], 2);
-    question(&input[..n], 3);
-    question(&input[..n], 4);
+fn main(rt: HostRuntime) -> io::Result<()> {
+    let names = io::read_to_string(rt.alloc(), rt.reader())?;
+    for (place, question) in QUESTIONS.iter().enumerate() {
+        ask(&rt, names.as_str(), place, *question)?;
+    }
+    Ok(())
 }

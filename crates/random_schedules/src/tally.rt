@@ -1,25 +1,44 @@
-// Where each thing is counted, after what is counted of every network, and how it is shown. The names are a list on standard input: the
-// four questions, and what is counted.
+// What is counted of the networks of a question, and how it is shown. The names are a list on standard input: the four questions, and what
+// is counted.
 use super::trial::Outcome;
-use testing::print;
-use testing::tally::{NETWORKS, Tally, count_network, grow};
+use std::io;
+use testing::names::print_counts;
+use testing::tally::{self, add};
 
-const OPEN: usize = 3;
-
-const CLOSED: usize = 4;
-
-const WRONG: usize = 5;
-
-// Counts what came of one network.
-pub fn count(tally: &mut Tally, o: Outcome) {
-    count_network(tally, o.answer);
-    grow(tally, OPEN, o.open);
-    grow(tally, CLOSED, o.closed);
-    grow(tally, WRONG, o.wrong);
+#[derive(Drop)]
+pub struct Tally {
+    networks: tally::Tally,
+    open: usize,
+    closed: usize,
+    wrong: usize,
 }
 
-// Sums up the networks of one question.
-pub fn show(names: &[u8], question: u32, tally: &Tally) {
-    print::name(names, std::num::wrapping_sub_u32(question, 1));
-    print::counts(names, 4, 6, tally, NETWORKS);
+impl Tally {
+    pub fn new() -> Tally {
+        Tally {
+            networks: tally::Tally::new(),
+            open: 0,
+            closed: 0,
+            wrong: 0,
+        }
+    }
+
+    // Counts what came of one network.
+    pub fn count(&mut self, outcome: Outcome) {
+        self.networks.count(outcome.answer);
+        add(&mut self.open, outcome.open);
+        add(&mut self.closed, outcome.closed);
+        add(&mut self.wrong, outcome.wrong);
+    }
+
+    // Sums up the networks of one question, after its name.
+    pub fn show<R: Print>(&self, rt: &R, names: &str) -> io::Result<()> {
+        let tally::Tally {
+            networks,
+            values,
+            nones,
+        } = self.networks;
+        let counts = [networks, values, nones, self.open, self.closed, self.wrong];
+        print_counts(rt, names, 4, &counts)
+    }
 }

@@ -3,6 +3,7 @@
 
 ghost use Rattle.std.specs.Prelude.{◌≡◌};
 ghost use Rattle.prelude.specs.Checks.{first_broken};
+ghost use Rattle.refusals.specs.Refusals.{why};
 ghost use Rattle.arc_records.specs.Arcs.{arc_held};
 ghost use Rattle.network.specs.Tests.{sides_for, joins_ok, arc_checks, reading_checks};
 ghost use Rattle.checks.specs.Held.{asked, question_held};
@@ -10,24 +11,16 @@ ghost use Rattle.checks.specs.Held.{asked, question_held};
 use arc_records::{MOST_ARCS, MOST_WEIGHT, Record};
 use checks::rows::{Question, question_of};
 use checks::{HeldSetting, pumps};
+use refusals::Refusal;
 
 // 7: does the arc lead from a pump to a site, for an assignment?
 fn sides_ok(question: Question, st: HeldSetting, arc: Record) -> bool
     ensures { result ≡ sides_for (question_held question) (asked st) (arc_held arc) }
 {
-    let first_site = pumps(st) as u32;
-    let tail = arc.tail;
-    let head = arc.head;
+    let first_site = u32::from(pumps(st));
     match question {
-        Question::Path => true,
-        Question::Flow => true,
-        Question::Assignment => {
-            if first_site <= tail {
-                return false;
-            }
-            first_site <= head
-        }
-        Question::Acyclicity => true,
+        Question::Path | Question::Flow | Question::Acyclicity => true,
+        Question::Assignment => arc.tail < first_site && first_site <= arc.head,
         Question::Unasked => false,
     }
 }
@@ -36,37 +29,29 @@ fn sides_ok(question: Question, st: HeldSetting, arc: Record) -> bool
 fn joins_ok(st: HeldSetting, arc: Record) -> bool
     ensures { result ≡ joins_ok (asked st) (arc_held arc) }
 {
-    let n = st.n as u32;
-    let tail = arc.tail;
-    let head = arc.head;
-    if n <= tail {
-        return false;
-    }
-    if n <= head {
-        return false;
-    }
-    sides_ok(question_of(st.question as u32), st, arc)
+    let n = u32::from(st.n);
+    arc.tail < n && arc.head < n && sides_ok(question_of(u32::from(st.question)), st, arc)
 }
 
-// 0, or the number of the first check that refuses the arc: 7 or 8.
-pub fn arc_check(st: HeldSetting, arc: Record) -> u8
-    ensures { result ≡ first_broken (arc_checks (asked st) (arc_held arc)) }
+// The first check that refuses the arc: 7 or 8.
+pub fn arc_check(st: HeldSetting, arc: Record) -> Result<(), Refusal>
+    ensures { why result ≡ first_broken (arc_checks (asked st) (arc_held arc)) }
 {
     if !joins_ok(st, arc) {
-        return 7;
+        return Err(Refusal::ArcNotAllowed);
     }
     if MOST_WEIGHT < arc.weight {
-        return 8;
+        return Err(Refusal::WeightTooLarge);
     }
-    0
+    Ok(())
 }
 
-// 0, or the number of the first check that refuses the arc to be read after so many others: 6, 7 or 8.
-pub fn reading_check(st: HeldSetting, count: u32, arc: Record) -> u8
-    ensures { result ≡ first_broken (reading_checks (asked st) count (arc_held arc)) }
+// The first check that refuses the arc to be read after so many others: 6, 7 or 8.
+pub fn reading_check(st: HeldSetting, count: u32, arc: Record) -> Result<(), Refusal>
+    ensures { why result ≡ first_broken (reading_checks (asked st) count (arc_held arc)) }
 {
     if MOST_ARCS <= count {
-        return 6;
+        return Err(Refusal::TooManyArcs);
     }
     arc_check(st, arc)
 }

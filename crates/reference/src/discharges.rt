@@ -1,77 +1,73 @@
-// The greatest discharge by augmenting paths: flow goes along the path with most room, until there is none. The matrix has the room left
-// between each two vertices.
-use super::paths::{BEFORE, NOWHERE, VALUE, begin, next, reach};
-use super::rows::{Rows, get, grow, put};
-use testing::numbers::{minus, plus, smaller};
+// The greatest discharge by augmenting paths: flow goes along the path with most room, until there is none.
+use super::arcs::Arc;
+use super::paths::Paths;
+
+// The room left from each vertex to each.
+type Room = [[u64; 256]; 256];
 
 // More paths than the method ever takes in a network that is tried.
 const PATHS: usize = 1000000;
 
-// Continues from u to every vertex. The value of a path is the least room on it.
-fn scan(a: &mut Rows, n: usize, u: usize) {
-    let mut v: usize = 0;
-    while v < n {
-        reach(a, u, v, smaller(get(a, VALUE, u), get(a, u, v)));
-        v += 1;
+// What leads from each vertex to each: all capacities together.
+fn add_capacities(arcs: &[Arc], room: &mut Room) {
+    for arc in arcs {
+        let sum = room[arc.tail()][arc.head()].saturating_add(u64::from(arc.weight));
+        room[arc.tail()][arc.head()] = sum;
     }
 }
 
-// Finds the paths from s with most room.
-fn search(a: &mut Rows, n: usize, s: usize) {
-    begin(a, s);
-    let mut i: usize = 0;
-    while i < 256 {
-        let u = next(a);
-        if u == NOWHERE {
-            return;
+// Continues from u to every vertex. The value of a path is the least room on it.
+fn scan(room: &Room, paths: &mut Paths<u64>, u: u8, value: u64) {
+    for (v, left) in (0..=255u8).zip(&room[usize::from(u)]) {
+        if 0 < *left {
+            paths.reach(u, v, value.min(*left));
         }
-        scan(a, n, u);
-        i += 1;
     }
+}
+
+// Finds the path from s to t with most room, and how much that is.
+fn search(room: &Room, s: u8, t: u8) -> Option<(Paths<u64>, u64)> {
+    let mut paths = Paths::begin(s, u64::MAX);
+    for _ in 0..256 {
+        let (u, value) = paths.next()?;
+        if u == t {
+            return Some((paths, value));
+        }
+        scan(room, &mut paths, u, value);
+    }
+    None
 }
 
 // Takes x off the room from u to v, and adds it the other way.
-fn shift(a: &mut Rows, u: usize, v: usize, x: usize) {
-    put(a, u, v, minus(get(a, u, v), x));
-    grow(a, v, u, x);
+fn shift(room: &mut Room, u: u8, v: u8, x: u64) {
+    let (u, v) = (usize::from(u), usize::from(v));
+    room[u][v] = room[u][v].saturating_sub(x);
+    room[v][u] = room[v][u].saturating_add(x);
 }
 
 // Sends x along the path that was found to t.
-fn send(a: &mut Rows, s: usize, t: usize, x: usize) {
+fn send(room: &mut Room, paths: &Paths<u64>, t: u8, x: u64) {
     let mut v = t;
-    let mut i: usize = 0;
-    while i < 256 {
-        if v == s {
+    for _ in 0..256 {
+        let Some(u) = paths.before(v) else {
             return;
-        }
-        let u = get(a, BEFORE, v);
-        shift(a, u, v, x);
+        };
+        shift(room, u, v, x);
         v = u;
-        i += 1;
     }
-}
-
-// Sends as much as one path can take from s to t; how much.
-fn send_some(a: &mut Rows, n: usize, s: usize, t: usize) -> usize {
-    search(a, n, s);
-    let x = get(a, VALUE, t);
-    if x != 0 {
-        send(a, s, t, x);
-    }
-    x
 }
 
 // The greatest flow from s to t.
-pub fn greatest(a: &mut Rows, n: usize, s: usize, t: usize) -> usize {
-    let mut sum: usize = 0;
-    let mut i: usize = 0;
-    while i < PATHS {
-        let x = send_some(a, n, s, t);
-        if x == 0 {
+pub fn greatest(arcs: &[Arc], s: u8, t: u8) -> u64 {
+    let mut room = [[0u64; 256]; 256];
+    add_capacities(arcs, &mut room);
+    let mut sum: u64 = 0;
+    for _ in 0..PATHS {
+        let Some((paths, x)) = search(&room, s, t) else {
             return sum;
-        }
-        sum = plus(sum, x);
-        i += 1;
+        };
+        send(&mut room, &paths, t, x);
+        sum = sum.saturating_add(x);
     }
     sum
 }

@@ -1,32 +1,16 @@
-// The file of a network whose records stand in rows.
+// The file of a network.
+use super::arcs::Arc;
 use super::instances::Net;
-use super::rows::{Rows, record};
-use testing::files::{Files, put_number};
+use std::alloc::{AllocError, Global};
 
-// How long the file of m records is.
-pub fn size(m: usize) -> usize {
-    11 + 4 * (m % 5000)
-}
-
-// The mark DRN and the version 1, question, n, s and t, and the count of the records.
-fn write_header(net: Net, f: &mut Files) {
-    put_number(f, 0, 5, 0x44524E0001);
-    put_number(f, 5, 1, net.question);
-    put_number(f, 6, 1, net.n);
-    put_number(f, 7, 1, net.s);
-    put_number(f, 8, 1, net.t);
-    put_number(f, 9, 2, net.m);
-}
-
-fn write_records(m: usize, a: &Rows, f: &mut Files) {
-    let mut i: usize = 0;
-    while i < m {
-        put_number(f, size(i), 4, record(a, i));
-        i += 1;
+// The mark DRN and the version 1, question, n, s and t, the count of the arcs, and the arcs.
+pub fn file(alloc: Global, net: Net, arcs: &[Arc]) -> Result<Vec<u8>, AllocError> {
+    let mut file = Vec::new(alloc);
+    file.extend_from_slice(&[b'D', b'R', b'N', 0, 1])?;
+    file.extend_from_slice(&[net.question as u8, net.n, net.s, net.t])?;
+    file.extend_from_slice(&((arcs.len() & 0xffff) as u16).to_be_bytes())?;
+    for arc in arcs {
+        file.extend_from_slice(&<[u8; 4]>::from(*arc))?;
     }
-}
-
-pub fn write(net: Net, a: &Rows, f: &mut Files) {
-    write_header(net, f);
-    write_records(net.m, a, f);
+    Ok(file)
 }

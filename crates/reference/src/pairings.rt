@@ -1,130 +1,123 @@
 // The least pairing by the Hungarian method: sites come in one by one, each by a cheapest path that takes pumps from sites and gives
 // them others, up to a pump that has no site. What a pair costs is never less than the site's price less the pump's, and no more where
 // the pump has the site; the price of a pump that has no site is 0.
-use super::matrix::ABSENT;
-use super::paths::{BEFORE, NOWHERE, TAKEN, VALUE, begin, next, reach};
-use super::rows::{Rows, WORK, fill_row, get, grow, put};
-use testing::answers::NONE;
-use testing::numbers::{minus, plus};
+use super::arcs::Arc;
+use super::paths::Paths;
+use std::cmp::Reverse;
 
-const PUMP_PRICE: usize = WORK + 3;
+// What the cheapest arc from each pump to each site costs.
+type Costs = [[Option<u16>; 256]; 256];
 
-const SITE_PRICE: usize = WORK + 4;
+// What is known of each vertex.
+#[derive(Clone, Copy)]
+struct Vertex {
+    // Its price as a pump, and as a site.
+    pump_price: u64,
+    site_price: u64,
+    // The site that it has as a pump.
+    site: Option<u8>,
+}
 
-// The site that each pump has, or NOWHERE; NOWHERE itself has none.
-const SITE: usize = WORK + 5;
+type Vertices = [Vertex; 256];
 
 // A pump of no network, which has the site that comes in at first.
-const START: usize = 254;
+const START: u8 = 255;
 
-// What the cheapest record of a pair costs, ABSENT where there is none.
-fn cost(a: &Rows, p: usize, q: usize) -> usize {
-    minus(ABSENT, get(a, p, q))
+// Paths to pumps: of values the less they cost, the larger.
+type Ways = Paths<Reverse<u64>>;
+
+fn add_costs(arcs: &[Arc], costs: &mut Costs) {
+    for arc in arcs {
+        let cost = &mut costs[arc.tail()][arc.head()];
+        *cost = Some(cost.map_or(arc.weight, |known| known.min(arc.weight)));
+    }
 }
 
 // What a pair costs above its prices.
-fn above(a: &Rows, p: usize, q: usize) -> usize {
-    minus(
-        plus(cost(a, p, q), get(a, PUMP_PRICE, p)),
-        get(a, SITE_PRICE, q),
-    )
+fn above(costs: &Costs, all: &Vertices, p: u8, q: u8) -> Option<u64> {
+    let cost = costs[usize::from(p)][usize::from(q)]?;
+    let raised = u64::from(cost).saturating_add(all[usize::from(p)].pump_price);
+    Some(raised.saturating_sub(all[usize::from(q)].site_price))
 }
 
-// The value of the path that goes on from pump `from` to pump p, which would take the site of `from`: the less it costs, the larger; 0
-// where no record has that pair.
-fn value(a: &Rows, from: usize, p: usize) -> usize {
-    let q = get(a, SITE, from);
-    if cost(a, p, q) == ABSENT {
-        return 0;
-    }
-    minus(get(a, VALUE, from), above(a, p, q))
-}
-
-// Continues from pump `from` to every pump.
-fn scan(a: &mut Rows, pumps: usize, from: usize) {
-    let mut p: usize = 0;
-    while p < pumps {
-        reach(a, from, p, value(a, from, p));
-        p += 1;
-    }
-}
-
-// Finds the cheapest path to a pump that has no site; that pump, or NOWHERE where there is no such path.
-fn search(a: &mut Rows, pumps: usize) -> usize {
-    begin(a, START);
-    let mut i: usize = 0;
-    while i < 256 {
-        let p = next(a);
-        if get(a, SITE, p) == NOWHERE {
-            return p;
+// Continues from a pump to every pump, which would take its site q.
+fn scan(costs: &Costs, all: &Vertices, pumps: u8, ways: &mut Ways, from: (u8, u64), q: u8) {
+    for p in 0..pumps {
+        if let Some(more) = above(costs, all, p, q) {
+            ways.reach(from.0, p, Reverse(from.1.saturating_add(more)));
         }
-        scan(a, pumps, p);
-        i += 1;
-    }
-    NOWHERE
-}
-
-// Raises the prices of a pump that paths were continued from, and of its site, by what its path costs less than one of a value.
-fn raise(a: &mut Rows, p: usize, value: usize) {
-    if get(a, TAKEN, p) == 1 {
-        let d = minus(get(a, VALUE, p), value);
-        grow(a, PUMP_PRICE, p, d);
-        grow(a, SITE_PRICE, get(a, SITE, p), d);
     }
 }
 
-fn raise_all(a: &mut Rows, value: usize) {
-    let mut p: usize = 0;
-    while p < 255 {
-        raise(a, p, value);
-        p += 1;
+// Finds the cheapest path to a pump that has no site: that pump, what the path costs, and all paths.
+fn search(costs: &Costs, all: &Vertices, pumps: u8) -> Option<(u8, u64, Ways)> {
+    let mut ways = Paths::begin(START, Reverse(0u64));
+    for _ in 0..256 {
+        let (p, Reverse(cost)) = ways.next()?;
+        let Some(q) = all[usize::from(p)].site else {
+            return Some((p, cost, ways));
+        };
+        scan(costs, all, pumps, &mut ways, (p, cost), q);
     }
+    None
+}
+
+// Raises the price of a vertex as a pump, and that of its site.
+fn raise(all: &mut Vertices, p: u8, more: u64) {
+    let pump = &mut all[usize::from(p)];
+    pump.pump_price = pump.pump_price.saturating_add(more);
+    if let Some(q) = pump.site {
+        let site = &mut all[usize::from(q)];
+        site.site_price = site.site_price.saturating_add(more);
+    }
+}
+
+// Raises the prices of each pump that paths were continued from, and of its site, by what its path costs less than one of a cost.
+fn raise_all(all: &mut Vertices, ways: &Ways, cost: u64) {
+    for p in 0..=255u8 {
+        if let Some(Reverse(less)) = ways.continued(p) {
+            raise(all, p, cost.saturating_sub(less));
+        }
+    }
+}
+
+// Gives pump p the site of another.
+fn give_site(all: &mut Vertices, from: u8, p: u8) {
+    all[usize::from(p)].site = all[usize::from(from)].site;
 }
 
 // Each pump on the path to the last gets the site of the one before it.
-fn change(a: &mut Rows, last: usize) {
+fn change(all: &mut Vertices, ways: &Ways, last: u8) {
     let mut p = last;
-    let mut i: usize = 0;
-    while i < 256 {
-        if p == START {
+    for _ in 0..256 {
+        let Some(from) = ways.before(p) else {
             return;
-        }
-        let from = get(a, BEFORE, p);
-        put(a, SITE, p, get(a, SITE, from));
+        };
+        give_site(all, from, p);
         p = from;
-        i += 1;
     }
 }
 
-// Takes site q in; is there a pump for it?
-fn take_in(a: &mut Rows, pumps: usize, q: usize) -> bool {
-    put(a, SITE, START, q);
-    let last = search(a, pumps);
-    if last == NOWHERE {
-        return false;
-    }
-    raise_all(a, get(a, VALUE, last));
-    change(a, last);
-    true
+// Takes site q in, if there is a pump for it.
+fn take_in(costs: &Costs, all: &mut Vertices, pumps: u8, q: u8) -> Option<()> {
+    all[usize::from(START)].site = Some(q);
+    let (last, cost, ways) = search(costs, all, pumps)?;
+    raise_all(all, &ways, cost);
+    change(all, &ways, last);
+    Some(())
 }
 
-// Takes the sites in; is there a pump for each?
-fn take_all_in(a: &mut Rows, pumps: usize, n: usize) -> bool {
-    let mut q = pumps;
-    while q < n {
-        if !take_in(a, pumps, q) {
-            return false;
-        }
-        q += 1;
+// The least cost of a pairing of n vertices, so many of them pumps. It is the price of START, which every path has raised by its cost.
+pub fn least(arcs: &[Arc], pumps: u8, n: u8) -> Option<u64> {
+    let mut costs = [[None; 256]; 256];
+    add_costs(arcs, &mut costs);
+    let mut all = [Vertex {
+        pump_price: 0,
+        site_price: 0,
+        site: None,
+    }; 256];
+    for q in pumps..n {
+        take_in(&costs, &mut all, pumps, q)?;
     }
-    true
-}
-
-// The least cost of a pairing of n vertices, so many of them pumps, or NONE. It is the price of START, which every path has raised by its cost.
-pub fn least(a: &mut Rows, pumps: usize, n: usize) -> usize {
-    fill_row(a, SITE, NOWHERE);
-    if take_all_in(a, pumps, n) {
-        return get(a, PUMP_PRICE, START);
-    }
-    NONE
+    Some(all[usize::from(START)].pump_price)
 }

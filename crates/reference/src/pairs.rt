@@ -1,15 +1,50 @@
-// The ends of the records of a pairing of so many pumps with so many sites, 256 × pump + site.
-use super::random::below;
-use super::rows::pair;
-use testing::numbers::{modulo, plus};
+// The ends of the arcs of a pairing of so many pumps with so many sites.
+use super::arcs::{Ends, joining};
+use super::random::{below, modulo, quotient};
 
-// From pump p to the q-th site.
-fn between(pumps: usize, sites: usize, p: usize, q: usize) -> usize {
-    pair(modulo(p, pumps), plus(pumps, modulo(q, sites)))
+#[derive(Clone, Copy, PartialEq, Eq)]
+pub enum Shape {
+    // Any pump with any site.
+    Any,
+    // Site k with pumps up to the k-th alone: one assignment at most, and spare pumps without arcs.
+    Forced,
+    // Every pump with every site.
+    Whole,
+    // The first sites / 2 + 1 sites with the first sites / 2 pumps alone: no assignment, if there are two sites or more.
+    Crowded,
+    // An assignment first, if there are pumps enough, then any.
+    Assigned,
+    // Any, and three in a row are equal.
+    ThreeEqual,
+    // Each pump with three sites that follow one another.
+    Band,
+    // One assignment after another.
+    Assignments,
+    // Pump after pump with the one site that is contested, and with the next of all sites.
+    Contested,
+    // Site k with pumps k and k + 1 alone: where one of these pumps is spare, that decides the pump of every site.
+    Ladder,
 }
 
-// Any pump with any site.
-fn any(pumps: usize, sites: usize, seed: usize, i: usize) -> usize {
+pub const SHAPES: [Shape; 10] = [
+    Shape::Any,
+    Shape::Forced,
+    Shape::Whole,
+    Shape::Crowded,
+    Shape::Assigned,
+    Shape::ThreeEqual,
+    Shape::Band,
+    Shape::Assignments,
+    Shape::Contested,
+    Shape::Ladder,
+];
+
+// From pump p to the q-th site.
+fn between(pumps: usize, sites: usize, p: usize, q: usize) -> Ends {
+    joining(modulo(p, pumps), pumps.saturating_add(modulo(q, sites)))
+}
+
+fn any(pumps: usize, sites: usize, seed: usize, i: usize) -> Ends {
     between(
         pumps,
         sites,
@@ -18,17 +53,15 @@ fn any(pumps: usize, sites: usize, seed: usize, i: usize) -> usize {
     )
 }
 
-// Site k with pumps up to the k-th alone: one assignment at most, and spare pumps without records.
-fn forced(pumps: usize, sites: usize, seed: usize, i: usize) -> usize {
+fn forced(pumps: usize, sites: usize, seed: usize, i: usize) -> Ends {
     if i < sites {
         return between(pumps, sites, i, i);
     }
     let q = below(sites, seed, i, 2);
-    between(pumps, sites, below(plus(q, 1), seed, i, 1), q)
+    between(pumps, sites, below(q.saturating_add(1), seed, i, 1), q)
 }
 
-// The first sites / 2 + 1 sites with the first sites / 2 pumps alone: no assignment, if there are two sites or more.
-fn crowded(pumps: usize, sites: usize, seed: usize, i: usize) -> usize {
+fn crowded(pumps: usize, sites: usize, seed: usize, i: usize) -> Ends {
     let q = below(sites, seed, i, 2);
     if q <= sites / 2 {
         return between(pumps, sites, below(sites / 2, seed, i, 1), q);
@@ -36,59 +69,48 @@ fn crowded(pumps: usize, sites: usize, seed: usize, i: usize) -> usize {
     between(pumps, sites, below(pumps, seed, i, 1), q)
 }
 
-// An assignment first, if there are pumps enough, then any.
-fn assigned(pumps: usize, sites: usize, seed: usize, i: usize) -> usize {
+fn assigned(pumps: usize, sites: usize, seed: usize, i: usize) -> Ends {
     if i < sites {
-        return between(pumps, sites, plus(i, seed), i);
+        return between(pumps, sites, i.saturating_add(seed), i);
     }
     any(pumps, sites, seed, i)
 }
 
-// Each pump with three sites that follow one another.
-fn band(pumps: usize, sites: usize, seed: usize, i: usize) -> usize {
+fn band(pumps: usize, sites: usize, seed: usize, i: usize) -> Ends {
     let p = modulo(i, pumps);
-    between(pumps, sites, p, plus(p, below(3, seed, i, 2)))
+    between(pumps, sites, p, p.saturating_add(below(3, seed, i, 2)))
 }
 
-// Pump after pump with the one site that is contested, and with the next of all sites.
-fn contested(pumps: usize, sites: usize, seed: usize, i: usize) -> usize {
+fn contested(pumps: usize, sites: usize, seed: usize, i: usize) -> Ends {
     if i % 2 == 0 {
         return between(pumps, sites, i / 2, seed);
     }
     between(pumps, sites, i / 2, i / 2)
 }
 
-// Does record i of a shape lead to a contested site? It then costs little, so that most pumps have their cheapest record there, and all but
+// Does arc i of a shape lead to a contested site? It then costs little, so that most pumps have their cheapest arc there, and all but
 // one in vain.
-pub fn is_contested(shape: usize, i: usize) -> bool {
-    shape == 8 && i % 2 == 0
+pub fn is_contested(shape: Shape, i: usize) -> bool {
+    shape == Shape::Contested && i % 2 == 0
 }
 
-// Site k with pumps k and k + 1 alone: where one of these pumps is spare, that decides the pump of every site.
-fn ladder(pumps: usize, sites: usize, i: usize) -> usize {
+fn ladder(pumps: usize, sites: usize, i: usize) -> Ends {
     let q = modulo(i / 2, sites);
-    between(pumps, sites, plus(q, i % 2), q)
+    between(pumps, sites, q.saturating_add(i % 2), q)
 }
 
-// How many whole rounds of a length come before i.
-pub fn rounds(length: usize, i: usize) -> usize {
-    if length == 0 {
-        return 0;
-    }
-    i / length
-}
-
-// The ends of record i of a pairing of a shape: among them every pump with every site, and one assignment after another.
-pub fn ends(shape: usize, pumps: usize, sites: usize, seed: usize, i: usize) -> usize {
+// The ends of arc i of a pairing of a shape.
+pub fn ends(shape: Shape, pumps: usize, sites: usize, seed: usize, i: usize) -> Ends {
+    let round = quotient(i, sites);
     match shape {
-        1 => forced(pumps, sites, seed, i),
-        2 => between(pumps, sites, rounds(sites, i), i),
-        3 => crowded(pumps, sites, seed, i),
-        4 => assigned(pumps, sites, seed, i),
-        6 => band(pumps, sites, seed, i),
-        7 => between(pumps, sites, plus(i, rounds(sites, i)), i),
-        8 => contested(pumps, sites, seed, i),
-        9 => ladder(pumps, sites, i),
-        _ => any(pumps, sites, seed, i),
+        Shape::Any | Shape::ThreeEqual => any(pumps, sites, seed, i),
+        Shape::Forced => forced(pumps, sites, seed, i),
+        Shape::Whole => between(pumps, sites, round, i),
+        Shape::Crowded => crowded(pumps, sites, seed, i),
+        Shape::Assigned => assigned(pumps, sites, seed, i),
+        Shape::Band => band(pumps, sites, seed, i),
+        Shape::Assignments => between(pumps, sites, i.saturating_add(round), i),
+        Shape::Contested => contested(pumps, sites, seed, i),
+        Shape::Ladder => ladder(pumps, sites, i),
     }
 }

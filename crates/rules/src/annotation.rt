@@ -1,6 +1,7 @@
 // Checks 9 to 12 (PANEL 6): the claim, a node number, an amount, and the rule on an arc.
 ghost use Rattle.std.specs.Prelude.{◌≡◌, [], ◌∷◌, eqb, leb, pos};
 ghost use Rattle.prelude.specs.Checks.{◌unless◌, first_broken};
+ghost use Rattle.refusals.specs.Refusals.{why};
 ghost use Rattle.prelude.specs.Choice.{implies};
 ghost use Rattle.prelude.specs.Integers.{eq_z};
 ghost use Rattle.arc_records.specs.Arcs.{arc_held};
@@ -13,9 +14,11 @@ ghost use Rattle.rules.specs.Held.{ends_held};
 use arc_records::Record;
 use checks::rows::{Row, row_of};
 use checks::{HeldSetting, pumps};
+use refusals::Refusal;
+use words::signed::at_most_sum;
 
 // What the ends of an arc have: node numbers and marks.
-#[derive(Clone, Copy)]
+#[derive(Clone, Copy, Debug, PartialEq, Eq)]
 pub struct Ends {
     pub tail_number: i32,
     pub head_number: i32,
@@ -27,71 +30,35 @@ pub struct Ends {
 fn is_admitted(row: Row) -> bool
     ensures { result ≡ (rules_held row).admitted }
 {
-    match row {
-        Row::PathValue => true,
-        Row::FlowValue => true,
-        Row::AssignmentValue => true,
-        Row::PathNone => true,
-        Row::AssignmentNone => true,
-        Row::AcyclicityValue => true,
-        Row::AcyclicityNone => true,
-        Row::Nothing => false,
-    }
+    row != Row::Nothing
 }
 
 // 9: is the claim 1 or 2, and is there a certificate for it?
 pub fn claim_ok(st: HeldSetting, claim: u32) -> bool
     ensures { result ≡ claim_ok (asked st) claim }
 {
-    if claim < 1 {
-        return false;
-    }
-    if 2 < claim {
-        return false;
-    }
-    is_admitted(row_of(st.question, claim))
+    1 <= claim && claim <= 2 && is_admitted(row_of(st.question, claim))
 }
 
 // Is the node number of the source 0?
 fn source_zero(st: HeldSetting, v: u32, z: i32) -> bool
     ensures { result ≡ implies (eqb v st.s) (eq_z z (pos 0)) }
 {
-    let s = st.s as u32;
-    if v == s {
-        return z == 0;
-    }
-    true
+    v != u32::from(st.s) || z == 0
 }
 
 // Is the mark z of the vertex v 1 at the source and 0 at the sink?
 fn separates(st: HeldSetting, v: u32, z: i32) -> bool
     ensures { result ≡ separates (asked st) v z }
 {
-    let s = st.s as u32;
-    let t = st.t as u32;
-    if v == s {
-        if z != 1 {
-            return false;
-        }
-        if v == t {
-            return z == 0;
-        }
-        return true;
-    }
-    if v == t {
-        return z == 0;
-    }
-    true
+    (v != u32::from(st.s) || z == 1) && (v != u32::from(st.t) || z == 0)
 }
 
 // Is the node number of a pump not negative?
 fn pump_not_negative(st: HeldSetting, v: u32, z: i32) -> bool
     ensures { result ≡ pump_not_negative (asked st) v z }
 {
-    if v < pumps(st) as u32 {
-        return words::signed::not_negative(z);
-    }
-    true
+    u32::from(pumps(st)) <= v || 0 <= z
 }
 
 // The rule on the node number of a vertex, besides the range.
@@ -100,12 +67,9 @@ fn on_node(row: Row, st: HeldSetting, v: u32, z: i32) -> bool
 {
     match row {
         Row::PathValue => source_zero(st, v, z),
-        Row::FlowValue => separates(st, v, z),
+        Row::FlowValue | Row::PathNone => separates(st, v, z),
         Row::AssignmentValue => pump_not_negative(st, v, z),
-        Row::PathNone => separates(st, v, z),
-        Row::AssignmentNone => true,
-        Row::AcyclicityValue => true,
-        Row::AcyclicityNone => true,
+        Row::AssignmentNone | Row::AcyclicityValue | Row::AcyclicityNone => true,
         Row::Nothing => false,
     }
 }
@@ -114,20 +78,15 @@ fn on_node(row: Row, st: HeldSetting, v: u32, z: i32) -> bool
 fn claim_number(claim: u32) -> u32
     ensures { result ≡ claim_number (claim_of claim) }
 {
-    if claim == 1 {
-        return 1;
-    }
-    2
+    if claim == 1 { 1 } else { 2 }
 }
 
 // 10: is the node number z of the vertex v in the range of the table, and does it meet the rule for it?
 pub fn node_ok(st: HeldSetting, claim: u32, v: u32, z: i32) -> bool
     ensures { result ≡ node_ok (asked st) (claim_of claim) v z }
 {
-    if !ranges::in_table(st.question, claim_number(claim), z) {
-        return false;
-    }
-    on_node(row_of(st.question, claim), st, v, z)
+    ranges::in_table(st.question, claim_number(claim), z)
+        && on_node(row_of(st.question, claim), st, v, z)
 }
 
 // The most amount on an arc.
@@ -135,14 +94,9 @@ fn most(row: Row, arc: Record) -> u32
     ensures { result ≡ (rules_held row).most (arc_held arc) }
 {
     match row {
-        Row::PathValue => 1,
+        Row::PathValue | Row::AssignmentValue | Row::AcyclicityNone => 1,
         Row::FlowValue => arc.weight,
-        Row::AssignmentValue => 1,
-        Row::PathNone => 0,
-        Row::AssignmentNone => 0,
-        Row::AcyclicityValue => 0,
-        Row::AcyclicityNone => 1,
-        Row::Nothing => 0,
+        Row::PathNone | Row::AssignmentNone | Row::AcyclicityValue | Row::Nothing => 0,
     }
 }
 
@@ -157,10 +111,7 @@ fn amount_ok(row: Row, arc: Record, x: u32) -> bool
 fn stays_inside(ends: Ends, arc: Record, x: u32) -> bool
     ensures { result ≡ stays_inside (ends_held ends) (load_held arc x) }
 {
-    if ends.tail_marked {
-        return ends.head_marked;
-    }
-    true
+    !ends.tail_marked || ends.head_marked
 }
 
 // 12: does the arc with its amount meet the rule on potentials, on marks or on ranks?
@@ -168,34 +119,25 @@ fn rule_ok(row: Row, ends: Ends, arc: Record, x: u32) -> bool
     ensures { result ≡ (rules_held row).on_arc (ends_held ends) (load_held arc x) }
 {
     match row {
-        Row::PathValue => words::signed::at_most_sum(
-            ends.head_number,
-            ends.tail_number,
-            arc.weight,
-        ),
-        Row::FlowValue => true,
-        Row::AssignmentValue => words::signed::at_most_sum(
-            ends.head_number,
-            ends.tail_number,
-            arc.weight,
-        ),
-        Row::PathNone => stays_inside(ends, arc, x),
-        Row::AssignmentNone => stays_inside(ends, arc, x),
-        Row::AcyclicityValue => words::signed::less(ends.tail_number, ends.head_number),
-        Row::AcyclicityNone => true,
+        Row::PathValue | Row::AssignmentValue => {
+            at_most_sum(ends.head_number, ends.tail_number, arc.weight)
+        }
+        Row::FlowValue | Row::AcyclicityNone => true,
+        Row::PathNone | Row::AssignmentNone => stays_inside(ends, arc, x),
+        Row::AcyclicityValue => ends.tail_number < ends.head_number,
         Row::Nothing => false,
     }
 }
 
-// 0, or the number of the first check that refuses the amount and the rule of an arc to be repeated: 11 or 12.
-pub fn load_check(row: Row, ends: Ends, arc: Record, x: u32) -> u8
-    ensures { result ≡ first_broken (11 unless leb x ((rules_held row).most (arc_held arc)) ∷ 12 unless (rules_held row).on_arc (ends_held ends) (load_held arc x) ∷ []) }
+// The first check that refuses the amount and the rule of an arc to be repeated: 11 or 12.
+pub fn load_check(row: Row, ends: Ends, arc: Record, x: u32) -> Result<(), Refusal>
+    ensures { why result ≡ first_broken (11 unless leb x ((rules_held row).most (arc_held arc)) ∷ 12 unless (rules_held row).on_arc (ends_held ends) (load_held arc x) ∷ []) }
 {
     if !amount_ok(row, arc, x) {
-        return 11;
+        return Err(Refusal::AmountNotAllowed);
     }
     if !rule_ok(row, ends, arc, x) {
-        return 12;
+        return Err(Refusal::ArcRuleBroken);
     }
-    0
+    Ok(())
 }

@@ -12,10 +12,10 @@ use Rattle.network.specs.Question.{Answer, value, none}
 use Rattle.state.specs.Answers.{refused, answered}
 use Rattle.network.specs.Tests.{answer_of}
 use Rattle.state.specs.State.{is_claimed, setting_held, claim_held, open_checks, read_checks, end_checks, claim_checks, number_checks, repeat_checks, finish_checks, opened}
-use Rattle.state.specs.declared.Response.TheVariants.{Accepted, Refused}
+use Rattle.state.specs.Answers.{Accepted, Refused}
 use Rattle.session.specs.Session.{potentials_in, sums_in, fresh, void, hand, accept, leaves, refuse}
 use Rattle.session.specs.Steps.{opening, read_step, end_step, claim_step, number_step, repeat_step, finish_step}
-use Rattle.session.specs.declared.Reply.{Reply}
+use Rattle.session.specs.Session.{Reply}
 use Rattle.session.specs.declared.Session.{Session}
 use Rattle.runs.specs.Run.{Step, read, end, claim, number, repeat, finish, step, run, session_after}
 use Rattle.runs.specs.Promises.{IsOver, VoidIsOver, OverForEver, RefusalLeaves, FiveChangesNothing, FinishEnds, RefusedOpeningVoid, OnlyRefusals}

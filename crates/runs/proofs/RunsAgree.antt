@@ -21,10 +21,10 @@ use Rattle.points.specs.declared.Print.{Print}
 use Rattle.points.proofs.Prints.{print_none, point_test}
 use Rattle.state.specs.Answers.{Said, accepted, gives, refused, said}
 use Rattle.state.specs.State.{held, open_checks, opened}
-use Rattle.state.specs.declared.Response.TheVariants.{Refused}
+use Rattle.state.specs.Answers.{Refused}
 use Rattle.session.specs.Session.{fresh, holding, void, hand, accept}
 use Rattle.session.specs.Steps.{opening}
-use Rattle.session.specs.declared.Reply.{Reply}
+use Rattle.session.specs.Session.{Reply}
 use Rattle.session.specs.declared.Session.{Session}
 use Rattle.runs.specs.Run.{Step, read, end, claim, number, repeat, finish, step, run, session_after, run_from, answer_to, list_from}
 use Rattle.runs.specs.AcceptedLists.{AcceptedLists, over, reading, has_read, claimed, numbers_of, sums_at, agree_at, step_checks, after_refusal, next, reply, replies, accepted_after, opened_lists, accepted_by, ReadIs}

@@ -24,11 +24,11 @@ use Rattle.points.specs.declared.Point.{Point}
 use Rattle.points.proofs.Prints.{print_none, print_more}
 use Rattle.state.specs.Answers.{Said, accepted, gives, refused, answered}
 use Rattle.state.specs.State.{state_of, held, numbers_held, with_read, with_claim, with_number, with_repeat}
-use Rattle.state.specs.declared.Response.{Response}
-use Rattle.state.specs.declared.Response.TheVariants.{Accepted, Refused}
+use Rattle.state.specs.Answers.{Response}
+use Rattle.state.specs.Answers.{Accepted, Refused}
 use Rattle.session.specs.Session.{arrays_of, with_potentials, with_balances, potentials_in, sums_in, joined, with_arrays, with_state, holding, void, hand, accept, refuse}
 use Rattle.session.specs.Steps.{read_step, end_step, claim_step, numbered_arrays, number_step, repeated_arrays, repeat_step, finish_step}
-use Rattle.session.specs.declared.Reply.{Reply}
+use Rattle.session.specs.Session.{Reply}
 use Rattle.session.specs.declared.Session.{Session}
 use Rattle.runs.specs.Run.{Step, read, end, claim, number, repeat, finish, step}
 use Rattle.runs.specs.AcceptedLists.{AcceptedLists, over, reading, has_read, claimed, numbers_of, sums_at, agree_at, after_refusal, next, reply}

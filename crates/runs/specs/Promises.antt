@@ -12,7 +12,7 @@ use Rattle.points.specs.Points.{IsPoint, count_points, misleading_points}
 use Rattle.points.specs.declared.Point.{Point}
 use Rattle.state.specs.Answers.{accepted, gives, refused, said}
 use Rattle.state.specs.State.{is_reading, has_read, is_claimed, open_checks}
-use Rattle.state.specs.declared.Response.TheVariants.{Refused}
+use Rattle.state.specs.Answers.{Refused}
 use Rattle.session.specs.Session.{void, leaves}
 use Rattle.session.specs.Steps.{opening, finish_step}
 use Rattle.session.specs.declared.Session.{Session}

@@ -10,7 +10,7 @@ use Rattle.points.specs.Points.{IsPoint}
 use Rattle.points.specs.declared.Point.{Point}
 use Rattle.state.specs.Answers.{Said, accepted, gives, refused, said}
 use Rattle.session.specs.Steps.{opening, read_step, end_step, claim_step, number_step, repeat_step, finish_step}
-use Rattle.session.specs.declared.Reply.{Reply}
+use Rattle.session.specs.Session.{Reply}
 use Rattle.session.specs.declared.Session.{Session}
 
 -- The six steps, each with any arguments (PANEL 6).

@@ -10,23 +10,17 @@ use std::env::{Env, FillError};
 
 // Whether there is an argument of this number; the name of the program is number 0.
 fn is_given<R: Env>(env: &R, i: usize) -> bool {
-    match env.arg(i, &mut []) {
-        Ok(_) | Err(FillError::TooLong) => true,
-        Err(FillError::NotPresent) => false,
-    }
+    !matches!(env.arg(i, &mut []), Err(FillError::NotPresent))
 }
 
-// Puts the argument into the buffer, and answers its length: 0 where the program is called with none or with more than one.
+// Puts the argument into the buffer (no heap, so no String), and answers its length: 0 where the program is called with none or with more than one.
 fn argument<R: Env>(env: &R, buffer: &mut [u8]) -> usize
     ensures { IsPrefixLen result buffer.new }
 {
     if is_given(env, 2) {
         return 0;
     }
-    match env.arg(1, buffer) {
-        Ok(n) => n,
-        Err(_) => 0,
-    }
+    env.arg(1, buffer).unwrap_or(0)
 }
 
 fn main(rt: HostRuntime) {
@@ -34,7 +28,6 @@ fn main(rt: HostRuntime) {
     let mut table = [0u8; 32769];
     let mut net = front::room();
     let mut out = front::room();
-    let mut text = [0u8; 32];
     let n = argument(&rt, &mut minute);
     let scheduled = schedule_line::schedule_files(
         &rt,
@@ -45,8 +38,6 @@ fn main(rt: HostRuntime) {
         &mut table,
         &mut net,
         &mut out,
-        &mut text,
     );
-    let k = scheduled.done.line;
-    io::write_all(1, &text[..k]);
+    io::write_all(1, scheduled.done.line.as_bytes());
 }

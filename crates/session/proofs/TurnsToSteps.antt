@@ -20,34 +20,16 @@ use Rattle.state.specs.Answers.{answered}
 use Rattle.state.specs.State.{is_claimed, setting_held, claim_held, idle, open_checks, opened, read_checks, with_read, end_checks, with_end, claim_checks, with_claim}
 use Rattle.state.specs.State.{number_checks, with_number, repeat_checks, with_repeat, finish_checks}
 use Rattle.state.specs.Turns.{turned, open_turn, read_turn, end_turn, claim_turn, number_turn, repeat_turn}
-use Rattle.session.specs.Session.{arrays_of, zeros, potentials_in, sums_in, joined, with_arrays, with_state, fresh, void, hand, accept, refuse}
+use Rattle.session.specs.Session.{by_turn_of, potentials_in, sums_in, with_arrays, with_state, fresh, void, hand, accept, refuse}
 use Rattle.session.specs.Steps.{opening, read_step, end_step, claim_step, numbered_arrays, number_step, repeated_arrays, repeat_step, finish_step}
-use Rattle.state.specs.declared.Response.{Response}
-use Rattle.state.specs.declared.Response.TheVariants.{Accepted, Refused}
+use Rattle.state.specs.Answers.{Response}
+use Rattle.state.specs.Answers.{Accepted, Refused}
 use Rattle.session.specs.declared.Arrays.{Arrays}
-use Rattle.session.specs.declared.Reply.{Reply}
+use Rattle.session.specs.Session.{Reply}
 use Rattle.session.specs.declared.Session.{Session}
 use Rattle.state.specs.declared.State.{State}
-use Rattle.state.specs.declared.Turn.{Turn}
+use Rattle.state.specs.Turns.{Turn}
 use Rattle.state.proofs.Laws.{stays, goes}
-
--- ---- a refusal: does it end the session?
-
-pub refused_ended : (x : Session) (k : ℕ) → (is_claimed x.state && not (eqb k 5)) ≡ true → (y : Session) → y ≡ void → hand y (Refused k) ≡ refuse x k
-refused_ended x k e y v = ap (λ (z : Session). hand z (Refused k)) v ∙ go (is_claimed x.state) (eqb k 5) e
-  where
-    go : (b d : Bool) → (b && not d) ≡ true → hand void (Refused k) ≡ hand (pick b (pick d x void) x) (Refused k)
-    go true false e = refl
-    go true true e = absurd (false≢true e)
-    go false d e = absurd (false≢true e)
-
-pub refused_same : (x : Session) (k : ℕ) → (is_claimed x.state && not (eqb k 5)) ≡ false → hand x (Refused k) ≡ refuse x k
-refused_same x k e = go (is_claimed x.state) (eqb k 5) e
-  where
-    go : (b d : Bool) → (b && not d) ≡ false → hand x (Refused k) ≡ hand (pick b (pick d x void) x) (Refused k)
-    go true true e = refl
-    go true false e = absurd (false≢true (sym e))
-    go false d e = refl
 
 -- ---- any step
 
@@ -137,68 +119,12 @@ repeat_replies x l u e =
     (refl, (refl, (refl, (refl, (refl, (refl, (refl, tt))))))) u e
 
 -- a step that changes nothing but the state
-pub by_state : {x : Session} {u : Turn} {v : Reply} → Replies x x u v → pick (eqb u.why 0) (accept (with_state x u.state)) (refuse x u.why) ≡ v
+pub by_state : {x : Session} {u : Turn} {v : Reply} → Replies x x u v → by_turn_of x u ≡ v
 by_state {x} {u} {v} g = go (ℕ_discrete u.why 0)
   where
-    go : Dec (u.why ≡ 0) → pick (eqb u.why 0) (accept (with_state x u.state)) (refuse x u.why) ≡ v
+    go : Dec (u.why ≡ 0) → by_turn_of x u ≡ v
     go (yes z) = sym (eqb_on Reply v _ (refuse x u.why) u.why 0 z (sym (g.accepted z)))
     go (no n) = sym (eqb_off Reply v (accept (with_state x u.state)) _ u.why 0 n (sym (g.refused n)))
-
--- ---- a step with one way out
-
--- is the session over, and what does the step say?
-abbrev over_at : State → ℕ → Bool
-over_at x k = pick (eqb k 0) false (is_claimed x && not (eqb k 5))
-
-abbrev said_at : ℕ → Response
-said_at k = pick (eqb k 0) Accepted (Refused k)
-
--- the session, each part cleared by itself where it is over
-abbrev cleared : Bool → Session → Session
-cleared over y =
-    joined (arrays_of (pick over zeros y.arrays.potentials) (pick over zeros y.arrays.balances)) (pick over idle y.state)
-
--- arrays of which one is touched where a test holds
-pub touched : (make : List ℤ → Arrays) (b : Bool) (p q : List ℤ) {l : List ℤ} → l ≡ pick b p q → make l ≡ pick b (make p) (make q)
-touched make true p q e = ap make e
-touched make false p q e = ap make e
-
--- a: the arrays after the step, before a session that is over is cleared
-module _ {x y : Session} {u : Turn} {v : Reply} (g : Replies x y u v) (a : Arrays) (ea : a ≡ pick (eqb u.why 0) y.arrays x.arrays) where
-  abbrev after : Session
-  after = joined a u.state
-
-  out : hand (cleared (over_at x.state u.why) after) (said_at u.why) ≡ v
-  out = go (ℕ_discrete u.why 0)
-    where
-      next : (b d : Bool) → b ≡ true → hand (cleared (pick b false d) after) (pick b Accepted (Refused u.why)) ≡ accept after
-      next true d e = refl
-      next false d e = absurd (false≢true e)
-
-      back : (b c d : Bool) → b ≡ false → hand (cleared (pick b false (c && not d)) x) (pick b Accepted (Refused u.why)) ≡ hand (pick c (pick d x void) x) (Refused u.why)
-      back true c d e = absurd (false≢true (sym e))
-      back false true true e = refl
-      back false true false e = refl
-      back false false d e = refl
-
-      untouched : (u.why ≡ 0 → ⊥) → a ≡ x.arrays
-      untouched n = ea ∙ sym (off Arrays x.arrays y.arrays x.arrays _ (ne_eqb u.why 0 n) refl)
-
-      go : Dec (u.why ≡ 0) → hand (cleared (over_at x.state u.why) after) (said_at u.why) ≡ v
-      go (yes z) =
-          next (eqb u.why 0) _ (eq-eqb u.why 0 z)
-          ∙ ap (λ (c : Arrays). accept (joined c u.state)) (ea ∙ sym (on Arrays y.arrays y.arrays x.arrays _ (eq-eqb u.why 0 z) refl))
-          ∙ g.accepted z
-      go (no n) =
-          (λ i. hand (cleared (over_at x.state u.why) (joined (untouched n i) (g.kept n i))) (said_at u.why))
-          ∙ back (eqb u.why 0) (is_claimed x.state) (eqb u.why 5) (ne_eqb u.why 0 n)
-          ∙ g.refused n
-
-  pub one_way : (over : Bool) → over ≡ over_at x.state u.why → {ys bs : List ℤ} {s : State} {r : Response}
-      → ys ≡ pick over zeros a.potentials → bs ≡ pick over zeros a.balances → s ≡ pick over idle u.state → r ≡ said_at u.why
-      → hand (joined (arrays_of ys bs) s) r ≡ v
-  one_way over eo ey eb es er =
-      (λ i. hand (joined (arrays_of (ey i) (eb i)) (es i)) (er i)) ∙ ap (λ (o : Bool). hand (cleared o after) (said_at u.why)) eo ∙ out
 
 -- ---- finishing
 

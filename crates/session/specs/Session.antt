@@ -8,12 +8,12 @@ use Rattle.points.specs.declared.Point.{Point}
 use Rattle.totals.specs.Held.{sums_held}
 use Rattle.checks.specs.declared.HeldSetting.{HeldSetting}
 use Rattle.state.specs.State.{is_claimed, begun, idle}
-use Rattle.state.specs.declared.Response.{Response}
-use Rattle.state.specs.declared.Response.TheVariants.{Accepted, Refused}
+use Rattle.state.specs.Answers.{Response}
+use Rattle.state.specs.Answers.{Accepted, Refused}
+use Rattle.state.specs.Turns.{Turn}
 use Rattle.state.specs.declared.State.{State}
 use Rattle.points.specs.declared.Stream.{Stream}
 use Rattle.session.specs.declared.Arrays.{Arrays}
-use Rattle.session.specs.declared.Reply.{Reply}
 use Rattle.session.specs.declared.Session.{Session}
 
 -- ---- arrays
@@ -76,6 +76,11 @@ void = fresh idle
 
 -- ---- replies
 
+-- What a step hands back: the session and its answer.
+pub record Reply : Type 0 where
+  pub session : Session
+  pub answer : Response
+
 -- The reply with a session and an answer.
 abbrev pub hand : Session → Response → Reply
 hand x a = record { session = x; answer = a }
@@ -91,3 +96,7 @@ leaves x k = pick (is_claimed x.state) (pick (eqb k 5) x void) x
 -- The reply of a step that is refused with the number k.
 abbrev pub refuse : Session → ℕ → Reply
 refuse x k = hand (leaves x k) (Refused k)
+
+-- The reply to a step that changes nothing but the state, of which it makes this turn.
+abbrev pub by_turn_of : Session → Turn → Reply
+by_turn_of x u = pick (eqb u.why 0) (accept (with_state x u.state)) (refuse x u.why)

@@ -9,10 +9,10 @@ use Rattle.points.specs.declared.Point.{Point}
 use Rattle.state.specs.Answers.{answered}
 use Rattle.vertex_arrays.specs.Arrays.{moved}
 use Rattle.state.specs.State.{setting_held, claim_held, open_checks, opened, read_checks, with_read, end_checks, with_end, claim_checks, with_claim, number_checks, with_number, repeat_checks, with_repeat, finish_checks}
-use Rattle.state.specs.declared.Response.TheVariants.{Refused}
+use Rattle.state.specs.Answers.{Refused}
 use Rattle.session.specs.Session.{with_potentials, with_balances, potentials_in, sums_in, with_arrays, with_state, fresh, void, hand, accept, refuse}
 use Rattle.session.specs.declared.Arrays.{Arrays}
-use Rattle.session.specs.declared.Reply.{Reply}
+use Rattle.session.specs.Session.{Reply}
 use Rattle.session.specs.declared.Session.{Session}
 
 -- Opening; refused, the session is void.

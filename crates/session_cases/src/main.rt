@@ -2,13 +2,13 @@
 // The cases are lines of standard input, which says at its top how it is written; a line is printed for each.
 #![tactic(auto)]
 
-mod answers;
 mod cases;
-mod runs;
+mod rows;
 mod steps;
 
-fn main() {
-    let mut input = [0u8; 131072];
-    let n = io::read_full(0, &mut input);
-    cases::run(&input[..n]);
+use std::io;
+
+fn main(rt: HostRuntime) -> io::Result<()> {
+    let script = io::read_to_string(rt.alloc(), rt.reader())?;
+    cases::run(&rt, script.as_str())
 }

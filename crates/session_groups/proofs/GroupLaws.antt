@@ -1,17 +1,13 @@
--- Laws on the groups: one after a step, sums that fit, and checks that follow other checks.
-use mathlib.Core.Path.{◌≡◌, refl}
-use mathlib.Core.Bool.{Bool, true, false, ◌&&◌}
+-- Laws on the groups: one after a step, products that fit, and checks that follow other checks.
+use mathlib.Core.Path.{◌≡◌}
 use mathlib.Core.List.{List, ◌++◌}
 use Prim.Native.Nat.{ℕ, ◌+◌, ◌*◌, ◌≤◌}
 use native.Mathlib.Nat.{mul-le-mul}
 use native.Mathlib.Omega.{arith}
-use lib.IntN.{ℤ, pos, ◌+ℤ◌}
+use lib.IntN.{ℤ}
 use mir.Syntax.{w32}
 use mir.Val.{Fits}
 use Rattle.prelude.specs.Checks.{Check, first_broken}
-use Rattle.prelude.specs.Choice.{pick}
-use Rattle.words.specs.Bounded.{small, bounded_sum}
-use Rattle.prelude.proofs.Integers.{signed, parts_add}
 use Rattle.prelude.proofs.Settle.{Numbered, part_refused, part_passed}
 use Rattle.session_groups.specs.Groups.{marks_after, number_more}
 use Rattle.session_groups.specs.declared.Numbering.{Numbering}
@@ -24,14 +20,6 @@ number_done g z words f = λ i. record { claim = g.claim; given = g.given + 1; m
 
 pub product_fits : (x w : ℕ) → w ≤ 32767 → x ≤ 32767 → Fits w32 (x * w)
 product_fits x w h k = omega (arith, mul-le-mul k h)
-
--- nothing more
-pub plus_zero : (c : ℤ) (w : ℕ) → c ≡ bounded_sum c (pos (w * 0))
-plus_zero c w = go (small c && small (pos (w * 0)))
-  where
-    go : (b : Bool) → c ≡ pick b (c +ℤ pos (w * 0)) c
-    go true = omega (signed, parts_add c (pos (w * 0)))
-    go false = refl
 
 -- ---- checks that follow others, by the number that a function found of the first ones
 

@@ -11,7 +11,7 @@ use checks::HeldSetting;
 use points::{Point, Stream};
 use words::signed::increase;
 
-pub mod refusals;
+pub mod step_checks;
 
 // No group has a gap between its fields: it would be copied in pieces at each step. The half word that is left over stands at the end of the last group.
 
@@ -39,7 +39,7 @@ pub struct Repeating {
     pub list: Stream,
 }
 
-// The phases of a session (PANEL 6); one with any other number is over, too.
+// The phases of a session (PANEL 6); one with any other number is over, too. They are numbers: a phase fills a whole word of the state, since gaps between fields are copied in pieces at each step (measured), and contracts hold for every number.
 pub const OVER: u64 = 0;
 
 pub const READING: u64 = 1;
@@ -63,7 +63,7 @@ pub fn claimed(claim: u32) -> Numbering
     ensures { result ≡ claimed claim }
 {
     Numbering {
-        claim: claim,
+        claim,
         given: 0,
         marks: [0u64; 4],
     }
@@ -84,10 +84,7 @@ pub fn unrepeated() -> Repeating
 pub fn leads_out(from: bool, to: bool) -> bool
     ensures { result ≡ (from && not to) }
 {
-    if from {
-        return !to;
-    }
-    false
+    from && !to
 }
 
 // The capacity of the cut with one arc more, which may carry so many units.

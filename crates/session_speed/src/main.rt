@@ -2,13 +2,11 @@
 // For measuring; the gate runs it on two bytes.
 #![tactic(auto)]
 
-ghost use Rattle.io.specs.Counts.{IsPrefixLen};
-
 use checks::Opening;
 use points::Point;
+use refusals::Refusal;
 use session::Session;
-use state::Response;
-use std::io::{Input, Read};
+use std::io::{self, Input, Read};
 
 // The tail, head and weight of the i-th channel; 32 of 4096 are basins.
 fn tail(i: u32) -> u32 {
@@ -25,34 +23,24 @@ fn weight(i: u32) -> u32 {
 
 // All channels read.
 fn read(point: Point) -> Session {
-    let o = Opening {
+    let opening = Opening {
         question: 2,
         n: 255,
         s: 0,
         t: 254,
     };
-    let r = Session::open(o, point);
-    let mut x = r.session;
-    let mut i: u32 = 0;
-    while i < 4096 {
-        let s = x.read_channel(tail(i), head(i), weight(i));
-        x = s.session;
-        i += 1;
+    let mut x = Session::open(opening, point).session;
+    for i in 0..4096 {
+        x = x.read_channel(tail(i), head(i), weight(i)).session;
     }
-    let e = x.end_reading();
-    e.session
+    x.end_reading().session
 }
 
 // The claim of a value, and the marks: 1 at the source, 0 elsewhere.
 fn marked(from: Session) -> Session {
-    let c = from.claim(1);
-    let s = c.session.node_number(1);
-    let mut x = s.session;
-    let mut i: u32 = 0;
-    while i < 254 {
-        let n = x.node_number(0);
-        x = n.session;
-        i += 1;
+    let mut x = from.claim(1).session.node_number(1).session;
+    for _ in 0..254 {
+        x = x.node_number(0).session;
     }
     x
 }
@@ -60,67 +48,40 @@ fn marked(from: Session) -> Session {
 // All channels again, empty.
 fn repeated(from: Session) -> Session {
     let mut x = from;
-    let mut i: u32 = 0;
-    while i < 4096 {
-        let s = x.repeat_channel(tail(i), head(i), weight(i), 0);
-        x = s.session;
-        i += 1;
+    for i in 0..4096 {
+        x = x.repeat_channel(tail(i), head(i), weight(i), 0).session;
     }
     x
 }
 
-// The number of the refusal that one session ends in, 0 for none.
-fn one(byte: u8, point: Point) -> u64 {
+// What one session ends in.
+fn one(byte: u8, point: Point) -> Result<Option<u64>, Refusal> {
     let x = read(point);
     if byte == b'r' {
-        let f = x.finish();
-        let early = f.answer;
-        return number(early);
+        return x.finish().answer;
     }
-    let f = repeated(marked(x)).finish();
-    let last = f.answer;
-    number(last)
+    repeated(marked(x)).finish().answer
 }
 
-fn number(answer: Response) -> u64 {
+// The value or the number of the refusal, 0 for none.
+fn number(answer: Result<Option<u64>, Refusal>) -> u64 {
     match answer {
-        Response::Accepted => 0,
-        Response::Value(v) => v,
-        Response::None => 0,
-        Response::Refused(k) => k as u64,
+        Ok(value) => value.unwrap_or(0),
+        Err(why) => u64::from(u8::from(why)),
     }
 }
 
-fn print(n: u64) {
-    io::print_decimal(1, n);
-    io::write_all(1, b"\n");
-}
-
-// One session a byte.
-fn rounds(bytes: &[u8], point: Point) {
-    let mut i = 0;
-    while i < bytes.len() {
-        print(one(bytes[i], point));
-        i += 1;
-    }
-}
-
-// What one read of the standard input gives; nothing where it fails.
-fn input_into<R: Input>(rt: &R, input: &mut [u8]) -> usize
-    ensures { IsPrefixLen result input.new }
-{
-    match rt.reader().read(input) {
-        Ok(n) => n,
-        Err(_) => 0,
-    }
-}
-
-fn main(rt: HostRuntime) {
-    let mut input = io::large_buffer();
-    let n = input_into(&rt, &mut input);
+// One session a byte of what one read of the standard input gives.
+fn main(rt: HostRuntime) -> io::Result<()> {
+    let mut input = [0u8; 65536];
+    let n = rt.reader().read(&mut input)?;
     let point = Point {
         first: 5,
         second: 6,
     };
-    rounds(&input[..n], point);
+    for byte in &input[..n] {
+        let last = number(one(*byte, point));
+        println!(rt; "{last}")?;
+    }
+    Ok(())
 }

@@ -8,20 +8,19 @@ ghost use Rattle.cert_instances.specs.Certify.{finding_number, CertifyOutcome};
 use cert_acyclicity::certify_acyclicity;
 use cert_assignment::certify_assignment;
 use cert_flow::certify_flow;
-use cert_instances::Finding;
 use cert_instances::records::is_admissible;
+use cert_instances::{Claim, Inadmissible};
 use cert_path::certify_path;
 use checks::HeldSetting;
 use checks::rows::{Question, question_of};
 
 // The number of the claim: 1 for a value, 2 for none; 0 for a refusal.
-pub fn claim_number(finding: Finding) -> u8
-    ensures { result ≡ finding_number finding }
+pub fn claim_number(found: Result<Claim, Inadmissible>) -> u8
+    ensures { result ≡ finding_number found }
 {
-    match finding {
-        Finding::Value => 1,
-        Finding::None => 2,
-        Finding::Refused => 0,
+    match found {
+        Ok(claim) => u8::from(claim),
+        Err(Inadmissible) => 0,
     }
 }
 
@@ -31,18 +30,18 @@ pub fn certify(
     records: &[u32],
     numbers: &mut [i32],
     amounts: &mut [u16],
-) -> Finding
+) -> Result<Claim, Inadmissible>
     ensures { CertifyOutcome (asked st) records.now numbers.old amounts.old numbers.new amounts.new (finding_number result) }
 {
     let question = question_of(st.question as u32);
     if !is_admissible(st, records, numbers.len(), amounts.len()) {
-        return Finding::Refused;
+        return Err(Inadmissible);
     }
     match question {
-        Question::Path => certify_path(st, records, numbers, amounts),
-        Question::Flow => certify_flow(st, records, numbers, amounts),
-        Question::Assignment => certify_assignment(st, records, numbers, amounts),
-        Question::Acyclicity => certify_acyclicity(st, records, numbers, amounts),
-        Question::Unasked => Finding::Refused,
+        Question::Path => Ok(certify_path(st, records, numbers, amounts)),
+        Question::Flow => Ok(certify_flow(st, records, numbers, amounts)),
+        Question::Assignment => Ok(certify_assignment(st, records, numbers, amounts)),
+        Question::Acyclicity => Ok(certify_acyclicity(st, records, numbers, amounts)),
+        Question::Unasked => Err(Inadmissible),
     }
 }

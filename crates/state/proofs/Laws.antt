@@ -26,9 +26,8 @@ use Rattle.points.specs.declared.Stream.{Stream}
 use Rattle.totals.specs.Held.{sums_held}
 use Rattle.session_groups.proofs.GroupLaws.{broken_first, broken_later}
 use Rattle.state.specs.State.{is_claimed, setting_held, claim_held, marks_held, repeat_more, state_of, open_checks, with_read, repeat_checks, with_repeat, finish_checks}
-use Rattle.state.specs.Turns.{turned}
+use Rattle.state.specs.Turns.{Turn, turned}
 use Rattle.state.specs.declared.State.{State}
-use Rattle.state.specs.declared.Turn.{Turn}
 
 -- ---- a turn by the number that its checks gave
 

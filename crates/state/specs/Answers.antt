@@ -1,8 +1,13 @@
 -- What the answers of steps say (PANEL 6).
 use Rattle.std.specs.Prelude.{ℕ}
 use Rattle.network.specs.Question.{Answer, value, none}
-use Rattle.state.specs.declared.Response.{Response}
-use Rattle.state.specs.declared.Response.TheVariants.{Accepted, Value, None, Refused}
+
+-- What a step answers: it is accepted, it gives a value or none, or it is refused with a number of PANEL 11.
+pub data Response : Type 0 where
+  Accepted : Response
+  Value : ℕ → Response
+  None : Response
+  Refused : ℕ → Response
 
 -- A step is accepted, it gives a value or none, or it is refused with a number of PANEL 11.
 pub data Said : Type 0 where
@@ -10,7 +15,7 @@ pub data Said : Type 0 where
   gives : Answer → Said
   refused : ℕ → Said
 
--- What a response of the code says.
+-- What a response says.
 abbrev pub said : Response → Said
 said Accepted = accepted
 said (Value v) = gives (value v)

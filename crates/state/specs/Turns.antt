@@ -1,5 +1,5 @@
 -- The steps on a state alone (PANEL 6): what each makes of it.
-use Rattle.std.specs.Prelude.{List, ℕ, ℤ}
+use Rattle.std.specs.Prelude.{List, ℕ, ℤ, Result, Ok, Err}
 use Rattle.prelude.specs.Checks.{Check, settle}
 use Rattle.arc_records.specs.Arcs.{Arc}
 use Rattle.network.specs.Network.{Load}
@@ -7,7 +7,18 @@ use Rattle.network.specs.Question.{Setting}
 use Rattle.points.specs.declared.Point.{Point}
 use Rattle.state.specs.State.{idle, open_checks, opened, read_checks, with_read, end_checks, with_end, claim_checks, with_claim, number_checks, with_number, repeat_checks, with_repeat}
 use Rattle.state.specs.declared.State.{State}
-use Rattle.state.specs.declared.Turn.{Turn}
+use Rattle.refusals.specs.declared.Refusal.{Refusal}
+use Rattle.refusals.specs.Refusals.{number}
+
+-- What a step makes of a state: 0 and the next state, or the number of the refusal and the state as it was.
+pub record Turn : Type 0 where
+  pub state : State
+  pub why : ℕ
+
+-- The same, from the result of a step on the state x.
+abbrev pub turn_of : State → Result State Refusal → Turn
+turn_of x (Ok y) = record { state = y; why = 0 }
+turn_of x (Err r) = record { state = x; why = number r }
 
 -- The number of the first check that refuses the step, and the state as it was; or 0, and the next state.
 abbrev pub turned : State → List Check → State → Turn

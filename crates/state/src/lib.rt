@@ -3,6 +3,7 @@
 
 ghost use Rattle.std.specs.Prelude.{◌≡◌, not, ◌&&◌, ◌≤◌, ◌<◌, eqb, set};
 ghost use Rattle.prelude.specs.Checks.{first_broken};
+ghost use Rattle.refusals.specs.Refusals.{number, why};
 ghost use Rattle.prelude.specs.Choice.{pick};
 ghost use Rattle.prelude.specs.Lists.{at};
 ghost use Rattle.arc_records.specs.Arcs.{arc_held};
@@ -11,35 +12,30 @@ ghost use Rattle.network.specs.Tests.{answer_of};
 ghost use Rattle.points.specs.Points.{empty_stream};
 ghost use Rattle.checks.specs.Held.{handed, rules_held};
 ghost use Rattle.totals.specs.Held.{sums_held};
-ghost use Rattle.state.specs.Answers.{answered};
+ghost use Rattle.state.specs.Results.{answer_held};
 ghost use Rattle.state.specs.State.{is_claimed, setting_held, claim_held, marks_held, begun, idle, with_repeat, finish_checks};
-ghost use Rattle.state.specs.Turns.{open_turn, read_turn, end_turn, claim_turn, number_turn, repeat_turn};
+ghost use Rattle.state.specs.Turns.{turn_of, open_turn, read_turn, end_turn, claim_turn, number_turn, repeat_turn};
 
 use additions::{cost_after, with_arc, with_number};
 use arc_records::{Balances, Potentials, Record};
 use checks::rows::{Row, question_of, row_of, unit_cost, units_most};
 use checks::{HeldSetting, Opening};
 use points::{Point, Stream, lists_check};
+use refusals::Refusal;
 use rules::annotation::{claim_ok, load_check};
-use session_groups::refusals::{number_check, open_check, read_check, repeat_check};
+use session_groups::step_checks::{
+    is_ended_by, number_check, open_check, read_check, repeat_check,
+};
 use session_groups::{
     CLAIMED, Numbering, OVER, READ, READING, Reading, Repeating, claimed, cut_after, leads_out,
-    no_list, refusals, unrepeated,
+    no_list, unrepeated,
 };
 use totals::totals_check;
-use vertex_arrays::{ends_of, store_at};
+use vertex_arrays::ends_of;
+use words::entries::store;
 use words::signed::to_unsigned;
 
 mod additions;
-
-// What a step answers.
-#[derive(Clone, Copy)]
-pub enum Response {
-    Accepted,
-    Value(u64),
-    None,
-    Refused(u8),
-}
 
 // What a session knows but for the two arrays: the phase, which fills a whole word as every group does, and the groups.
 #[derive(Clone, Copy)]
@@ -48,13 +44,6 @@ pub struct State {
     reading: Reading,
     numbering: Numbering,
     repeating: Repeating,
-}
-
-// What a step makes of a state: 0 and the next state, or the number of the refusal and the state as it was.
-#[derive(Clone, Copy)]
-pub struct Turn {
-    pub state: State,
-    pub why: u8,
 }
 
 // The state before the claim that has read nothing.
@@ -87,136 +76,94 @@ pub fn idle() -> State
     begun(OVER, setting, points::no_point())
 }
 
-// The answer of an annotation that passes.
-fn answer_of(row: Row, balances: Balances, cost: i64, cut: i64) -> Response
-    ensures { result ≡ answered ((rules_held row).answer (sums_held balances cost cut)) }
+// The answer of an annotation that passes: a value, or none.
+fn answer_of(row: Row, balances: Balances, cost: i64, cut: i64) -> Option<u64>
+    ensures { answer_held result ≡ (rules_held row).answer (sums_held balances cost cut) }
 {
     match row {
-        Row::PathValue => Response::Value(to_unsigned(cost)),
-        Row::FlowValue => Response::Value(to_unsigned(cut)),
-        Row::AssignmentValue => Response::Value(to_unsigned(cost)),
-        Row::PathNone => Response::None,
-        Row::AssignmentNone => Response::None,
-        Row::AcyclicityValue => Response::Value(0),
-        Row::AcyclicityNone => Response::None,
-        Row::Nothing => Response::None,
+        Row::PathValue => Some(to_unsigned(cost)),
+        Row::FlowValue => Some(to_unsigned(cut)),
+        Row::AssignmentValue => Some(to_unsigned(cost)),
+        Row::PathNone => None,
+        Row::AssignmentNone => None,
+        Row::AcyclicityValue => Some(0),
+        Row::AcyclicityNone => None,
+        Row::Nothing => None,
     }
 }
 
 impl State {
     // Opening.
-    pub fn open(o: Opening, point: Point) -> Turn
-        ensures { result ≡ open_turn (handed o) point }
+    pub fn open(o: Opening, point: Point) -> Result<State, Refusal>
+        ensures { turn_of idle result ≡ open_turn (handed o) point }
     {
-        let why = open_check(o, point);
-        if why != 0 {
-            return Turn {
-                state: idle(),
-                why: why,
-            };
-        }
+        open_check(o, point)?;
         let setting = HeldSetting {
             question: o.question as u8,
             n: o.n as u8,
             s: o.s as u8,
             t: o.t as u8,
         };
-        Turn {
-            state: begun(READING, setting, point),
-            why: 0,
-        }
+        Ok(begun(READING, setting, point))
     }
 
     // Reading a channel.
-    pub fn read_channel(mut self, arc: Record) -> Turn
-        ensures { result ≡ read_turn self (arc_held arc) }
+    pub fn read_channel(mut self, arc: Record) -> Result<State, Refusal>
+        ensures { turn_of self result ≡ read_turn self (arc_held arc) }
     {
         let mut reading = self.reading;
         let list = reading.list;
-        let why = read_check(self.phase, reading.setting, list.count, arc);
-        if why != 0 {
-            return Turn {
-                state: self,
-                why: why,
-            };
-        }
+        read_check(self.phase, reading.setting, list.count, arc)?;
         let next = with_arc(reading.point, list, arc_records::MOST_ARCS, arc);
         reading.list = next;
         self.reading = reading;
-        Turn {
-            state: self,
-            why: 0,
-        }
+        Ok(self)
     }
 
     // Ending the reading.
-    pub fn end_reading(mut self) -> Turn
-        ensures { result ≡ end_turn self }
+    pub fn end_reading(mut self) -> Result<State, Refusal>
+        ensures { turn_of self result ≡ end_turn self }
     {
         let phase = self.phase;
         if phase != READING {
-            return Turn {
-                state: self,
-                why: 5,
-            };
+            return Err(Refusal::NotNow);
         }
         self.phase = READ;
-        Turn {
-            state: self,
-            why: 0,
-        }
+        Ok(self)
     }
 
     // The claim.
-    pub fn claim(mut self, claim: u32) -> Turn
-        ensures { result ≡ claim_turn self claim }
+    pub fn claim(mut self, claim: u32) -> Result<State, Refusal>
+        ensures { turn_of self result ≡ claim_turn self claim }
     {
         let phase = self.phase;
         let reading = self.reading;
         if phase != READ {
-            return Turn {
-                state: self,
-                why: 5,
-            };
+            return Err(Refusal::NotNow);
         }
         if !claim_ok(reading.setting, claim) {
-            return Turn {
-                state: self,
-                why: 9,
-            };
+            return Err(Refusal::ClaimNotAllowed);
         }
         self.phase = CLAIMED;
         self.numbering = claimed(claim);
-        Turn {
-            state: self,
-            why: 0,
-        }
+        Ok(self)
     }
 
     // A node number, which is then to be stored.
-    pub fn node_number(mut self, y: i32) -> Turn
-        ensures { result ≡ number_turn self y }
+    pub fn node_number(mut self, y: i32) -> Result<State, Refusal>
+        ensures { turn_of self result ≡ number_turn self y }
     {
         let reading = self.reading;
         let numbering = self.numbering;
-        let why = number_check(
+        number_check(
             self.phase,
             reading.setting,
             numbering.claim,
             numbering.given,
             y,
-        );
-        if why != 0 {
-            return Turn {
-                state: self,
-                why: why,
-            };
-        }
+        )?;
         self.numbering = with_number(numbering, reading.setting.n, y);
-        Turn {
-            state: self,
-            why: 0,
-        }
+        Ok(self)
     }
 
     // Stores the node number y as that of the next vertex.
@@ -224,14 +171,14 @@ impl State {
         ensures { potentials.new ≡ set potentials.old self.numbering.given y }
     {
         let numbering = self.numbering;
-        store_at(potentials, numbering.given, y);
+        store(potentials, numbering.given as usize, y);
     }
 
-    // Does a refusal with this number end the session? Once a claim stands, every one but 5 does.
-    pub fn is_ended_by(self, why: u8) -> bool
-        ensures { result ≡ (is_claimed self && not (eqb why 5)) }
+    // Does the refusal end the session? Once a claim stands, every one but 5 does.
+    pub fn is_ended_by(self, refusal: Refusal) -> bool
+        ensures { result ≡ (is_claimed self && not (eqb (number refusal) 5)) }
     {
-        refusals::is_ended_by(self.phase, why)
+        is_ended_by(self.phase, refusal)
     }
 
     // The state, or that of a void session where the session is over.
@@ -271,65 +218,52 @@ impl State {
     }
 
     // A repeated channel, whose amount is then to be moved between the balances.
-    pub fn repeat_channel(self, potentials: &Potentials, arc: Record, x: u32) -> Turn
-        ensures { result ≡ repeat_turn self (at potentials.now) (load_held arc x) }
+    pub fn repeat_channel(
+        self,
+        potentials: &Potentials,
+        arc: Record,
+        x: u32,
+    ) -> Result<State, Refusal>
+        ensures { turn_of self result ≡ repeat_turn self (at potentials.now) (load_held arc x) }
     {
         let reading = self.reading;
         let numbering = self.numbering;
         let repeating = self.repeating;
-        let refused = repeat_check(
+        repeat_check(
             self.phase,
             reading.setting,
             numbering.given,
             reading.list.count,
             repeating.list.count,
             arc,
-        );
-        if refused != 0 {
-            return Turn {
-                state: self,
-                why: refused,
-            };
-        }
+        )?;
         let marks = numbering.marks;
         let ends = ends_of(potentials, marks, arc);
-        let why = load_check(
+        load_check(
             row_of(reading.setting.question, numbering.claim),
             ends,
             arc,
             x,
-        );
-        if why != 0 {
-            return Turn {
-                state: self,
-                why: why,
-            };
-        }
+        )?;
         let crossing = leads_out(ends.tail_marked, ends.head_marked);
-        Turn {
-            state: self.with_repeat(crossing, arc, x),
-            why: 0,
-        }
+        Ok(self.with_repeat(crossing, arc, x))
     }
 
-    // 0, or the number of the first check that refuses finishing: 5, 13, 14, 15 or 16.
-    pub fn finish_check(self, potentials: Potentials, balances: Balances) -> u8
-        ensures { result ≡ first_broken (finish_checks self (at potentials) (sums_held balances self.repeating.cost self.repeating.cut)) }
+    // The first check that refuses finishing: 5, 13, 14, 15 or 16.
+    pub fn finish_check(self, potentials: Potentials, balances: Balances) -> Result<(), Refusal>
+        ensures { why result ≡ first_broken (finish_checks self (at potentials) (sums_held balances self.repeating.cost self.repeating.cut)) }
     {
         let reading = self.reading;
         let numbering = self.numbering;
         let repeating = self.repeating;
         let st = reading.setting;
         if self.phase != CLAIMED {
-            return 5;
+            return Err(Refusal::NotNow);
         }
         if numbering.given != st.n as u32 {
-            return 5;
+            return Err(Refusal::NotNow);
         }
-        let why = lists_check(reading.list, repeating.list);
-        if why != 0 {
-            return why;
-        }
+        lists_check(reading.list, repeating.list)?;
         let row = row_of(st.question, numbering.claim);
         let marks = numbering.marks;
         totals_check(
@@ -344,8 +278,8 @@ impl State {
     }
 
     // The answer where finishing is not refused.
-    pub fn answer(self, balances: Balances) -> Response
-        ensures { result ≡ answered (answer_of (setting_held self) (claim_held self) (sums_held balances self.repeating.cost self.repeating.cut)) }
+    pub fn answer(self, balances: Balances) -> Option<u64>
+        ensures { answer_held result ≡ answer_of (setting_held self) (claim_held self) (sums_held balances self.repeating.cost self.repeating.cut) }
     {
         let reading = self.reading;
         let numbering = self.numbering;

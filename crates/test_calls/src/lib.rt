@@ -1,6 +1,4 @@
-// What the test programs call: judging, the helper and the calendar on two files in one array, and what they reply as one number.
+// What the test programs call: the helper and the calendar, each with a buffer that is filled before.
 #![tactic(auto)]
 
-pub mod judged_files;
-pub mod response_codes;
-pub mod scheduled_files;
+pub mod writers;

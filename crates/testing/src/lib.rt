@@ -1,11 +1,8 @@
-// What the test programs share: numbers, answers as numbers, printing, scripts of cases, counts, two files in one array, and
-// their changes by a script.
+// What the test programs share: answers in words, scripts of cases, numbers in the bytes of a file, names with counts, and counts of networks.
 #![tactic(auto)]
 
 pub mod answers;
-pub mod changes;
-pub mod files;
-pub mod numbers;
-pub mod print;
+pub mod bytes;
+pub mod names;
 pub mod script;
 pub mod tally;

@@ -1,27 +1,31 @@
-// Counts of what came of many networks, each at its place of an array.
-use super::answers::NONE;
-use super::numbers::plus;
-
-pub type Tally = [usize; 64];
-
-// The first three places: all networks, those with a value, and those with none.
-pub const NETWORKS: usize = 0;
-
-const VALUES: usize = 1;
-
-const ANSWERED_NONE: usize = 2;
-
-pub fn grow(tally: &mut Tally, place: usize, more: usize) {
-    let i = place % 64;
-    tally[i] = plus(tally[i], more);
+// How many networks were tried, and how many of them have a value or none.
+#[derive(Clone, Copy)]
+pub struct Tally {
+    pub networks: usize,
+    pub values: usize,
+    pub nones: usize,
 }
 
-// Counts a network by its true answer.
-pub fn count_network(tally: &mut Tally, answer: usize) {
-    grow(tally, NETWORKS, 1);
-    if answer < NONE {
-        grow(tally, VALUES, 1);
-        return;
+impl Tally {
+    pub fn new() -> Tally {
+        Tally {
+            networks: 0,
+            values: 0,
+            nones: 0,
+        }
     }
-    grow(tally, ANSWERED_NONE, 1);
+
+    // Counts a network by its true answer.
+    pub fn count(&mut self, answer: Option<u64>) {
+        add(&mut self.networks, 1);
+        match answer {
+            Some(_) => add(&mut self.values, 1),
+            None => add(&mut self.nones, 1),
+        }
+    }
+}
+
+// Adds to a count, which stays far below its greatest value.
+pub fn add(count: &mut usize, more: usize) {
+    *count = count.saturating_add(more);
 }

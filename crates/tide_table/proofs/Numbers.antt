@@ -12,6 +12,7 @@ use native.Mathlib.Numerals.{add-one}
 use Rattle.prelude.specs.Lists.{all}
 use Rattle.prelude.proofs.Booleans.{and_left, and_right, true→T}
 use Rattle.tide_table.specs.Text.{is_digit, value_after, value, most_number, is_number}
+use Rattle.std.specs.Prelude.{Some}
 use Rattle.tide_table.specs.Reading.{NumberRead}
 
 -- more digits make no number smaller
@@ -69,12 +70,6 @@ next_value : (n c : ℕ) (word : List ℕ) → value_after n (c ∷ word) ≡ va
 unfolding value_after
 next_value n c word = refl
 
-refused : (word : List ℕ) → is_number word ≡ false → NumberRead word (record { is_number = false; value = 0 })
-refused word e = record { number_is = sym e; value = rw e }
-
-number_read : (word : List ℕ) (n : ℕ) → is_number word ≡ true → value word ≡ n → NumberRead word (record { is_number = true; value = n })
-number_read word n e h = record { number_is = sym e; value = rw e (sym h) }
-
 -- ---- what the loop over the digits keeps
 
 -- the word is a number if the digits from i on go on with n, and then it is what they make of n
@@ -85,34 +80,34 @@ pub record Read (word : List ℕ) (n i : ℕ) : Type 0 where
   pub its_value : value word ≡ value_after n (drop i word)
 
 module _ (word : List ℕ) where
-  pub none_read : length word ≡ 0 → NumberRead word (record { is_number = false; value = 0 })
-  none_read h = refused word (no_number word h)
-
   pub read_start : ¬ (length word ≡ 0) → Read word 0 0
   read_start h = record { small = omega arith; within = omega arith; number_is = number_from word (omega arith); its_value = refl }
 
   module _ (n i : ℕ) (R : Read word n i) where
-    pub read_end : length word ≤ i → NumberRead word (record { is_number = true; value = n })
-    read_end h = number_read word n (R.number_is ∙ ap (goes_on n) (drop_of_length-le word h) ∙ all_digits n R.small) (R.its_value ∙ ap (value_after n) (drop_of_length-le word h) ∙ end_value n)
+    pub read_end : length word ≤ i → NumberRead word (Some n)
+    read_end h = (
+      R.number_is ∙ ap (goes_on n) (drop_of_length-le word h) ∙ all_digits n R.small,
+      sym (R.its_value ∙ ap (value_after n) (drop_of_length-le word h) ∙ end_value n),
+    )
 
     module _ (c : ℕ) (h : i < length word) (e : c ≡ get_or word i 0) where
       next : drop i word ≡ c ∷ drop (i + 1) word
       next = drop-cons word i 0 h ∙ rw (e, add-one i)
 
-      pub read_no_digit : is_digit c ≡ false → NumberRead word (record { is_number = false; value = 0 })
-      read_no_digit d = refused word (R.number_is ∙ ap (goes_on n) next ∙ no_digit n c (drop (i + 1) word) d)
+      pub read_no_digit : is_digit c ≡ false → is_number word ≡ false
+      read_no_digit d = R.number_is ∙ ap (goes_on n) next ∙ no_digit n c (drop (i + 1) word) d
 
       is_next : is_digit c ≡ true → is_number word ≡ goes_on (10 * n + (c - 48)) (drop (i + 1) word)
       is_next d = R.number_is ∙ ap (goes_on n) next ∙ goes_on_lem n c (drop (i + 1) word) d
 
-      pub read_too_great : is_digit c ≡ true → most_number < 10 * n + (c - 48) → NumberRead word (record { is_number = false; value = 0 })
-      read_too_great d g = refused word (is_next d ∙ too_great (10 * n + (c - 48)) (drop (i + 1) word) g)
+      pub read_too_great : is_digit c ≡ true → most_number < 10 * n + (c - 48) → is_number word ≡ false
+      read_too_great d g = is_next d ∙ too_great (10 * n + (c - 48)) (drop (i + 1) word) g
 
-      pub read_turn : is_digit c ≡ true → 10 * n + (c - 48) ≤ most_number → Read word (10 * n + (c - 48)) (i + 1)
-      read_turn d g =
+      pub read_turn : is_digit c ≡ true → (m : ℕ) → m ≡ 10 * n + (c - 48) → m ≤ most_number → Read word m (i + 1)
+      read_turn d m is g =
           record {
             small = g;
             within = omega arith;
-            number_is = is_next d;
-            its_value = R.its_value ∙ ap (value_after n) next ∙ next_value n c (drop (i + 1) word);
+            number_is = rw is (is_next d);
+            its_value = rw is (R.its_value ∙ ap (value_after n) next ∙ next_value n c (drop (i + 1) word));
           }

@@ -8,14 +8,18 @@ use native.Mathlib.Omega.{arith}
 use lib.ListN.{length, get_or, take, drop, length-drop, drop_of_length-le}
 use lib.Seq.{drop-cons, drop-drop, get_or-drop}
 use borrow.Author.Tests.{not-true, eq-eqb, ne_eqb}
+use Rattle.std.specs.Prelude.{Some, None}
+use Rattle.std.specs.List.{starts_with}
+use lib.Dec.{eqb}
 use Rattle.prelude.specs.Choice.{pick}
 use Rattle.tide_table.specs.Text.{is_blank, words_of, pieces, present, value, is_number}
-use Rattle.tide_table.specs.TideTable.{nothing, window, unclear, words_say, line_says}
-use Rattle.tide_table.specs.Reading.{count_before, is_sought, has_word, has_number, first_number, later_words, word_start, word_end, NumberRead, WordRead, line_for, line_by}
-use Rattle.tide_table.specs.declared.text.Sought.TheVariants.{Blank, Word as Other}
-use Rattle.tide_table.specs.declared.Number.{Number}
+use Rattle.tide_table.specs.TideTable.{window, unclear, words_say, line_says}
+use Rattle.tide_table.specs.Reading.{count_before, is_sought, first_word, later_words, word_start, word_end, NumberRead, WordRead, line_for, line_by}
+use Rattle.tide_table.specs.declared.text.Sought.TheVariants.{Blank, Word as Present}
 use Rattle.tide_table.specs.declared.text.Word.{Word}
+use Rattle.tide_table.specs.declared.text.Word.TheVariants.{Missing, Number, Other}
 use Rattle.tide_table.specs.declared.lines.Line.{Line}
+use Rattle.tide_table.specs.declared.lines.Line.TheVariants.{Nothing, Unclear}
 use Rattle.tide_table.proofs.Pieces.{before_within, before_found, before_none, skip, first_present}
 
 -- ---- the first word from an index on
@@ -26,7 +30,7 @@ no_words = refl
 
 module _ (line : List ℕ) (at : ℕ) where
   from_start : words_of (drop at line) ≡ words_of (drop (word_start line at) line)
-  from_start = skip is_blank (drop at line) ∙ ap words_of (drop-drop (count_before (is_sought Other) (drop at line)) at line)
+  from_start = skip is_blank (drop at line) ∙ ap words_of (drop-drop (count_before (is_sought Present) (drop at line)) at line)
 
   pub word_none : length line ≤ word_start line at → words_of (drop at line) ≡ []
   word_none h = from_start ∙ ap words_of (drop_of_length-le line h) ∙ no_words
@@ -39,8 +43,8 @@ module _ (line : List ℕ) (at : ℕ) where
   starts : word_start line at < length line → is_blank (get_or line (word_start line at) 0) ≡ false
   starts h =
       not-true _
-      (ap (is_sought Other) (sym (get_or-drop at line (count_before (is_sought Other) (drop at line)) 0))
-      ∙ before_found (is_sought Other) (drop at line) (simp length-drop (omega arith)))
+      (ap (is_sought Present) (sym (get_or-drop at line (count_before (is_sought Present) (drop at line)) 0))
+      ∙ before_found (is_sought Present) (drop at line) (simp length-drop (omega arith)))
 
   pub word_some : word_start line at < length line → words_of (drop at line) ≡ take (count_before is_blank (drop (word_start line at) line)) (drop (word_start line at) line) ∷ words_of (drop (word_end line at) line)
   word_some h = from_start ∙ first ∙ ap (λ (l : List ℕ). take n (drop start line) ∷ words_of l) (drop-drop n start line)
@@ -68,13 +72,10 @@ module _ (line : List ℕ) (at : ℕ) where
 -- ---- what is answered of it
 
 module _ (line : List ℕ) (at start : ℕ) where
-  pub no_word_read : start ≡ word_start line at → length line ≤ start → WordRead line at (record { is_word = false; is_number = false; value = 0; end = start })
+  pub no_word_read : start ≡ word_start line at → length line ≤ start → WordRead line at (Missing, start)
   no_word_read s h =
-      let none : words_of (drop at line) ≡ [] = word_none line at (omega arith) in
       record {
-        word_is = sym (ap has_word none);
-        number_is = sym (ap has_number none);
-        number = sym (ap first_number none);
+        word = sym (ap first_word (word_none line at (omega arith)));
         end = s ∙ sym (end_none line at (omega arith));
       }
 
@@ -85,78 +86,86 @@ module _ (line : List ℕ) (at start : ℕ) where
     pub word_within : end ≤ length line
     word_within = rw its_end (end_within line at (omega arith))
 
-    pub word_read : (n : Number) → NumberRead (take (end - start) (drop start line)) n → WordRead line at (record { is_word = true; is_number = n.is_number; value = n.value; end = end })
-    word_read n N =
+    some : words_of (drop at line) ≡ take (end - start) (drop start line) ∷ words_of (drop (word_end line at) line)
+    some =
         let size : count_before is_blank (drop start line) ≡ end - start = omega arith in
-        let some : words_of (drop at line) ≡ take (end - start) (drop start line) ∷ words_of (drop (word_end line at) line) = rw (← size, s) (word_some line at (omega arith)) in
-        record {
-          word_is = sym (ap has_word some);
-          number_is = N.number_is ∙ sym (ap has_number some);
-          number = N.value ∙ sym (ap first_number some);
-          end = its_end;
-        }
+        rw (← size, s) (word_some line at (omega arith))
+
+    pub number_read : (n : ℕ) → NumberRead (take (end - start) (drop start line)) (Some n) → WordRead line at (Number n, end)
+    number_read n N = record { word = rw (some, N.0) (ap Number N.1); end = its_end }
+
+    pub other_read : NumberRead (take (end - start) (drop start line)) None → WordRead line at (Other, end)
+    other_read N = record { word = rw (some, N); end = its_end }
 
 -- ---- what four words say
 
--- by whether there is a first and a fourth word, whether the first three are numbers, and which
-abbrev line_is : Bool → Bool → Bool → Bool → Bool → ℕ → ℕ → ℕ → Line
-line_is first fourth a b c i j k =
-    pick first
-    (pick fourth (line_for unclear)
-    (pick a (pick b (pick c (line_for (window (record { position = i; first = j; end = k }))) (line_for unclear)) (line_for unclear)) (line_for unclear)))
-    (line_for nothing)
-
-abbrev line_of : List (List ℕ) → Line
+abbrev pub line_of : List (List ℕ) → Line
 line_of ws =
-    line_is (has_word ws) (has_word (later_words (later_words (later_words ws))))
-    (has_number ws) (has_number (later_words ws)) (has_number (later_words (later_words ws)))
-    (first_number ws) (first_number (later_words ws)) (first_number (later_words (later_words ws)))
+    line_by (first_word ws) (first_word (later_words ws)) (first_word (later_words (later_words ws)))
+    (first_word (later_words (later_words (later_words ws))))
 
 pub words_say_lem : (ws : List (List ℕ)) → line_of ws ≡ line_for (words_say ws)
 unfolding words_say
 words_say_lem [] = refl
 words_say_lem (u ∷ []) = go (is_number u)
   where
-    go : (s : Bool) → pick s (line_for unclear) (line_for unclear) ≡ line_for unclear
+    go : (s : Bool) → line_by (pick s (Number (value u)) Other) Missing Missing Missing ≡ Unclear
     go true = refl
     go false = refl
 words_say_lem (u ∷ v ∷ []) = go (is_number u) (is_number v)
   where
-    go : (s t : Bool) → pick s (pick t (line_for unclear) (line_for unclear)) (line_for unclear) ≡ line_for unclear
+    go : (s t : Bool) → line_by (pick s (Number (value u)) Other) (pick t (Number (value v)) Other) Missing Missing ≡ Unclear
     go true true = refl
     go true false = refl
     go false t = refl
 words_say_lem (u ∷ v ∷ w ∷ []) = go (is_number u) (is_number v) (is_number w)
   where
-    go : (r s t : Bool) → line_is true false r s t (pick r (value u) 0) (pick s (value v) 0) (pick t (value w) 0) ≡ line_for (pick (r && (s && (t && true))) (window (record { position = value u; first = value v; end = value w })) unclear)
+    go : (r s t : Bool) → line_by (pick r (Number (value u)) Other) (pick s (Number (value v)) Other) (pick t (Number (value w)) Other) Missing
+        ≡ line_for (pick (r && (s && (t && true))) (window (record { position = value u; first = value v; end = value w })) unclear)
     go true true true = refl
     go true true false = refl
     go true false t = refl
     go false s t = refl
 words_say_lem (u ∷ v ∷ w ∷ x ∷ ws) =
     rw (ne_eqb (length (u ∷ v ∷ w ∷ x ∷ ws)) 0 (λ e. omega arith), ne_eqb (length (u ∷ v ∷ w ∷ x ∷ ws)) 3 (λ e. omega arith))
+    (go (is_number u) (is_number v) (is_number w) (is_number x))
+  where
+    go : (r s t o : Bool) → line_by (pick r (Number (value u)) Other) (pick s (Number (value v)) Other) (pick t (Number (value w)) Other) (pick o (Number (value x)) Other) ≡ Unclear
+    go true true true true = refl
+    go true true true false = refl
+    go true true false o = refl
+    go true false t o = refl
+    go false s t o = refl
 
-pub four_say : (line : List ℕ) (a b c d : Word) → WordRead line 0 a → WordRead line a.end b → WordRead line b.end c → WordRead line c.end d → line_by a b c d ≡ line_for (words_say (words_of line))
+pub four_say : (line : List ℕ) (a b c d : Word × ℕ) → WordRead line 0 a → WordRead line a.1 b → WordRead line b.1 c → WordRead line c.1 d → line_by a.0 b.0 c.0 d.0 ≡ line_for (words_say (words_of line))
 four_say line a b c d A B C D = said ∙ words_say_lem (words_of line)
   where
-    second : words_of (drop a.end line) ≡ later_words (words_of line)
+    second : words_of (drop a.1 line) ≡ later_words (words_of line)
     second = ap (λ (k : ℕ). words_of (drop k line)) A.end ∙ later line 0
 
-    third : words_of (drop b.end line) ≡ later_words (later_words (words_of line))
-    third = ap (λ (k : ℕ). words_of (drop k line)) B.end ∙ later line a.end ∙ ap later_words second
+    third : words_of (drop b.1 line) ≡ later_words (later_words (words_of line))
+    third = ap (λ (k : ℕ). words_of (drop k line)) B.end ∙ later line a.1 ∙ ap later_words second
 
-    fourth : words_of (drop c.end line) ≡ later_words (later_words (later_words (words_of line)))
-    fourth = ap (λ (k : ℕ). words_of (drop k line)) C.end ∙ later line b.end ∙ ap later_words third
+    fourth : words_of (drop c.1 line) ≡ later_words (later_words (later_words (words_of line)))
+    fourth = ap (λ (k : ℕ). words_of (drop k line)) C.end ∙ later line b.1 ∙ ap later_words third
 
-    said : line_by a b c d ≡ line_of (words_of line)
-    said =
-        rw (A.word_is, A.number_is, A.number, B.number_is, B.number, C.number_is, C.number, D.word_is, second, third, fourth)
+    said : line_by a.0 b.0 c.0 d.0 ≡ line_of (words_of line)
+    said = rw (A.word, B.word, C.word, D.word, second, third, fourth)
 
-pub line_said : (line : List ℕ) (a b c d : Word) → (get_or line 0 0 ≡ 35 → ⊥) → WordRead line 0 a → WordRead line a.end b → WordRead line b.end c → WordRead line c.end d → line_by a b c d ≡ line_for (line_says line)
+pub line_said : (line : List ℕ) (a b c d : Word × ℕ) → (get_or line 0 0 ≡ 35 → ⊥) → WordRead line 0 a → WordRead line a.1 b → WordRead line b.1 c → WordRead line c.1 d → line_by a.0 b.0 c.0 d.0 ≡ line_for (line_says line)
 unfolding line_says
 line_said line a b c d h A B C D = rw (ne_eqb (get_or line 0 0) 35 h) (four_say line a b c d A B C D)
 
 -- a line that begins with #
-pub line_skipped : (line : List ℕ) → get_or line 0 0 ≡ 35 → line_for nothing ≡ line_for (line_says line)
+pub marked : (line : List ℕ) → starts_with eqb line (35 ∷ []) ≡ eqb (get_or line 0 0) 35
+marked [] = refl
+marked (c ∷ line) = go (dec_le c 35) (dec_le 35 c)
+  where
+    go : Dec (c ≤ 35) → Dec (35 ≤ c) → (eqb 35 c && true) ≡ eqb c 35
+    go (yes h) (yes k) = let e : c ≡ 35 = omega arith in rw e refl
+    go (no n) k = rw (ne_eqb c 35 (λ e. omega arith), ne_eqb 35 c (λ e. omega arith)) refl
+    go (yes h) (no n) = rw (ne_eqb c 35 (λ e. omega arith), ne_eqb 35 c (λ e. omega arith)) refl
+
+pub line_skipped : (line : List ℕ) → get_or line 0 0 ≡ 35 → Nothing ≡ line_for (line_says line)
 unfolding line_says
 line_skipped line h = rw (eq-eqb (get_or line 0 0) 35 h)

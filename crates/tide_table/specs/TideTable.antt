@@ -1,11 +1,11 @@
 -- What a tide table says (PANEL 14): the windows of its lines, or the first line that is no window.
-use Rattle.std.specs.Prelude.{◌≡◌, ◌&&◌, List, [], ◌∷◌, map, ℕ, suc, eqb, leb, length, get_or, take}
+use Rattle.std.specs.Prelude.{◌≡◌, ◌≢◌, ◌&&◌, List, [], ◌∷◌, map, ℕ, suc, eqb, leb, length, get_or, take, Result, MatchResult}
 use Rattle.std.proofs.lemmas.List.Edits.{sets}
 use Rattle.prelude.specs.Choice.{pick}
 use Rattle.prelude.specs.Lists.{all}
 use Rattle.tide_windows.specs.Windows.{Window, window_in}
 use Rattle.tide_table.specs.Text.{lines_of, words_of, value, is_number}
-use Rattle.tide_table.specs.declared.Found.{Found}
+use Rattle.tide_table.specs.declared.BadLine.{BadLine}
 
 -- ---- a line
 
@@ -72,8 +72,7 @@ windows_of text = (table_within text).windows
 abbrev pub row_of : Window → List ℕ
 row_of w = w.position ∷ w.first ∷ w.end ∷ []
 
--- A table was read: how many windows there are before the first line that is none, and its number. Their rows stand at the front of the lent rows, as many as there is room for; the others are as they were.
-pub record TableRead (text : List ℕ) (before : List (List ℕ)) (r : Found) (after : List (List ℕ)) : Type 0 where
-  pub bad : r.bad ≡ bad_line_of text
-  pub count : r.count ≡ length (windows_of text)
+-- A table was read: how many windows there are where every line fits, or the number of the first line that is none and how many are before it. The rows of the windows before it stand at the front of the lent rows, as many as there is room for; the others are as they were.
+pub record TableRead (text : List ℕ) (before : List (List ℕ)) (r : Result ℕ BadLine) (after : List (List ℕ)) : Type 0 where
+  pub answer : MatchResult r (λ n. (bad_line_of text ≡ 0) × (n ≡ length (windows_of text))) (λ b. (bad_line_of text ≢ 0) × (b.number ≡ bad_line_of text) × (b.windows ≡ length (windows_of text)))
   pub rows : after ≡ sets before 0 (map row_of (windows_of text))

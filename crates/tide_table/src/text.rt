@@ -3,8 +3,7 @@ ghost use Rattle.std.specs.Prelude.{◌≡◌, ◌+◌, drop};
 ghost use Rattle.tide_table.specs.Text.{is_blank, is_digit};
 ghost use Rattle.tide_table.specs.Reading.{is_sought, count_before, NumberRead, WordRead};
 
-use crate::Number;
-
+// By a kind, not by a closure: the definition is_sought says what each kind is.
 // What is looked for in a text: a line end, a blank, or a byte that is no blank.
 #[derive(Clone, Copy)]
 pub(crate) enum Sought {
@@ -17,13 +16,7 @@ pub(crate) enum Sought {
 fn is_blank(c: u8) -> bool
     ensures { result ≡ is_blank c }
 {
-    if c == b' ' {
-        return true;
-    }
-    if c == b'\t' {
-        return true;
-    }
-    c == b'\r'
+    c == b' ' || c == b'\t' || c == b'\r'
 }
 
 // Is the byte what is sought?
@@ -41,92 +34,57 @@ fn is_sought(c: u8, sought: Sought) -> bool
 pub(crate) fn find(text: &[u8], at: usize, sought: Sought) -> usize
     ensures { result ≡ at + count_before (is_sought sought) (drop at text.now) }
 {
-    let mut i = at;
-    while i < text.len() {
+    for i in at..text.len() {
         if is_sought(text[i], sought) {
             return i;
         }
-        i += 1;
     }
-    i
+    at.max(text.len())
 }
-
-// The greatest number that may be written.
-const MOST_NUMBER: u64 = 4294967295;
 
 // Is the byte a decimal digit?
 fn is_digit(c: u8) -> bool
     ensures { result ≡ is_digit c }
 {
-    if c < b'0' {
-        return false;
-    }
-    c <= b'9'
+    b'0' <= c && c <= b'9'
 }
 
-// Is the word a decimal number up to the greatest, and which?
-pub fn number(word: &[u8]) -> Number
+// The decimal number that the word is, where it is one that fits.
+pub fn number(word: &[u8]) -> Option<u32>
     ensures { NumberRead word.now result }
 {
-    if word.len() == 0 {
-        return Number {
-            is_number: false,
-            value: 0,
-        };
+    if word.is_empty() {
+        return None;
     }
-    let mut n: u64 = 0;
-    let mut i = 0;
-    while i < word.len() {
-        let c = word[i];
-        if !is_digit(c) {
-            return Number {
-                is_number: false,
-                value: 0,
-            };
+    let mut n: u32 = 0;
+    for c in word {
+        if !is_digit(*c) {
+            return None;
         }
-        n = 10 * n + (c - b'0') as u64;
-        if MOST_NUMBER < n {
-            return Number {
-                is_number: false,
-                value: 0,
-            };
-        }
-        i += 1;
+        n = n.checked_mul(10)?.checked_add(u32::from(*c - b'0'))?;
     }
-    Number {
-        is_number: true,
-        value: n as u32,
-    }
+    Some(n)
 }
 
-// The next word of a line: is there one, is it a number, which, and where it ends.
+// The next word of a line: none is left, a number, or another.
 #[derive(Clone, Copy)]
-pub(crate) struct Word {
-    pub is_word: bool,
-    pub is_number: bool,
-    pub value: u32,
-    pub end: usize,
+pub(crate) enum Word {
+    Missing,
+    Number(u32),
+    Other,
 }
 
-// The first word from `at` on.
-pub(crate) fn next_word(line: &[u8], at: usize) -> Word
+// The first word from `at` on, and where it ends.
+pub(crate) fn next_word(line: &[u8], at: usize) -> (Word, usize)
     ensures { WordRead line.now at result }
 {
     let start = find(line, at, Sought::Word);
     if line.len() <= start {
-        return Word {
-            is_word: false,
-            is_number: false,
-            value: 0,
-            end: start,
-        };
+        return (Word::Missing, start);
     }
     let end = find(line, start, Sought::Blank);
-    let n = number(&line[start..end]);
-    Word {
-        is_word: true,
-        is_number: n.is_number,
-        value: n.value,
-        end,
+    match number(&line[start..end]) {
+        Some(n) => (Word::Number(n), end),
+        None => (Word::Other, end),
     }
 }

@@ -1,3 +1,2 @@
-pub mod WindowCount
 pub mod OpenTests
 pub mod Promises

@@ -1,9 +1,9 @@
 -- What the loops of finishing reach: the test of every vertex, and sums of node numbers, each of which fits 32 bits.
-use mathlib.Core.Path.{◌≡◌, sym, ◌∙◌, ap, subst}
+use mathlib.Core.Path.{◌≡◌, ◌∙◌, ap, subst}
 use mathlib.Core.Bool.{Bool, true, false}
 use mathlib.Core.List.{List, [], ◌∷◌}
 use Prim.Native.Nat.{ℕ, zero, suc, ◌+◌, ◌-◌, ◌*◌, ◌≤◌, ◌<◌, ◌^◌}
-use native.Mathlib.Nat.{le_antisymm, zero-add}
+use native.Mathlib.Nat.{zero-add}
 use native.Mathlib.Numerals.{add-one}
 use native.Mathlib.Omega.{arith}
 use lib.Dec.{T, leb, le→leb}
@@ -17,7 +17,7 @@ use denote.Signed.{SInt}
 use Rattle.words.specs.Bounded.{small, bounded_sum, bounded_difference}
 use Rattle.prelude.specs.Lists.{at}
 use Rattle.prelude.specs.Sums.{sum_to_ℤ, all_to}
-use Rattle.prelude.proofs.Booleans.{both, fails, T→true}
+use Rattle.prelude.proofs.Booleans.{both, fails}
 use Rattle.words.proofs.Signs.{mag_add, plus_small, minus_small}
 use Rattle.prelude.proofs.Sums.{all_to_at}
 
@@ -30,9 +30,6 @@ module _ (p : ℕ → Bool) where
 
   pub all_fails : (k n : ℕ) → k < n → p k ≡ false → all_to n p ≡ false
   all_fails k n h e = fails (all_to n p) (λ t. subst T e (all_to_at n p t k h))
-
-  pub all_end : (k n : ℕ) → k ≤ n → n ≤ k → T (all_to k p) → true ≡ all_to n p
-  all_end k n a b t = sym (ap (λ (m : ℕ). all_to m p) (le_antisymm b a) ∙ T→true (all_to k p) t)
 
 -- ---- sums of node numbers
 

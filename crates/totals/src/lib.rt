@@ -4,6 +4,7 @@
 ghost use Rattle.std.specs.Prelude.{◌≡◌, not, [], ◌∷◌, ◌+◌, ◌-◌, pos};
 ghost use Rattle.std.specs.Int.Signed.{lt_z};
 ghost use Rattle.prelude.specs.Checks.{◌unless◌, first_broken};
+ghost use Rattle.refusals.specs.Refusals.{why};
 ghost use Rattle.prelude.specs.Integers.{eq_z};
 ghost use Rattle.prelude.specs.Lists.{at};
 ghost use Rattle.prelude.specs.Sums.{sum_to_ℤ, count, all_to};
@@ -15,58 +16,42 @@ ghost use Rattle.totals.specs.Held.{sums_held};
 use arc_records::{Balances, MOST_VERTICES, Potentials};
 use checks::rows::Row;
 use checks::{HeldSetting, pumps};
+use refusals::Refusal;
 use words::marks::count_marked;
-use words::signed::{add, equal, subtract, widened, zero_or_one};
+use words::signed::{add, subtract};
 
 // The entry of a vertex, 0 past the end.
 fn potential_at(potentials: Potentials, v: u8) -> i32
     ensures { result ≡ at potentials v }
 {
-    let i = v as usize;
-    if i < MOST_VERTICES as usize {
-        return potentials[i];
-    }
-    0
+    potentials.get(usize::from(v)).copied().unwrap_or(0)
 }
 
 fn balance_at(balances: Balances, v: u8) -> i64
     ensures { result ≡ at balances v }
 {
-    let i = v as usize;
-    if i < MOST_VERTICES as usize {
-        return balances[i];
-    }
-    0
+    balances.get(usize::from(v)).copied().unwrap_or(0)
 }
 
 // Is b the balance of the vertex v of a path?
 fn path_balance(st: HeldSetting, v: u8, b: i64) -> bool
     ensures { result ≡ eq_z b (path_balance (asked st) v) }
 {
-    let s = st.s;
-    let t = st.t;
-    if v == s {
-        return b == 1;
-    }
-    if v == t {
-        return b == -1;
-    }
-    b == 0
+    let due = if v == st.s {
+        1
+    } else if v == st.t {
+        -1
+    } else {
+        0
+    };
+    b == due
 }
 
 // Is b a balance of the vertex v of a flow?
 fn flow_balance(st: HeldSetting, v: u8, b: i64) -> bool
     ensures { result ≡ flow_rules.on_balance (asked st) v b }
 {
-    let s = st.s;
-    let t = st.t;
-    if v == s {
-        return true;
-    }
-    if v == t {
-        return true;
-    }
-    b == 0
+    v == st.s || v == st.t || b == 0
 }
 
 // Is b a balance of the vertex v of an assignment?
@@ -74,9 +59,10 @@ fn assignment_balance(st: HeldSetting, v: u8, b: i64) -> bool
     ensures { result ≡ assignment_balance (asked st) v b }
 {
     if v < pumps(st) {
-        return zero_or_one(b);
+        0 <= b && b <= 1
+    } else {
+        b == -1
     }
-    b == -1
 }
 
 // Is b the balance of a vertex of a circulation?
@@ -94,9 +80,7 @@ fn balance_ok(row: Row, st: HeldSetting, v: u8, b: i64) -> bool
         Row::PathValue => path_balance(st, v, b),
         Row::FlowValue => flow_balance(st, v, b),
         Row::AssignmentValue => assignment_balance(st, v, b),
-        Row::PathNone => true,
-        Row::AssignmentNone => true,
-        Row::AcyclicityValue => true,
+        Row::PathNone | Row::AssignmentNone | Row::AcyclicityValue => true,
         Row::AcyclicityNone => zero_balance(b),
         Row::Nothing => false,
     }
@@ -106,15 +90,11 @@ fn balance_ok(row: Row, st: HeldSetting, v: u8, b: i64) -> bool
 fn balances_ok(row: Row, st: HeldSetting, balances: Balances) -> bool
     ensures { result ≡ all_to st.n (λ v. (rules_held row).on_balance (asked st) v (at balances v)) }
 {
-    let n = st.n;
-    let mut v: u8 = 0;
-    while v < n {
-        let i = v as usize;
-        let b = balances[i];
+    for v in 0..st.n {
+        let b = balances[usize::from(v)];
         if !balance_ok(row, st, v, b) {
             return false;
         }
-        v += 1;
     }
     true
 }
@@ -124,12 +104,9 @@ fn sum_between(potentials: Potentials, low: u8, high: u8) -> i64
     ensures { result ≡ sum_to_ℤ (high - low) (λ i. at potentials (low + i)) }
 {
     let mut sum: i64 = 0;
-    let mut v = low;
-    while v < high {
-        let i = v as usize;
-        let y = potentials[i];
-        sum = add(sum, widened(y));
-        v += 1;
+    for v in low..high {
+        let y = potentials[usize::from(v)];
+        sum = add(sum, i64::from(y));
     }
     sum
 }
@@ -138,10 +115,9 @@ fn sum_between(potentials: Potentials, low: u8, high: u8) -> i64
 fn potential_gap(st: HeldSetting, potentials: Potentials) -> i64
     ensures { result ≡ potential_gap (asked st) (at potentials) }
 {
-    let n = st.n;
     let first_site = pumps(st);
     let of_pumps = sum_between(potentials, 0, first_site);
-    let of_sites = sum_between(potentials, first_site, n);
+    let of_sites = sum_between(potentials, first_site, st.n);
     subtract(of_sites, of_pumps)
 }
 
@@ -149,46 +125,39 @@ fn potential_gap(st: HeldSetting, potentials: Potentials) -> i64
 fn count_unmarked(marks: [u64; 4], low: u8, high: u8) -> u32
     ensures { result ≡ count (λ i. not (is_marked marks (low + i))) (high - low) }
 {
-    let first = low as u32;
-    let end = high as u32;
+    let first = u32::from(low);
+    let end = u32::from(high);
     let marked = count_marked(marks, first, end);
-    if end <= first {
-        return 0;
-    }
-    end - first - marked
+    end.saturating_sub(first) - marked
 }
 
 // Have more sites than pumps no mark?
 fn more_sites_unmarked(st: HeldSetting, marks: [u64; 4]) -> bool
     ensures { result ≡ more_sites_unmarked (asked st) (is_marked marks) }
 {
-    let n = st.n;
     let first_site = pumps(st);
-    count_unmarked(marks, 0, first_site) < count_unmarked(marks, first_site, n)
+    count_unmarked(marks, 0, first_site) < count_unmarked(marks, first_site, st.n)
 }
 
 // Is the cost the node number of the sink?
 fn cost_is_potential(st: HeldSetting, potentials: Potentials, cost: i64) -> bool
     ensures { result ≡ eq_z cost (at potentials st.t) }
 {
-    let y = potential_at(potentials, st.t);
-    equal(cost, widened(y))
+    cost == i64::from(potential_at(potentials, st.t))
 }
 
 // Is the balance of the source the capacity of the cut?
 fn flow_is_cut(st: HeldSetting, balances: Balances, cut: i64) -> bool
     ensures { result ≡ eq_z (at balances st.s) cut }
 {
-    let b = balance_at(balances, st.s);
-    equal(b, cut)
+    balance_at(balances, st.s) == cut
 }
 
 // Is the cost the sum over sites less that over pumps?
 fn cost_is_gap(st: HeldSetting, potentials: Potentials, cost: i64) -> bool
     ensures { result ≡ eq_z cost (potential_gap (asked st) (at potentials)) }
 {
-    let gap = potential_gap(st, potentials);
-    equal(cost, gap)
+    cost == potential_gap(st, potentials)
 }
 
 // Is an amount set? Every unit counts 1 where this is asked.
@@ -214,15 +183,14 @@ fn sums_ok(
         Row::PathValue => cost_is_potential(st, potentials, cost),
         Row::FlowValue => flow_is_cut(st, balances, cut),
         Row::AssignmentValue => cost_is_gap(st, potentials, cost),
-        Row::PathNone => true,
+        Row::PathNone | Row::AcyclicityValue => true,
         Row::AssignmentNone => more_sites_unmarked(st, marks),
-        Row::AcyclicityValue => true,
         Row::AcyclicityNone => some_amount(cost),
         Row::Nothing => false,
     }
 }
 
-// 0, or the number of the first check that refuses the balances and the sums: 15 or 16.
+// The first check that refuses the balances and the sums: 15 or 16.
 pub fn totals_check(
     row: Row,
     st: HeldSetting,
@@ -231,14 +199,14 @@ pub fn totals_check(
     balances: Balances,
     cost: i64,
     cut: i64,
-) -> u8
-    ensures { result ≡ first_broken (15 unless all_to st.n (λ v. (rules_held row).on_balance (asked st) v (at balances v)) ∷ 16 unless (rules_held row).on_sums (asked st) (at potentials) (is_marked marks) (sums_held balances cost cut) ∷ []) }
+) -> Result<(), Refusal>
+    ensures { why result ≡ first_broken (15 unless all_to st.n (λ v. (rules_held row).on_balance (asked st) v (at balances v)) ∷ 16 unless (rules_held row).on_sums (asked st) (at potentials) (is_marked marks) (sums_held balances cost cut) ∷ []) }
 {
     if !balances_ok(row, st, balances) {
-        return 15;
+        return Err(Refusal::BalanceWrong);
     }
     if !sums_ok(row, st, potentials, marks, balances, cost, cut) {
-        return 16;
+        return Err(Refusal::SumsDisagree);
     }
-    0
+    Ok(())
 }

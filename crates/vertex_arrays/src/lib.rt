@@ -1,7 +1,7 @@
 // The node numbers and the balances of the vertices, lent: one entry read or changed, and nothing past the end.
 #![tactic(auto)]
 
-ghost use Rattle.std.specs.Prelude.{◌≡◌, set};
+ghost use Rattle.std.specs.Prelude.{◌≡◌};
 ghost use Rattle.prelude.specs.Lists.{at};
 ghost use Rattle.words.specs.Marks.{is_marked};
 ghost use Rattle.arc_records.specs.Arcs.{arc_held};
@@ -18,11 +18,7 @@ use words::signed::{decrease, increase};
 fn potential_of(potentials: &[i32], v: u32) -> i32
     ensures { result ≡ at potentials.now v }
 {
-    let i = v as usize;
-    if potentials.len() <= i {
-        return 0;
-    }
-    potentials[i]
+    potentials.get(v as usize).copied().unwrap_or(0)
 }
 
 // What the ends of the arc have.
@@ -39,18 +35,8 @@ pub fn ends_of(potentials: &Potentials, marks: [u64; 4], arc: Record) -> Ends
     }
 }
 
-// The node number y for the vertex v.
-pub fn store_at(potentials: &mut [i32], v: u32, y: i32)
-    ensures { potentials.new ≡ set potentials.old v y }
-{
-    let i = v as usize;
-    if potentials.len() <= i {
-        return;
-    }
-    potentials[i] = y;
-}
-
-// The balance of the vertex v with x added.
+// The balance of the vertex v with x added. The same as `take_at` but for the sum; with the sum as a closure each call would need a clause more. By index: with `get_mut` the facts name
+// values that a proof cannot cite.
 fn add_at(balances: &mut [i64], v: u32, x: u32)
     ensures { balances.new ≡ added_at balances.old v x }
 {

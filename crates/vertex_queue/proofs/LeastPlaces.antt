@@ -1,14 +1,13 @@
 -- The first least entry of a part of a list, found one entry after the other.
-use mathlib.Core.Path.{◌≡◌, refl, sym, ◌∙◌, ap, ap₂}
+use mathlib.Core.Path.{◌≡◌, refl, sym, ◌∙◌, ap}
 use mathlib.Core.List.{List}
-use Prim.Native.Nat.{ℕ, zero, suc, ◌+◌, ◌*◌, ◌≤◌, ◌<◌, min}
+use Prim.Native.Nat.{ℕ, zero, suc, ◌+◌, ◌≤◌, ◌<◌, min}
 use native.Mathlib.Decide.{dec_lt, ℕ_discrete}
 use native.Mathlib.Numerals.{add-one}
 use native.Mathlib.Omega.{arith}
-use lib.ListN.{set}
 use borrow.Author.Tests.{lt-ltb, le-ltb}
 use Rattle.packed_arcs.specs.Entries.{entry}
-use Rattle.vertex_queue.specs.VertexQueue.{Holds, least_from, least_entry, least_vertex, taken_out, waits_not}
+use Rattle.vertex_queue.specs.VertexQueue.{least_from}
 
 -- an index among the count from `from` on, whose entry is the least of theirs
 pub record PlaceOfLeast (l : List ℕ) (from count at : ℕ) : Type 0 where
@@ -108,7 +107,7 @@ module _ (l : List ℕ) (from : ℕ) where
   pub least_start : ScannedLeast l from 1 (entry l from)
   least_start = record { within = omega arith; is = entry_at l (sym (first_one l from)) }
 
-  pub least_turn : (i best best' : ℕ) → i < 16 → ScannedLeast l from i best → best' ≡ min (entry l (from + i)) best → ScannedLeast l from (i + 1) best'
+  pub least_turn : (i best best' : ℕ) → i < 16 → ScannedLeast l from i best → best' ≡ min best (entry l (from + i)) → ScannedLeast l from (i + 1) best'
   least_turn i best best' h S e = record { within = omega arith; is = rw (add-one i) (go (dec_lt (entry l (from + i)) best)) }
     where
       go : Dec (entry l (from + i) < best) → best' ≡ entry l (least_from l from (suc i))
@@ -117,16 +116,3 @@ module _ (l : List ℕ) (from : ℕ) where
 
   pub least_end : (i best : ℕ) → 16 ≤ i → ScannedLeast l from i best → best ≡ entry l (least_from l from 16)
   least_end i best h S = S.is ∙ entry_at l (ap (λ (k : ℕ). least_from l from k) (omega (arith, S.within)))
-
--- ---- the least taken out, by the values that were found
-
-module _ (keys low : List ℕ) (b v k : ℕ) (eb : b ≡ least_from low 0 16) (ev : v ≡ least_from keys (16 * b) 16) (ek : k ≡ least_entry (set keys v waits_not) (16 * b)) where
-  pub vertex_found : v ≡ least_vertex keys low
-  vertex_found = ev ∙ ap (λ (c : ℕ). least_from keys (16 * c) 16) eb
-
-  pub taken_found : Holds (set keys v waits_not) (set low b k) (taken_out keys low)
-  taken_found =
-      record {
-        keys_are = ap (λ (u : ℕ). set keys u waits_not) vertex_found;
-        low_are = ap₂ (λ c m. set low c m) eb (ek ∙ ap₂ (λ u c. least_entry (set keys u waits_not) (16 * c)) vertex_found eb);
-      }

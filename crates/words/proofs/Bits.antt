@@ -7,7 +7,7 @@ use native.Mathlib.Omega.{arith}
 use lib.Dec.{T, ltb, ltb→lt, lit<}
 use lib.Pow.{pow-lt, pow_pos, mod-pow-add, shr-shr}
 use lib.Bits.{bit_and, and_zero_r, and_le_r, and_mask, and_high}
-use lib.Count.{ones, ones_cat, ones-le}
+use lib.Count.{ones, ones_cat}
 use Rattle.prelude.specs.Sums.{sum_to}
 use Rattle.prelude.proofs.Sums.{sum_to_ext}
 
@@ -21,9 +21,6 @@ and_lit a m n t = lt_of_le_of_lt (and_le_r a m) (ltb→lt m n t)
 -- one bit, shifted to its place in a word
 pub bit : (k : ℕ) → k < 64 → (1 * 2 ^ k) % 18446744073709551616 ≡ 2 ^ k
 bit k h = rw (one-mul (2 ^ k)) (mod-eq_of_lt (pow-lt {i = k} {j = 64} h))
-
-pub ones_and : (a m : ℕ) → m < 2 ^ 64 → ones (bit_and a m) ≤ 64
-ones_and a m h = ones-le 64 (bit_and a m) (lt_of_le_of_lt (and_le_r a m) h)
 
 -- ---- the ones of a range of bits
 

@@ -1,5 +1,4 @@
 -- The loop's invariant: the records below e pass.
-use Prim.Native.Nat.{◌-◌}
 use Rattle.checks.specs.Held.{asked}
 use Rattle.format.specs.Files.{count_in, arc_in}
 use Rattle.acceptance.proofs.RecordsChecked.{Checked}
@@ -7,6 +6,3 @@ use Rattle.acceptance.proofs.records_check.Given as goal
 
 abbrev pub invariant-loop-e : goal.invariant-loop-e
 invariant-loop-e l = Checked (asked l.st) (arc_in l.net) (count_in l.net) l.e
-
-abbrev pub decreases-loop-e : goal.decreases-loop-e
-decreases-loop-e l = l.m - l.e

@@ -22,8 +22,5 @@ returns c =
 pub loop-e-init : goal.loop-e-init
 loop-e-init c = fill_start _ _ _
 
-pub loop-e-smaller : goal.loop-e-smaller
-loop-e-smaller c = omega (arith, c.loop-e-test.true, c.loop-e.invariant.len)
-
 pub shape_of-records : goal.shape_of-records
 shape_of-records c = c.loop-e.invariant.len

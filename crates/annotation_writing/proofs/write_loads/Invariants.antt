@@ -1,11 +1,6 @@
 -- The loop's invariant: the records below e are written.
-use Prim.Native.Nat.{◌-◌}
-use lib.ListN.{length}
 use Rattle.annotation_writing.proofs.WrittenParts.{Loading}
 use Rattle.annotation_writing.proofs.write_loads.Given as goal
 
 abbrev pub invariant-loop-e : goal.invariant-loop-e
 invariant-loop-e l = Loading l.initial.part l.records l.amounts l.part l.e
-
-abbrev pub decreases-loop-e : goal.decreases-loop-e
-decreases-loop-e l = length l.amounts - l.e

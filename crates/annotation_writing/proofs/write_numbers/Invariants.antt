@@ -1,11 +1,6 @@
 -- The loop's invariant: the numbers below v are written.
-use Prim.Native.Nat.{◌-◌}
-use lib.ListN.{length}
 use Rattle.annotation_writing.proofs.WrittenParts.{Numbering}
 use Rattle.annotation_writing.proofs.write_numbers.Given as goal
 
 abbrev pub invariant-loop-v : goal.invariant-loop-v
 invariant-loop-v l = Numbering l.initial.part l.numbers l.part l.v
-
-abbrev pub decreases-loop-v : goal.decreases-loop-v
-decreases-loop-v l = length l.numbers - l.v

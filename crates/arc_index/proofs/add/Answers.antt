@@ -7,4 +7,4 @@ returns-then-e-ge-NO_ARC c = not_added c.args.e c.args.v (index_of c.args.links.
 
 pub returns : goal.returns
 returns c =
-    noted c.args.e c.args.v c.place-p.result c.args.links.now c.args.last.now _ c.if-e-ge-NO_ARC.false c.place-p.ensures c.note.ensures
+    noted c.args.e c.args.v c.from-p.result c.args.links.now c.args.last.now _ c.if-e-ge-NO_ARC.false c.from-p.ensures c.store.ensures

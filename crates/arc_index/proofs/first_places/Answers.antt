@@ -9,11 +9,11 @@ use Rattle.arc_index.proofs.Filled.{number_start, number_turn, number_end}
 use Rattle.arc_index.proofs.first_places.Goals as goal
 
 pub loop-v-preserved : goal.loop-v-preserved
-loop-v-preserved c = number_turn (zero_list 256) c.loop-v.last c.loop-v.v (omega (arith, length-replicate {A = ℕ} 256 0, c.loop-v-test.true)) c.loop-v.invariant
+loop-v-preserved c = number_turn (zero_list 256) c.loop-v.last c.loop-v.v (omega (arith, length-replicate {A = ℕ} 256 0)) c.loop-v.invariant
 
 pub returns : goal.returns
 returns c =
-    number_end (zero_list 256) c.loop-v.last c.loop-v.v (omega (arith, length-replicate {A = ℕ} 256 0, c.loop-v-test.false)) c.loop-v.invariant
+    number_end (zero_list 256) c.loop-v.last c.loop-v.v (omega (arith, length-replicate {A = ℕ} 256 0)) c.loop-v.invariant
     ∙ ap (λ (n : ℕ). list_to n (λ v. v)) (length-replicate {A = ℕ} 256 0)
 
 pub loop-v-init : goal.loop-v-init

@@ -1,11 +1,7 @@
 -- The loop's invariant: each vertex below v has its own place.
-use Prim.Native.Nat.{◌-◌}
 use Rattle.packed_arcs.specs.Entries.{zero_list}
 use Rattle.arc_index.proofs.Filled.{Numbering}
 use Rattle.arc_index.proofs.first_places.Given as goal
 
 abbrev pub invariant-loop-v : goal.invariant-loop-v
 invariant-loop-v l = Numbering (zero_list 256) l.last l.v
-
-abbrev pub decreases-loop-v : goal.decreases-loop-v
-decreases-loop-v l = 256 - l.v

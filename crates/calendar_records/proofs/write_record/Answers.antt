@@ -11,26 +11,8 @@ pub returns : goal.returns
 returns c =
     left-written (asks (setting_in c.args.net.now)) (is_open (windows_in c.args.windows.now) c.args.minute c.args.position) c.word.result (arc_in c.args.net.now c.args.position) (left_held c.left_of.result) c.args.k c.write_left.result c.args.part.now _
     c.word.ensures
-    (c.left_of.ensures ∙ (λ i. left_for ((c.question_of-asked.ensures ∙ ap question_of c.question.ensures) i) (c.is_open-opened.ensures i) (c.arc_in-arc.ensures i)))
+    (c.left_of.ensures ∙ (λ i. left_for ((c.question_of-asked.ensures ∙ ap question_of (c.from.ensures ∙ c.question.ensures)) i) (c.is_open-opened.ensures i) (c.arc_in-arc.ensures i)))
     c.write_left.ensures
-
-pub question-requires : goal.question-requires
-question-requires c = tt
-
-pub question_of-asked-requires : goal.question_of-asked-requires
-question_of-asked-requires c = tt
-
-pub word-requires : goal.word-requires
-word-requires c = tt
-
-pub arc_in-arc-requires : goal.arc_in-arc-requires
-arc_in-arc-requires c = tt
-
-pub is_open-opened-requires : goal.is_open-opened-requires
-is_open-opened-requires c = tt
-
-pub left_of-requires : goal.left_of-requires
-left_of-requires c = tt
 
 pub write_left-requires : goal.write_left-requires
 write_left-requires c = c.requires

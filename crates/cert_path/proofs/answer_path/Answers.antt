@@ -49,26 +49,26 @@ slice_bounds-send-end c =
 pub write-requires : goal.write-requires
 write-requires c =
     let i = inputs c.requires.admissible c.requires.amounts_len.0 c.requires.left_len c.pack.ensures c.stand.ensures in
-    let r = sent_case i c.in-Reached.ensures in
+    let r = sent_case i (rw c.in-Ok-Some.field-0-is at c.in-Ok-Some.ensures) in
     (c.requires.amounts_len.1 ∙ sym (keys_length i r.state r.found), distances_low i r)
 
-pub write-requires-in-Unreached : goal.write-requires-in-Unreached
-write-requires-in-Unreached c =
+pub write-requires-in-Ok-None : goal.write-requires-in-Ok-None
+write-requires-in-Ok-None c =
     let i = inputs c.requires.admissible c.requires.amounts_len.0 c.requires.left_len c.pack.ensures c.stand.ensures in
-    let r = sent_case i c.in-Unreached.ensures in
-    (c.requires.amounts_len.1 ∙ sym (keys_length i r.state r.found), λ v h. mark_low (entry c.send-sent.new.key v))
+    let r = sent_case i (rw c.in-Ok-None.field-0-is at c.in-Ok-None.ensures) in
+    (c.requires.amounts_len.1 ∙ sym (keys_length i r.state r.found), λ v h. mark_low (entry c.send.new.key v))
 
-pub returns-in-Reached : goal.returns-in-Reached
-returns-in-Reached c =
+pub returns-in-Ok-Some : goal.returns-in-Ok-Some
+returns-in-Ok-Some c =
     let i = inputs c.requires.admissible c.requires.amounts_len.0 c.requires.left_len c.pack.ensures c.stand.ensures in
-    path_answer i (sent_case i c.in-Reached.ensures) c.write.ensures
+    path_answer i (sent_case i (rw c.in-Ok-Some.field-0-is at c.in-Ok-Some.ensures)) c.write.ensures
 
-pub returns-in-Unreached : goal.returns-in-Unreached
-returns-in-Unreached c =
+pub returns-in-Ok-None : goal.returns-in-Ok-None
+returns-in-Ok-None c =
     let i = inputs c.requires.admissible c.requires.amounts_len.0 c.requires.left_len c.pack.ensures c.stand.ensures in
-    no_path_answer i (sent_case i c.in-Unreached.ensures) c.write-in-Unreached.ensures
+    no_path_answer i (sent_case i (rw c.in-Ok-None.field-0-is at c.in-Ok-None.ensures)) c.write-in-Ok-None.ensures
 
-pub returns-in-Refused : goal.returns-in-Refused
-returns-in-Refused c =
+pub unreachable-requires : goal.unreachable-requires
+unreachable-requires c =
     let i = inputs c.requires.admissible c.requires.amounts_len.0 c.requires.left_len c.pack.ensures c.stand.ensures in
-    absurd (sent_case i c.in-Refused.ensures)
+    absurd (sent_case i c.in-Err.ensures)

@@ -1,10 +1,5 @@
 use Rattle.flow_moves.specs.Preflow.{Moves}
 use Rattle.flow_draining.proofs.drain.Given as goal
 
-abbrev pub invariant-loop-fuel : goal.invariant-loop-fuel
-invariant-loop-fuel l =
-    Moves l.arcs l.initial.x l.initial.left l.x l.left
-
-abbrev pub decreases-loop-fuel : goal.decreases-loop-fuel
-decreases-loop-fuel l =
-    l.fuel
+abbrev pub invariant-loop : goal.invariant-loop
+invariant-loop l = Moves l.net.arcs.now l.initial.x l.initial.left l.x l.left

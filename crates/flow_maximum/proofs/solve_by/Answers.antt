@@ -1,30 +1,25 @@
-use mathlib.Core.Path.{sym}
-use Rattle.prelude.proofs.Tested.{not_on, not_off}
-use Rattle.flow_maximum.proofs.CallOutcomes.{solve_refused, solve_ready, left_size, by_tail, by_head, solve_ends}
+use mathlib.Core.Path.{◌≡◌, sym}
+use mathlib.Core.Bool.{false}
+use Rattle.std.proofs.Common.{rules}
+use Rattle.std.specs.Prelude.{is_ok}
+use Rattle.flow_maximum.proofs.CallOutcomes.{Went, went, solve_refused, solve_ready, solve_ends}
 use Rattle.flow_maximum.proofs.solve_by.Goals as goal
+use Rattle.flow_maximum.proofs.solve_by.Goals.{In_ok-preflow}
 
-pub returns-then-not-preflow : goal.returns-then-not-preflow
-returns-then-not-preflow c =
-    solve_refused c.args.arcs.now c.args.s c.args.t c.args.supply c.args.x.now c.args.key.now c.requires.0 c.requires.1 c.requires.2
-    c.preflow.ensures (not_off _ c.if-not-preflow.true)
+moved : (c : In_ok-preflow) → Went c.args.arcs.now c.args.s c.args.t c.args.supply c.args.x.now c.args.key.now c.preflow.new.x c.preflow.new.left c.preflow.new.out c.preflow.new.into
+moved c = went _ _ _ _ _ _ _ _ _ c.requires.0 c.requires.1 c.requires.2 c.in_ok-preflow.ensures
 
-pub finish-requires : goal.finish-requires
-finish-requires c =
-    record {
-      solve_ready = solve_ready c.args.arcs.now c.args.s c.args.t c.args.supply c.args.x.now c.args.key.now c.requires.0 c.requires.1 c.requires.2
-          c.preflow.ensures (not_on _ c.if-not-preflow.false);
-      chains = (
-        by_tail c.args.arcs.now c.args.s c.args.t c.args.supply c.args.x.now c.args.key.now c.requires.0 c.requires.1 c.requires.2
-            c.preflow.ensures (not_on _ c.if-not-preflow.false),
-        by_head c.args.arcs.now c.args.s c.args.t c.args.supply c.args.x.now c.args.key.now c.requires.0 c.requires.1 c.requires.2
-            c.preflow.ensures (not_on _ c.if-not-preflow.false),
-        sym
-            (left_size c.args.arcs.now c.args.s c.args.t c.args.supply c.args.x.now c.args.key.now c.requires.0 c.requires.1 c.requires.2
-            c.preflow.ensures (not_on _ c.if-not-preflow.false)),
-      );
-    }
+pub returns-in_err-preflow : goal.returns-in_err-preflow
+returns-in_err-preflow c =
+    let failed : is_ok c.from_residual.result ≡ false = search rules in
+    rw failed (solve_refused _ _ _ _ _ _ _ _ _ c.requires.0 c.requires.1 c.requires.2 c.in_err-preflow.ensures)
+
+pub finish-requires-clause-solve_ready : goal.finish-requires-clause-solve_ready
+finish-requires-clause-solve_ready c = solve_ready (moved (goal.at.finish-requires-clause-solve_ready c).In_ok-preflow)
+
+pub finish-requires-clause-chains : goal.finish-requires-clause-chains
+finish-requires-clause-chains c =
+    let w = moved (goal.at.finish-requires-clause-chains c).In_ok-preflow in (w.by_tail, w.by_head, sym w.left_len)
 
 pub returns : goal.returns
-returns c =
-    solve_ends c.args.arcs.now c.args.s c.args.t c.args.supply c.args.x.now c.args.key.now c.requires.0 c.requires.1 c.requires.2 c.preflow.ensures
-    (not_on _ c.if-not-preflow.false) c.finish.ensures
+returns c = solve_ends (moved (goal.at.returns c).In_ok-preflow) c.finish.ensures

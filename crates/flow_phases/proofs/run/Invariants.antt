@@ -3,10 +3,10 @@ use Rattle.packed_arcs.specs.Entries.{sum}
 use Rattle.flow_residual.proofs.PhaseLaws.{Running}
 use Rattle.flow_phases.proofs.run.Given as goal
 
-abbrev pub invariant-loop-key : goal.invariant-loop-key
-invariant-loop-key l =
+abbrev pub invariant-loop-t : goal.invariant-loop-t
+invariant-loop-t l =
     Running (tails_of l.arcs) (heads_of l.arcs) (costs_of l.arcs) (capacities_of l.arcs) l.initial.x l.initial.left l.initial.need l.x l.pi l.left l.need l.key l.par
 
-abbrev pub decreases-loop-key : goal.decreases-loop-key
-decreases-loop-key l =
+abbrev pub decreases-loop-t : goal.decreases-loop-t
+decreases-loop-t l =
     sum l.need

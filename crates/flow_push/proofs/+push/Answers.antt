@@ -2,13 +2,9 @@ use mathlib.Core.Path.{ap}
 use native.Mathlib.Omega.{arith}
 use Rattle.packed_arcs.specs.Entries.{entry}
 use Rattle.packed_arcs.proofs.ArcColumns.{capacity_fits}
-use Rattle.flow_residual.proofs.PushedAmounts.{start_ok, shift_ok, moved_root, moved_step}
+use Rattle.flow_residual.proofs.PushedAmounts.{start_ok, shift_ok, moved_step}
 use Rattle.flow_push.proofs.CodedArcs.{start_by, room_by, amounts_after, after_fits}
 use Rattle.flow_push.proofs.+push.Goals as goal
-
-pub returns-then-key-v-eq0 : goal.returns-then-key-v-eq0
-returns-then-key-v-eq0 t c =
-    moved_root c.requires.packed_push_ready _ c.args.v c.args.want _ c.requires.v_in_bounds.0 c.if-key-v-eq0.true c.take_left.ensures.0 c.take_left.ensures.1
 
 pub push-got-requires : goal.push-got-requires
 push-got-requires t c =

@@ -1,11 +1,11 @@
 use Prim.Native.Nat.{◌-◌}
-use Rattle.flow_residual.specs.PackedNetwork.{residual_of}
+use Rattle.flow_relaxing.specs.Relaxing.{residual_in}
 use Rattle.flow_search.proofs.SearchLaws.{Scanning}
 use Rattle.flow_search.proofs.scan.Given as goal
 
 abbrev pub invariant-loop-e : goal.invariant-loop-e
 invariant-loop-e l =
-    Scanning (residual_of l.arcs l.x l.pi) l.back l.u l.k l.initial.key l.initial.par l.initial.keys l.initial.low l.key l.par l.keys l.low l.e
+    Scanning (residual_in l.net) l.back l.u l.k l.initial.key l.initial.par l.initial.queue.keys l.initial.queue.low l.key l.par l.queue.keys l.queue.low l.e
 
 abbrev pub decreases-loop-e : goal.decreases-loop-e
 decreases-loop-e l =

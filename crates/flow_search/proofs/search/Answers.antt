@@ -5,57 +5,38 @@ use Rattle.flow_residual.proofs.PhaseLaws.{found}
 use Rattle.flow_search.proofs.SearchLaws.{between_start, between_on, take_looking, take_falls, all_relaxed, ready_since}
 use Rattle.flow_search.proofs.search.Goals as goal
 
-pub start-requires : goal.start-requires
-start-requires c =
-    (c.requires.key_len.0, c.requires.key_len.2.small, c.begin.ensures)
-
-pub loop-keys-init : goal.loop-keys-init
-loop-keys-init c =
+pub loop-queue-init : goal.loop-queue-init
+loop-queue-init c =
     (lower_refl _ _ _, between_start c.requires.key_len.2 c.start.ensures)
-
-pub shape_of-key-then-k-ge-UNREACHED : goal.shape_of-key-then-k-ge-UNREACHED
-shape_of-key-then-k-ge-UNREACHED c = c.loop-keys.invariant.0.key_len ∙ c.start.auto.key
-
-pub shape_of-par-then-k-ge-UNREACHED : goal.shape_of-par-then-k-ge-UNREACHED
-shape_of-par-then-k-ge-UNREACHED c = c.loop-keys.invariant.0.par_len
 
 pub returns-then-k-ge-UNREACHED : goal.returns-then-k-ge-UNREACHED
 returns-then-k-ge-UNREACHED c =
     found _ _ _ _ _ _ c.start.ensures.started c.requires.key_len.1
     (record {
-      keeps = c.loop-keys.invariant.0;
-      relaxed = all_relaxed (ready_since c.requires.key_len.2 c.start.ensures.started c.loop-keys.invariant.0) c.loop-keys.invariant.1
+      keeps = c.loop-queue.invariant.0;
+      relaxed = all_relaxed (ready_since c.requires.key_len.2 c.start.ensures.started c.loop-queue.invariant.0) c.loop-queue.invariant.1
           (omega (arith, c.if-k-ge-UNREACHED.true, c.least-k.ensures));
     })
 
 pub look-requires : goal.look-requires
 look-requires c =
-    let R = ready_since c.requires.key_len.2 c.start.ensures.started c.loop-keys.invariant.0 in
+    let R = ready_since c.requires.key_len.2 c.start.ensures.started c.loop-queue.invariant.0 in
     record {
-      chains = (c.requires.chains.0, c.requires.chains.1, c.loop-keys.invariant.0.par_len ∙ c.requires.key_len.1 ∙ sym c.start.ensures.started.len ∙ sym c.loop-keys.invariant.0.key_len, R);
-      looking = rw (c.take-u.ensures.0, c.least-k.ensures)
-          (take_looking R c.loop-keys.invariant.1 (omega (arith, c.if-k-ge-UNREACHED.false, c.least-k.ensures)) c.take-u.ensures.1);
+      chains = (c.requires.chains.0, c.requires.chains.1, c.loop-queue.invariant.0.par_len ∙ c.requires.key_len.1 ∙ sym c.start.ensures.started.len ∙ sym c.loop-queue.invariant.0.key_len, R);
+      looking = rw (c.from-u.ensures, c.take.ensures.0, c.least-k.ensures)
+          (take_looking R c.loop-queue.invariant.1 (omega (arith, c.if-k-ge-UNREACHED.false, c.least-k.ensures)) c.take.ensures.1);
     }
 
-pub loop-keys-smaller : goal.loop-keys-smaller
-loop-keys-smaller c =
-    let R = ready_since c.requires.key_len.2 c.start.ensures.started c.loop-keys.invariant.0 in
+pub loop-queue-smaller : goal.loop-queue-smaller
+loop-queue-smaller c =
+    let R = ready_since c.requires.key_len.2 c.start.ensures.started c.loop-queue.invariant.0 in
     omega (
       arith,
       c.look.ensures.falls,
-      take_falls R c.loop-keys.invariant.1 (omega (arith, c.if-k-ge-UNREACHED.false, c.least-k.ensures)) c.take-u.ensures.1,
+      take_falls R c.loop-queue.invariant.1 (omega (arith, c.if-k-ge-UNREACHED.false, c.least-k.ensures)) c.take.ensures.1,
     )
 
-pub loop-keys-preserved : goal.loop-keys-preserved
-loop-keys-preserved c =
-    let k = lower_trans c.loop-keys.invariant.0 c.look.ensures.keeps in
+pub loop-queue-preserved : goal.loop-queue-preserved
+loop-queue-preserved c =
+    let k = lower_trans c.loop-queue.invariant.0 c.look.ensures.keeps in
     (k, between_on (ready_since c.requires.key_len.2 c.start.ensures.started k) c.look.ensures.looking)
-
-pub begin-requires : goal.begin-requires
-begin-requires c = tt
-
-pub least-k-requires : goal.least-k-requires
-least-k-requires c = tt
-
-pub take-u-requires : goal.take-u-requires
-take-u-requires c = tt

@@ -1,7 +1,4 @@
-use mathlib.Core.Path.{◌∙◌, sym, ap}
-use Prim.Native.Nat.{ℕ}
-use native.Mathlib.Omega.{arith}
-use lib.ListN.{length, length-replicate}
+use mathlib.Core.Path.{◌∙◌, sym}
 use Rattle.flow_settling.proofs.Settled.{at_most, prepared_on, prepared_anew, amounts_len}
 use Rattle.flow_settling.proofs.prepare.Goals as goal
 
@@ -9,27 +6,12 @@ pub is_settled-requires : goal.is_settled-requires
 is_settled-requires c =
     (c.requires.solve_ready.0.source, c.requires.solve_ready.0.sink, at_most c.args.supply c.requires.solve_ready.0 c.requires.solve_ready.1 c.args.s)
 
-pub overflow_sub-need : goal.overflow_sub-need
-overflow_sub-need c =
-    at_most c.args.supply c.requires.solve_ready.0 c.requires.solve_ready.1 c.args.t
-
-pub bounds-need-t : goal.bounds-need-t
-bounds-need-t c =
-    omega (arith, ap length c.requires.need_value, length-replicate {A = ℕ} (length c.args.left.now) 0, c.requires.solve_ready.0.sink)
-
 pub returns-then-is_settled : goal.returns-then-is_settled
 returns-then-is_settled c =
     rw c.requires.need_value
     (prepared_on c.args.supply c.requires.solve_ready.0 c.requires.solve_ready.1 (sym c.is_settled.ensures ∙ c.if-is_settled.true))
 
-pub bounds-need-t-2 : goal.bounds-need-t-2
-bounds-need-t-2 c =
-    omega (arith, ap length c.requires.need_value, length-replicate {A = ℕ} (length c.args.left.now) 0, c.requires.solve_ready.0.sink)
-
 pub returns : goal.returns
 returns c =
     rw (c.stand_at.ensures.0, c.stand_at.ensures.1, c.requires.need_value, amounts_len c.args.supply c.requires.solve_ready.0 c.requires.solve_ready.1)
     (prepared_anew c.args.supply c.requires.solve_ready.0)
-
-pub stand_at-requires : goal.stand_at-requires
-stand_at-requires c = c.requires.solve_ready.0.source

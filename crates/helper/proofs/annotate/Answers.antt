@@ -7,7 +7,8 @@ use Rattle.prelude.specs.Checks.{Check, ◌unless◌, settle, first_broken, Hold
 use Rattle.prelude.proofs.Settle.{settled, Numbered, numbered_append, none_broken, hold_left, hold_right, part_refused}
 use Rattle.acceptance.specs.Acceptance.{acceptance_checks, AcceptedFile}
 use Rattle.acceptance.proofs.AcceptedFiles.{acceptance_numbered}
-use Rattle.format.specs.Replies.{wrote, declined}
+use Rattle.refusals.proofs.Exits.{exit_as, number_not_0}
+use Rattle.format.specs.Replies.{writer_said, wrote, declined}
 use Rattle.annotation_writing.specs.Requests.{size_for, annotate_checks}
 use Rattle.helper.specs.Helper.{annotated}
 use Rattle.helper.proofs.annotate.Goals as goal
@@ -34,23 +35,21 @@ module _ (net : List ℕ) (room why : ℕ) (found : why ≡ first_broken (annota
     at_end : {size : ℕ} → size ≡ size_for net → wrote size ≡ annotated net room
     at_end e = ap wrote e ∙ sym (settled declined (annotate_checks net room) (wrote (size_for net)) held)
 
-pub returns-then-why-ne0 : goal.returns-then-why-ne0
-returns-then-why-ne0 c =
-    (at-checks c.args.net.now (length c.args.buffer.now) c.annotate_check-why.result c.annotate_check-why.ensures c.if-why-ne0.true, refl)
+pub returns-in_err-annotate_check : goal.returns-in_err-annotate_check
+returns-in_err-annotate_check c =
+    let said = exit_as writer_said _ _ c.from_residual.ensures.1 in
+    (said ∙ at-checks c.args.net.now (length c.args.buffer.now) _ c.in_err-annotate_check.ensures (number_not_0 _), rw said refl)
 
 pub write_annotation-requires : goal.write_annotation-requires
 write_annotation-requires c =
-    let r = taken c.args.net.now (length c.args.buffer.now) c.annotate_check-why.result c.annotate_check-why.ensures c.if-why-ne0.false in
+    let r = taken c.args.net.now (length c.args.buffer.now) 0 c.in_ok-annotate_check.ensures refl in
     record { accepted_file = r.0; net_in_bounds = r.1 }
 
 pub returns : goal.returns
 returns c = (
-  at_end c.args.net.now (length c.args.buffer.now) c.annotate_check-why.result c.annotate_check-why.ensures c.if-why-ne0.false c.annotation_size.ensures,
+  at_end c.args.net.now (length c.args.buffer.now) 0 c.in_ok-annotate_check.ensures refl c.annotation_size.ensures,
   c.write_annotation.ensures,
 )
-
-pub annotate_check-why-requires : goal.annotate_check-why-requires
-annotate_check-why-requires c = tt
 
 pub annotation_size-requires : goal.annotation_size-requires
 annotation_size-requires c = tt

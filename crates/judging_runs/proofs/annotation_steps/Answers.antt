@@ -1,47 +1,46 @@
 -- At each place where it ends, what it gives is what the steps come out as.
+use mathlib.Core.Path.{refl, ◌∙◌, ap}
+use Rattle.network.specs.Question.{Answer}
+use Rattle.refusals.specs.Refusals.{number}
+use Rattle.refusals.proofs.Exits.{exit_as, number_not_0}
+use Rattle.state.specs.Answers.{answered}
+use Rattle.state.specs.Results.{verdict}
+use Rattle.state.proofs.Laws.{stays, goes}
+use Rattle.judging_runs.proofs.StepLoops.{gives_answered}
 use Rattle.judging_runs.proofs.AnnotationReturns.{at_end, at_claim, at_numbers, at_repeats, at_finish, at_answer}
 use Rattle.judging_runs.proofs.annotation_steps.Goals as goal
 
-pub returns-then-at_end-ne0 : goal.returns-then-at_end-ne0
-returns-then-at_end-ne0 c =
-    at_end c.args.x c.args.n c.args.file.now c.end_reading-ended.result c.end_reading-ended.ensures
-    c.if-at_end-ne0.true
+pub returns-in_err-ended : goal.returns-in_err-ended
+returns-in_err-ended c =
+    exit_as verdict _ _ c.from_residual.ensures.1
+    ∙ at_end c.args.x c.args.n c.args.file.now (stays c.args.x (number c.in_err-ended.field-0.0)) c.in_err-ended.ensures (number_not_0 _)
 
-pub returns-then-at_claim-ne0 : goal.returns-then-at_claim-ne0
-returns-then-at_claim-ne0 c =
-    at_claim c.args.x c.args.n c.args.file.now c.end_reading-ended.result c.end_reading-ended.ensures
-    c.if-at_end-ne0.false c.claim.result c.claim.ensures c.claim-claimed.result c.claim-claimed.ensures
-    c.if-at_claim-ne0.true
+pub returns-in_err-claimed : goal.returns-in_err-claimed
+returns-in_err-claimed c =
+    exit_as verdict _ _ c.from_residual-in_err-claimed.ensures.1
+    ∙ at_claim c.args.x c.args.n c.args.file.now (goes c.in_ok-ended.ended) c.in_ok-ended.ensures
+    refl c.claim.result c.claim.ensures (stays c.in_ok-ended.ended (number c.in_err-claimed.field-0.0)) c.in_err-claimed.ensures (number_not_0 _)
 
-pub returns-then-at_numbers-ne0 : goal.returns-then-at_numbers-ne0
-returns-then-at_numbers-ne0 c =
-    at_numbers c.args.x c.args.n c.args.file.now c.end_reading-ended.result c.end_reading-ended.ensures
-    c.if-at_end-ne0.false c.claim.result c.claim.ensures c.claim-claimed.result c.claim-claimed.ensures
-    c.if-at_claim-ne0.false c.number_all-numbered.result.why _ c.number_all-numbered.ensures
-    c.if-at_numbers-ne0.true
+pub returns-in_err-numbered : goal.returns-in_err-numbered
+returns-in_err-numbered c =
+    exit_as verdict _ _ c.from_residual-in_err-numbered.ensures.1
+    ∙ at_numbers c.args.x c.args.n c.args.file.now (goes c.in_ok-ended.ended) c.in_ok-ended.ensures refl c.claim.result c.claim.ensures (goes c.in_ok-claimed.claimed) c.in_ok-claimed.ensures
+    refl _ _ c.in_err-numbered.ensures (number_not_0 _)
 
-pub returns-then-at_repeats-ne0 : goal.returns-then-at_repeats-ne0
-returns-then-at_repeats-ne0 c =
-    at_repeats c.args.x c.args.n c.args.file.now c.end_reading-ended.result c.end_reading-ended.ensures
-    c.if-at_end-ne0.false c.claim.result c.claim.ensures c.claim-claimed.result c.claim-claimed.ensures
-    c.if-at_claim-ne0.false c.number_all-numbered.result.why _ c.number_all-numbered.ensures
-    c.if-at_numbers-ne0.false c.repeat_all-repeated.result.why _ c.repeat_all-repeated.ensures
-    c.if-at_repeats-ne0.true
+pub returns-in_err-last : goal.returns-in_err-last
+returns-in_err-last c =
+    exit_as verdict _ _ c.from_residual-in_err-last.ensures.1
+    ∙ at_repeats c.args.x c.args.n c.args.file.now (goes c.in_ok-ended.ended) c.in_ok-ended.ensures refl c.claim.result c.claim.ensures (goes c.in_ok-claimed.claimed) c.in_ok-claimed.ensures refl 0 _ c.in_ok-numbered.ensures
+    refl _ _ c.in_err-last.ensures (number_not_0 _)
 
-pub returns-then-at_finish-ne0 : goal.returns-then-at_finish-ne0
-returns-then-at_finish-ne0 c =
-    at_finish c.args.x c.args.n c.args.file.now c.end_reading-ended.result c.end_reading-ended.ensures
-    c.if-at_end-ne0.false c.claim.result c.claim.ensures c.claim-claimed.result c.claim-claimed.ensures
-    c.if-at_claim-ne0.false c.number_all-numbered.result.why _ c.number_all-numbered.ensures
-    c.if-at_numbers-ne0.false c.repeat_all-repeated.result.why _ c.repeat_all-repeated.ensures
-    c.if-at_repeats-ne0.false c.finish_check-at_finish.result c.finish_check-at_finish.ensures
-    c.if-at_finish-ne0.true
+pub returns-in_err-finish_check : goal.returns-in_err-finish_check
+returns-in_err-finish_check c =
+    exit_as verdict _ _ c.from_residual-in_err-finish_check.ensures.1
+    ∙ at_finish c.args.x c.args.n c.args.file.now (goes c.in_ok-ended.ended) c.in_ok-ended.ensures refl c.claim.result c.claim.ensures (goes c.in_ok-claimed.claimed) c.in_ok-claimed.ensures refl 0 _ c.in_ok-numbered.ensures refl 0 _ c.in_ok-last.ensures
+    refl _ c.in_err-finish_check.ensures (number_not_0 _)
 
 pub returns : goal.returns
 returns c =
-    at_answer c.args.x c.args.n c.args.file.now c.end_reading-ended.result c.end_reading-ended.ensures
-    c.if-at_end-ne0.false c.claim.result c.claim.ensures c.claim-claimed.result c.claim-claimed.ensures
-    c.if-at_claim-ne0.false c.number_all-numbered.result.why _ c.number_all-numbered.ensures
-    c.if-at_numbers-ne0.false c.repeat_all-repeated.result.why _ c.repeat_all-repeated.ensures
-    c.if-at_repeats-ne0.false c.finish_check-at_finish.result c.finish_check-at_finish.ensures
-    c.if-at_finish-ne0.false c.answer.result c.answer.ensures
+    gives_answered _
+    ∙ at_answer c.args.x c.args.n c.args.file.now (goes c.in_ok-ended.ended) c.in_ok-ended.ensures refl c.claim.result c.claim.ensures (goes c.in_ok-claimed.claimed) c.in_ok-claimed.ensures refl 0 _ c.in_ok-numbered.ensures refl 0 _ c.in_ok-last.ensures
+    refl 0 c.in_ok-finish_check.ensures refl _ (ap (λ (a : Answer). answered a) c.answer.ensures)

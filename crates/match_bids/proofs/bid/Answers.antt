@@ -15,25 +15,25 @@ here : (c : After-choose-e)
     → let rs = c.args.records.now in
     Offer (record_tails rs) (record_heads rs) (record_weights rs) c.args.pi.now c.args.t c.choose-e.result c.cost_of-u.result
 here c =
-    offer c.args.t _ _ c.choose-e.result c.cost_of-u.result c.requires.state.0 c.if-e1-ge4096.false c.if-e2-ge4096.false c.two_cheapest-two.ensures
+    offer c.args.t _ _ c.choose-e.result c.cost_of-u.result c.requires.state.0 c.in-Some.ensures.0 c.in-Some.ensures.1 c.in-Some.ensures.2
     c.cost_of-u.ensures c.if-u-gt-MOST.false c.choose-e.ensures
 
 -- before that t was exposed
 exposed : (c : Else-mate-t-lt-NO_ARC) → entry c.args.mate.now c.args.t ≡ no_arc
 exposed c = is_exposed c.requires.state.0.graph c.requires.state.0.pairs c.args.t c.requires.h_le_t.1 c.if-mate-t-lt-NO_ARC.false
 
-pub two_cheapest-two-requires : goal.two_cheapest-two-requires
-two_cheapest-two-requires c =
+pub both_cheapest-requires : goal.both_cheapest-requires
+both_cheapest-requires c =
     record { rows = (c.requires.state.1, omega (arith, c.requires.h_le_t.1, c.requires.state.0.graph.small)); affordable = (affordable c.requires.state.0, c.requires.state.0.graph.small) }
 
 pub cost_of-u-requires : goal.cost_of-u-requires
 cost_of-u-requires c =
-    (affordable c.requires.state.0, omega (arith, (c.two_cheapest-two.ensures.second c.if-e1-ge4096.false).arc c.if-e2-ge4096.false, tails_len c.args.records.now))
+    (affordable c.requires.state.0, omega (arith, (c.in-Some.ensures.2.second c.in-Some.ensures.0).arc c.in-Some.ensures.1, tails_len c.args.records.now))
 
 pub choose-e-requires : goal.choose-e-requires
 choose-e-requires c = (
   affordable c.requires.state.0,
-  omega (arith, c.two_cheapest-two.ensures.first.arc c.if-e1-ge4096.false, tails_len c.args.records.now),
+  omega (arith, c.in-Some.ensures.2.first.arc c.in-Some.ensures.0, tails_len c.args.records.now),
   c.requires.state.0.pairs.len,
 )
 
@@ -48,12 +48,6 @@ returns c =
 
 pub returns-then-mate-t-lt-NO_ARC : goal.returns-then-mate-t-lt-NO_ARC
 returns-then-mate-t-lt-NO_ARC c = c.requires.state.0
-
-pub returns-then-e1-ge4096 : goal.returns-then-e1-ge4096
-returns-then-e1-ge4096 c = c.requires.state.0
-
-pub returns-then-e2-ge4096 : goal.returns-then-e2-ge4096
-returns-then-e2-ge4096 c = c.requires.state.0
 
 pub returns-then-u-gt-MOST : goal.returns-then-u-gt-MOST
 returns-then-u-gt-MOST c = c.requires.state.0

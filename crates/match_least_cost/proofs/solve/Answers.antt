@@ -21,16 +21,16 @@ pub returns-then-h-n : goal.returns-then-h-n
 returns-then-h-n c =
     let F = facts (goal.at.returns-then-h-n c).Else-not-is_matchable in
     MatchOutcome.found (sym c.is_matchable.ensures ∙ c.if-not-is_matchable.false)
-    (found_too_few c.if-h-n.true c.clear_potentials.ensures
-    (c.clear_amounts.ensures ∙ ap zero_list (F.one_each ∙ sym (tails_len c.args.records.now))))
+    (found_too_few c.if-h-n.true (c.fill.ensures.after (λ y e. e))
+    (c.fill-then-h-n.ensures.after (λ y e. e) ∙ ap zero_list (F.one_each ∙ sym (tails_len c.args.records.now))))
 
 pub find_by_search-requires : goal.find_by_search-requires
 find_by_search-requires c =
     let F = facts (goal.at.find_by_search-requires c).Else-not-is_matchable in
-    let same = c.clear_potentials.auto.pi in
-    record { bipartite = bipartite_at refl same F.graph; x_len = (F.one_each, c.clear_potentials.ensures ∙ ap zero_list (sym same)) }
+    let same = c.fill.auto.self in
+    record { bipartite = bipartite_at refl same F.graph; x_len = (F.one_each, c.fill.ensures.after (λ y e. e) ∙ ap zero_list (sym same)) }
 
 pub returns : goal.returns
 returns c =
     MatchOutcome.found (sym c.is_matchable.ensures ∙ c.if-not-is_matchable.false)
-    (outcome_at refl c.clear_potentials.auto.pi c.find_by_search.ensures)
+    (outcome_at refl c.fill.auto.self c.find_by_search.ensures)

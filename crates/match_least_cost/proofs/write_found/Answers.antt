@@ -9,10 +9,10 @@ use Rattle.match_least_cost.proofs.write_found.Goals as goal
 pub write_marks-requires : goal.write_marks-requires
 write_marks-requires c = let S = (pass_state c.requires.pass_outcome).0 in record { bipartite = S.graph; cases = S.pairs }
 
-pub returns-then-t-mate : goal.returns-then-t-mate
-returns-then-t-mate c =
-    found_none c.requires.pass_outcome (omega (arith, c.if-t-mate.true, (pass_state c.requires.pass_outcome).0.pairs.len)) c.write_marks.ensures
-    (c.clear_amounts.ensures ∙ ap zero_list (c.requires.x_len ∙ sym (tails_len c.args.records.now)))
+pub returns-in-Some : goal.returns-in-Some
+returns-in-Some c =
+    found_none (rw c.in-Some.is at c.requires.pass_outcome) (omega (arith, rw c.in-Some.is at c.requires.in_mate, (pass_state c.requires.pass_outcome).0.pairs.len)) c.write_marks.ensures
+    (c.fill.ensures.after (λ y e. e) ∙ ap zero_list (c.requires.x_len ∙ sym (tails_len c.args.records.now)))
 
 pub write_amounts-requires : goal.write_amounts-requires
 write_amounts-requires c =
@@ -21,4 +21,4 @@ write_amounts-requires c =
 
 pub returns : goal.returns
 returns c =
-    found_saturating c.requires.pass_outcome (omega (arith, c.if-t-mate.false, (pass_state c.requires.pass_outcome).0.pairs.len)) c.write_amounts.ensures
+    found_saturating c.requires.pass_outcome (rw c.in_default.is (omega arith)) c.write_amounts.ensures

@@ -1,6 +1,5 @@
-use mathlib.Core.Path.{◌≡◌, refl, sym, subst, ◌∙◌}
+use mathlib.Core.Path.{refl, sym, subst, ◌∙◌}
 use native.Mathlib.Omega.{arith}
-use lib.ListN.{length}
 use Rattle.match_rounds.specs.Serving.{Served}
 use Rattle.match_rounds.proofs.Serving.{state_at, pass_start, pass_on, pass_stuck, pass_end}
 use Rattle.match_rounds.proofs.pass.Goals as goal
@@ -57,6 +56,7 @@ returns-then-not-serve_exposed c =
     record {
       pass_outcome = pass_stuck P.dist_len P.state.priced.len P (omega (arith, c.loop-t-test.true, P.state.pairs.len))
           (subst (Served _ _ _ _ _ _ _ _ _ _) c.if-not-serve_exposed.true c.serve_exposed.ensures.served);
+      in_mate = omega (arith, c.loop-t-test.true, c.loop-t.invariant.1);
       rows_2 = c.serve_exposed.ensures.rows_2;
     }
 
@@ -84,8 +84,7 @@ loop-t-preserved c =
 pub returns : goal.returns
 returns c =
     let P = c.loop-t.invariant.0 in
-    let e : length c.loop-t.mate ≡ length c.args.pi.now = P.state.pairs.len in
-    record { pass_outcome = rw e (pass_end P (omega (arith, c.loop-t-test.false, P.state.pairs.len))); rows_2 = c.loop-t.invariant.5 }
+    record { pass_outcome = pass_end P (omega (arith, c.loop-t-test.false, P.state.pairs.len)); in_mate = tt; rows_2 = c.loop-t.invariant.5 }
 
 pub shape_of-rows : goal.shape_of-rows
 shape_of-rows c = omega (arith, c.loop-t.invariant.5.len, c.requires.rows.0.len)

@@ -1,12 +1,11 @@
-use mathlib.Core.Path.{sym, subst, subst₂}
+use mathlib.Core.Path.{sym, subst₂}
 use Prim.Native.Nat.{ℕ, ◌+◌, ◌<◌}
 use native.Mathlib.Omega.{arith}
 use lib.ListN.{set}
 use Rattle.arc_index.specs.ArcIndex.{no_arc}
 use Rattle.arc_index.specs.Columns.{record_tails, record_heads, record_weights}
-use Rattle.arc_index.proofs.ChainSteps.{is_arc, in_links, shrinks}
 use Rattle.arc_index.proofs.Columns.{heads_len}
-use Rattle.match_rows.proofs.OneRow.{Copying, copying_start, in_rows, few_positions, copying_next, copying_end}
+use Rattle.match_rows.proofs.OneRow.{Copying, in_rows, few_positions, copying_next, copying_end}
 use Rattle.match_rows.proofs.copy_chain.Goals as goal
 use Rattle.match_rows.proofs.copy_chain.Goals.{After-row_arc}
 
@@ -16,37 +15,16 @@ low c =
     few_positions c.args.records.now c.args.links.now c.args.rows.now c.loop-e.rows c.args.v c.args.from c.loop-e.i c.loop-e.e c.requires.0
     c.loop-e-test.true (omega (arith, c.requires.2, heads_len c.args.records.now)) c.loop-e.invariant
 
-pub bounds-links-v : goal.bounds-links-v
-bounds-links-v c = omega (arith, c.requires.1, c.requires.0.len)
-
-pub loop-e-init : goal.loop-e-init
-loop-e-init c =
-    let rs = c.args.records.now in
-    subst (λ (k : ℕ). Copying (record_tails rs) (record_heads rs) (record_weights rs) c.args.rows.now c.args.rows.now c.args.v c.args.from c.args.from k) (sym c.place-e.ensures)
-    (copying_start (record_tails rs) (record_heads rs) (record_weights rs) c.args.links.now c.args.rows.now c.args.v c.args.from c.requires.0 c.requires.1 c.requires.3)
-
-pub bounds-records-e : goal.bounds-records-e
-bounds-records-e c =
-    omega (arith, (is_arc c.loop-e.invariant.here c.loop-e-test.true).0, heads_len c.args.records.now)
-
 pub bounds-rows-i : goal.bounds-rows-i
 bounds-rows-i c =
     in_rows c.args.records.now c.args.links.now c.args.rows.now c.loop-e.rows c.args.v c.args.from c.loop-e.i c.loop-e.e c.requires.0
     c.loop-e-test.true (omega (arith, c.requires.2, heads_len c.args.records.now)) c.loop-e.invariant
 
-pub bounds-links-e : goal.bounds-links-e
-bounds-links-e c =
-    in_links c.requires.0 c.loop-e.invariant.here c.loop-e-test.true
-
-pub loop-e-smaller : goal.loop-e-smaller
-loop-e-smaller c =
-    omega (arith, c.place-e-in-loop-e.ensures, shrinks c.requires.0 c.loop-e.invariant.here c.loop-e-test.true)
-
 pub loop-e-preserved : goal.loop-e-preserved
 loop-e-preserved c =
     let rs = c.args.records.now in
     subst₂ (λ (arc k : ℕ). Copying (record_tails rs) (record_heads rs) (record_weights rs) c.args.rows.now (set c.loop-e.rows c.loop-e.i arc) c.args.v c.args.from (c.loop-e.i + 1) k)
-    (sym c.row_arc.ensures.0) (sym c.place-e-in-loop-e.ensures)
+    (sym c.row_arc.ensures.0) (sym c.from-e-in-loop-e.ensures)
     (copying_next rs c.args.links.now c.args.rows.now c.loop-e.rows c.args.v c.args.from c.loop-e.i c.loop-e.e c.requires.0 c.loop-e-test.true
     (omega (arith, c.requires.2, heads_len rs)) c.loop-e.invariant c.row_arc.ensures.1)
 
@@ -55,17 +33,8 @@ returns c =
     let rs = c.args.records.now in
     copying_end (record_tails rs) (record_heads rs) (record_weights rs) c.args.rows.now c.loop-e.rows c.args.v c.args.from c.loop-e.i c.loop-e.e c.requires.0.few c.loop-e-test.false c.loop-e.invariant
 
-pub row_arc-requires : goal.row_arc-requires
-row_arc-requires c = c.loop-e-test.true
-
 pub offset_bounds-rows-i : goal.offset_bounds-rows-i
 offset_bounds-rows-i c = omega (arith, low (goal.at.offset_bounds-rows-i c).After-row_arc)
 
 pub overflow_add-i : goal.overflow_add-i
 overflow_add-i c = omega (arith, low (goal.at.overflow_add-i c).After-row_arc)
-
-pub overflow_add-e : goal.overflow_add-e
-overflow_add-e c = omega (arith, c.loop-e-test.true)
-
-pub shape_of-rows : goal.shape_of-rows
-shape_of-rows c = c.loop-e.invariant.len

@@ -1,61 +1,38 @@
-use mathlib.Core.Path.{◌≡◌, refl, ap, ◌∙◌}
-use mathlib.Core.List.{List}
-use Prim.Native.Nat.{ℕ, ◌<◌, ◌≤◌}
+use mathlib.Core.Path.{◌≡◌, sym, ap, ◌∙◌}
+use Prim.Native.Nat.{◌<◌}
 use native.Mathlib.Omega.{arith}
-use lib.ListN.{length, length-set, replicate, length-replicate}
+use lib.ListN.{length}
+use Rattle.packed_arcs.specs.Entries.{entry}
+use Rattle.arc_records.specs.Arcs.{Arc}
 use Rattle.arc_index.specs.Columns.{record_tails, record_weights}
-use Rattle.arc_index.proofs.Columns.{tails_len, tail_is}
+use Rattle.arc_index.proofs.Columns.{tails_len, tail_is, weight_is}
 use Rattle.match_slack.proofs.Extremes.{lightest_turn}
 use Rattle.match_slack.proofs.write_lightest.Goals as goal
-use Rattle.match_slack.proofs.write_lightest.Goals.{After-lesser, After-tail_at-a}
+use Rattle.match_slack.proofs.write_lightest.Goals.{After-arc_in-arc}
 
--- what is noted stays as long as it was lent
-as_lent : (l k m : List ℕ) → length l ≡ length k → k ≡ replicate (length m) 32767 → length l ≡ length m
-as_lent l k m p q = p ∙ ap (λ (i : List ℕ). length i) q ∙ length-replicate (length m) 32767
+-- the tail and the weight of the arc stand in their columns
+tail : (c : After-arc_in-arc) → c.arc_in-arc.result.tail ≡ entry (record_tails c.args.records.now) c.loop-record.record-index
+tail c = ap (λ (arc : Arc). arc.tail) c.arc_in-arc.ensures ∙ sym (tail_is c.args.records.now c.loop-record.record-index)
+
+weight : (c : After-arc_in-arc) → c.arc_in-arc.result.weight ≡ entry (record_weights c.args.records.now) c.loop-record.record-index
+weight c = ap (λ (arc : Arc). arc.weight) c.arc_in-arc.ensures ∙ sym (weight_is c.args.records.now c.loop-record.record-index)
 
 -- something is noted for the tail
-within : (c : After-tail_at-a) → c.tail_at-a.result < length c.loop-e.lightest
-within c =
-    omega (arith, (c.requires c.loop-e.e c.loop-e-test.true).0, c.tail_at-a.ensures, as_lent _ _ _ c.loop-e.invariant.0 c.set_heaviest.ensures)
+within : (c : After-arc_in-arc) → c.arc_in-arc.result.tail < length c.loop-record.lightest
+within c = omega (arith, tail c, (c.requires c.loop-record.record-index c.loop-record-test.true).0, c.loop-record.auto.lightest, c.fill.ensures.len)
 
--- the tail is a small number
-small : (c : After-tail_at-a) → c.tail_at-a.result < 256
-small c =
-    omega (arith, c.tail_at-a.ensures, tail_is c.args.records.now c.loop-e.e)
+pub loop-record-preserved : goal.loop-record-preserved
+loop-record-preserved c =
+    let here = (goal.at.loop-record-preserved c).After-arc_in-arc in
+    lightest_turn (record_tails c.args.records.now) (record_weights c.args.records.now) c.loop-record.lightest c.loop-record.record-index c.arc_in-arc.result.tail c.min.result (within here) (tail here)
+    (omega (arith, c.min.ensures, weight here)) c.loop-record.invariant
 
--- the weight fits
-light : (c : After-lesser) → c.lesser.result ≤ 32767
-light c =
-    omega (arith, (c.requires c.loop-e.e c.loop-e-test.true).1, c.lesser.ensures, c.weight_at-w.ensures)
+pub bounds-lightest-a : goal.bounds-lightest-a
+bounds-lightest-a c = within (goal.at.bounds-lightest-a c).After-arc_in-arc
 
-pub loop-e-preserved : goal.loop-e-preserved
-loop-e-preserved c = (
-  length-set c.loop-e.lightest c.tail_at-a.result c.lesser.result ∙ c.loop-e.invariant.0,
-  lightest_turn (record_tails c.args.records.now) (record_weights c.args.records.now) c.loop-e.lightest c.loop-e.e c.tail_at-a.result c.lesser.result (within (goal.at.loop-e-preserved c).After-tail_at-a) c.tail_at-a.ensures
-      (omega (arith, c.lesser.ensures, c.weight_at-w.ensures, c.wide-least.ensures)) c.loop-e.invariant.1,
-)
+pub bounds-lightest-a-in-loop-record : goal.bounds-lightest-a-in-loop-record
+bounds-lightest-a-in-loop-record c = within (goal.at.bounds-lightest-a-in-loop-record c).After-arc_in-arc
 
 pub returns : goal.returns
 returns c =
-    record { least = λ e h. c.loop-e.invariant.1 e (omega (arith, c.loop-e-test.false, tails_len c.args.records.now)) }
-
-pub loop-e-init : goal.loop-e-init
-loop-e-init c = (refl, λ i h. absurd (omega arith))
-
-pub offset_bounds-lightest-a : goal.offset_bounds-lightest-a
-offset_bounds-lightest-a c = omega (arith, small (goal.at.offset_bounds-lightest-a c).After-tail_at-a)
-
-pub bounds-lightest-a : goal.bounds-lightest-a
-bounds-lightest-a c = within (goal.at.bounds-lightest-a c).After-tail_at-a
-
-pub overflow_cast-lightest : goal.overflow_cast-lightest
-overflow_cast-lightest c = omega (arith, light (goal.at.overflow_cast-lightest c).After-lesser)
-
-pub offset_bounds-lightest-a-in-loop-e : goal.offset_bounds-lightest-a-in-loop-e
-offset_bounds-lightest-a-in-loop-e c = omega (arith, small (goal.at.offset_bounds-lightest-a-in-loop-e c).After-tail_at-a)
-
-pub bounds-lightest-a-in-loop-e : goal.bounds-lightest-a-in-loop-e
-bounds-lightest-a-in-loop-e c = within (goal.at.bounds-lightest-a-in-loop-e c).After-tail_at-a
-
-pub shape_of-lightest : goal.shape_of-lightest
-shape_of-lightest c = as_lent _ _ _ c.loop-e.invariant.0 c.set_heaviest.ensures
+    record { least = λ e h. c.loop-record.invariant e (omega (arith, c.loop-record-test.false, tails_len c.args.records.now)) }

@@ -1,6 +1,7 @@
 use mathlib.Core.Path.{◌≡◌, sym, ◌∙◌}
 use Prim.Native.Nat.{◌+◌, ◌≤◌}
 use native.Mathlib.Omega.{arith}
+use borrow.Author.Rules.{rules}
 use lib.ListN.{length, take}
 use Rattle.prelude.proofs.Tested.{not_on, not_off}
 use Rattle.packed_arcs.specs.Entries.{zero_list}
@@ -31,17 +32,20 @@ returns-then-not-is_searchable c =
 pub decide-requires : goal.decide-requires
 decide-requires c =
     let f = facts (goal.at.decide-requires c).Else-not-is_searchable in
-    let same = c.clear_potentials.auto.pi in
+    let same = c.fill.auto.self in
+    let zero : c.fill.new.self ≡ zero_list (length c.args.ranks.now) = search rules in
+    let none : c.fill-2.new.self ≡ zero_list (length c.args.marks.now) = search rules in
     let vertices = vertices_part (goal.at.decide-requires c).Else-not-is_searchable ∙ sym same in record {
       arcs = (arcs_as same f.arcs, links_part (goal.at.decide-requires c).Else-not-is_searchable);
-      ranks_value = (zeros_as (sym same) c.clear_potentials.ensures, zeros_as f.one_each c.clear_amounts.ensures);
+      ranks_value = (zeros_as (sym same) zero, zeros_as f.one_each none);
       into_len = (vertices, vertices, zeros_as (sym same) (zero_list_part (length c.args.ranks.now) 255 f.small));
     }
 
 pub returns : goal.returns
 returns c =
-    search_decided c.args.records.now c.args.ranks.now c.args.marks.now _ c.is_searchable.ensures (not_on _ c.if-not-is_searchable.false) c.clear_potentials.auto.pi
-    c.clear_amounts.ensures (c.decide.auto.ranks ∙ c.clear_potentials.auto.pi) c.decide.ensures
+    let none : c.fill-2.new.self ≡ zero_list (length c.args.marks.now) = search rules in
+    search_decided c.args.records.now c.args.ranks.now c.args.marks.now _ c.is_searchable.ensures (not_on _ c.if-not-is_searchable.false) c.fill.auto.self
+    none (c.decide.auto.ranks ∙ c.fill.auto.self) c.decide.ensures
 
 pub slice_bounds-links-end : goal.slice_bounds-links-end
 slice_bounds-links-end c = links_fit (goal.at.slice_bounds-links-end c).Else-not-is_searchable

@@ -1,11 +1,6 @@
 -- The loop's invariant: every vertex below v has a rank.
-use Prim.Native.Nat.{◌-◌}
-use lib.ListN.{length}
 use Rattle.order_path.specs.Steps.{AllRanked}
 use Rattle.order_ranking.proofs.first_unranked.Given as goal
 
 abbrev pub invariant-loop-v : goal.invariant-loop-v
 invariant-loop-v l = AllRanked l.ranks l.v
-
-abbrev pub decreases-loop-v : goal.decreases-loop-v
-decreases-loop-v l = length l.ranks - l.v

@@ -1,17 +1,17 @@
 use mathlib.Core.Path.{◌∙◌, ap}
 use mir.Facts.{to_z-of_z}
 use Rattle.prelude.specs.Integers.{natural}
-use Rattle.state.specs.declared.Response.TheVariants.{Value}
+use Rattle.network.specs.Question.{value}
 use Rattle.state.proofs.answer_of.Goals as goal
 
 pub returns-in-PathValue : goal.returns-in-PathValue
-returns-in-PathValue c = rw c.in-PathValue.is (ap Value (c.to_unsigned.ensures ∙ ap natural (to_z-of_z c.ranges.cost)))
+returns-in-PathValue c = rw c.in-PathValue.is (ap value (c.to_unsigned.ensures ∙ ap natural (to_z-of_z c.ranges.cost)))
 
 pub returns-in-FlowValue : goal.returns-in-FlowValue
-returns-in-FlowValue c = rw c.in-FlowValue.is (ap Value (c.to_unsigned-in-FlowValue.ensures ∙ ap natural (to_z-of_z c.ranges.cut)))
+returns-in-FlowValue c = rw c.in-FlowValue.is (ap value (c.to_unsigned-in-FlowValue.ensures ∙ ap natural (to_z-of_z c.ranges.cut)))
 
 pub returns-in-AssignmentValue : goal.returns-in-AssignmentValue
-returns-in-AssignmentValue c = rw c.in-AssignmentValue.is (ap Value (c.to_unsigned-in-AssignmentValue.ensures ∙ ap natural (to_z-of_z c.ranges.cost)))
+returns-in-AssignmentValue c = rw c.in-AssignmentValue.is (ap value (c.to_unsigned-in-AssignmentValue.ensures ∙ ap natural (to_z-of_z c.ranges.cost)))
 
 pub returns-in-PathNone : goal.returns-in-PathNone
 returns-in-PathNone c = rw c.in-PathNone.is

@@ -1,21 +1,8 @@
--- The loop's invariant: no window before the row i is of the position.
-use mathlib.Core.Path.{sym}
-use mathlib.Core.List.{[]}
-use Rattle.prelude.proofs.Searches.{ahead_start, ahead_end, any_found, any_next}
-use Rattle.tide_windows.specs.Windows.{window_in}
+use borrow.Author.Rules.{rules}
+use borrow.Author.Tests.{tests}
+use Rattle.tide_windows.specs.Windows.{window_in, is_of}
+use Rattle.prelude.proofs.SliceTests.{some_held}
 use Rattle.tide_windows.proofs.has_window.Goals as goal
 
-pub loop-i-init : goal.loop-i-init
-loop-i-init c = ahead_start _ _ _
-
-pub is_of-requires : goal.is_of-requires
-is_of-requires c = tt
-
-pub returns-then-is_of : goal.returns-then-is_of
-returns-then-is_of c = any_found window_in _ [] c.loop-i.invariant c.loop-i-test.true c.is_of.ensures c.if-is_of.true
-
-pub loop-i-preserved : goal.loop-i-preserved
-loop-i-preserved c = any_next window_in _ [] c.loop-i.invariant c.loop-i-test.true c.is_of.ensures c.if-is_of.false
-
 pub returns : goal.returns
-returns c = sym (ahead_end _ _ _ _ c.loop-i.invariant c.loop-i-test.false)
+returns c = some_held (is_of c.args.position) window_in c.args.windows.now c.any.ensures.ran (cc) (λ x b q k. search (rules, tests))

@@ -15,28 +15,9 @@ pub loop-v-init : goal.loop-v-init
 unfolding sum_to_ℤ
 loop-v-init c = let none : c.args.low - c.args.low ≡ 0 = omega arith in (omega arith, omega arith, rw none)
 
-pub overflow_cast-i : goal.overflow_cast-i
-overflow_cast-i c = omega arith
-
-pub offset_bounds-potentials-i : goal.offset_bounds-potentials-i
-offset_bounds-potentials-i c = omega arith
-
-pub bounds-potentials-i : goal.bounds-potentials-i
-bounds-potentials-i c = omega arith
-
-pub overflow_add-v : goal.overflow_add-v
-overflow_add-v c = omega arith
-
-pub loop-v-smaller : goal.loop-v-smaller
-loop-v-smaller c = omega arith
-
 pub loop-v-preserved : goal.loop-v-preserved
-loop-v-preserved c = let e = simp (returned w64 c.widened.result c.widened.type_inv (c.widened.ensures ∙ back w32 (at c.args.potentials c.loop-v.v) (omega arith))) at c.add-sum.ensures in (
+loop-v-preserved c = let e = rw c.from.ensures at (simp (returned w64 c.from-in-loop-v.result c.from-in-loop-v.type_inv (c.from-in-loop-v.ensures ∙ back w32 (at c.args.potentials c.from.result) (omega arith))) at c.add-sum.ensures) in (
   omega arith,
   omega arith,
   returned w64 c.add-sum.result c.add-sum.type_inv (sum_more c.args.potentials (λ i. search each_sized) c.args.low c.loop-v.v (to_z w64 c.loop-v.sum-bits) c.add-sum.result c.loop-v.invariant.0 (omega arith) c.loop-v.invariant.2 e),
 )
-
-pub returns : goal.returns
-returns c = let all : c.args.high - c.args.low ≡ c.loop-v.v - c.args.low = omega arith in
-    rw all c.loop-v.invariant.2

@@ -7,6 +7,3 @@ use Rattle.totals.proofs.sum_between.Given as goal
 
 abbrev pub invariant-loop-v : goal.invariant-loop-v
 invariant-loop-v l = (l.low ≤ l.v) × (l.v ≤ max l.low l.high) × (l.sum ≡ sum_to_ℤ (l.v - l.low) (λ i. at l.potentials (l.low + i)))
-
-abbrev pub decreases-loop-v : goal.decreases-loop-v
-decreases-loop-v l = l.high - l.v

@@ -1,10 +1,6 @@
 -- The loop's invariant: the least among the first e entries.
-use Prim.Native.Nat.{◌-◌}
 use Rattle.vertex_queue.proofs.LeastPlaces.{ScannedLeast}
 use Rattle.vertex_queue.proofs.least_entry.Given as goal
 
 abbrev pub invariant-loop-e : goal.invariant-loop-e
 invariant-loop-e l = ScannedLeast l.l l.from l.e l.best
-
-abbrev pub decreases-loop-e : goal.decreases-loop-e
-decreases-loop-e l = 16 - l.e

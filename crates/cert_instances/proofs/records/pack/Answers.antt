@@ -1,9 +1,10 @@
 -- The loop's invariant: the arcs below e are those of the records, packed.
 use mathlib.Core.Path.{◌≡◌, sym, ap, ◌∙◌}
 use mathlib.Core.List.{map}
+use Prim.Native.Nat.{ℕ}
 use native.Mathlib.Omega.{arith}
 use lib.ListN.{get_or, length-map, get_or-map}
-use Rattle.network.specs.Question.{Question}
+use Rattle.network.specs.Question.{Question, question_of}
 use Rattle.checks.specs.Held.{question_held}
 use Rattle.cert_instances.specs.Certify.{packed_for}
 use Rattle.prelude.proofs.Filling.{fill_start, fill_turn}
@@ -23,6 +24,7 @@ returns c =
     filled_as (λ i. f (get_or rs i 0)) (f 0) c.args.arcs.now c.loop-e.arcs (map f rs) c.loop-e.e (omega (arith, c.requires, c.loop-e-test.false))
     (length-map rs f ∙ sym c.requires) (λ i h. get_or-map f rs i 0) c.loop-e.invariant
     ∙ ap (λ (q : Question). map (packed_for q) rs) c.question_of-question.ensures
+    ∙ ap (λ (k : ℕ). map (packed_for (question_of k)) rs) c.from.ensures
 
 pub loop-e-init : goal.loop-e-init
 loop-e-init c = fill_start _ _ _

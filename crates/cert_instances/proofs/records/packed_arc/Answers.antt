@@ -29,7 +29,7 @@ pub overflow_add-result : goal.overflow_add-result
 overflow_add-result c = omega (arith, ap (λ (e : Arc). e.tail) c.arc_in-arc.ensures, ap (λ (e : Arc). e.head) c.arc_in-arc.ensures)
 
 pub overflow_mul-result-2 : goal.overflow_mul-result-2
-overflow_mul-result-2 c = omega (arith, cost_below (question_held c.args.question) c.args.word c.arc_in-arc.ensures c.unit_cost-cost.ensures)
+overflow_mul-result-2 c = omega (arith, cost_below (question_held c.args.question) c.args.word c.arc_in-arc.ensures c.unit_cost.ensures)
 
 pub overflow_add-result-2 : goal.overflow_add-result-2
 overflow_add-result-2 c =
@@ -37,11 +37,11 @@ overflow_add-result-2 c =
       arith,
       ap (λ (e : Arc). e.tail) c.arc_in-arc.ensures,
       ap (λ (e : Arc). e.head) c.arc_in-arc.ensures,
-      cost_below (question_held c.args.question) c.args.word c.arc_in-arc.ensures c.unit_cost-cost.ensures,
+      cost_below (question_held c.args.question) c.args.word c.arc_in-arc.ensures c.unit_cost.ensures,
     )
 
 pub overflow_mul-result-3 : goal.overflow_mul-result-3
-overflow_mul-result-3 c = omega (arith, capacity_below (question_held c.args.question) c.args.word c.arc_in-arc.ensures c.capacity_of-capacity.ensures)
+overflow_mul-result-3 c = omega (arith, capacity_below (question_held c.args.question) c.args.word c.arc_in-arc.ensures c.capacity_of.ensures)
 
 pub overflow_add-result-3 : goal.overflow_add-result-3
 overflow_add-result-3 c =
@@ -49,8 +49,8 @@ overflow_add-result-3 c =
       arith,
       ap (λ (e : Arc). e.tail) c.arc_in-arc.ensures,
       ap (λ (e : Arc). e.head) c.arc_in-arc.ensures,
-      cost_below (question_held c.args.question) c.args.word c.arc_in-arc.ensures c.unit_cost-cost.ensures,
-      capacity_below (question_held c.args.question) c.args.word c.arc_in-arc.ensures c.capacity_of-capacity.ensures,
+      cost_below (question_held c.args.question) c.args.word c.arc_in-arc.ensures c.unit_cost.ensures,
+      capacity_below (question_held c.args.question) c.args.word c.arc_in-arc.ensures c.capacity_of.ensures,
     )
 
 pub returns : goal.returns
@@ -59,6 +59,6 @@ returns c =
       arith,
       ap (λ (e : Arc). e.tail) c.arc_in-arc.ensures,
       ap (λ (e : Arc). e.head) c.arc_in-arc.ensures,
-      cost_is (question_held c.args.question) c.args.word c.arc_in-arc.ensures c.unit_cost-cost.ensures,
-      capacity_is (question_held c.args.question) c.args.word c.arc_in-arc.ensures c.capacity_of-capacity.ensures,
+      cost_is (question_held c.args.question) c.args.word c.arc_in-arc.ensures c.unit_cost.ensures,
+      capacity_is (question_held c.args.question) c.args.word c.arc_in-arc.ensures c.capacity_of.ensures,
     )

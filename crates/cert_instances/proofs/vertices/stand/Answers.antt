@@ -1,17 +1,20 @@
-use mathlib.Core.Path.{◌≡◌}
+use mathlib.Core.Path.{◌≡◌, ◌∙◌, ap}
+use mathlib.Core.Logic.{⊎_elim}
 use native.Mathlib.Omega.{arith}
-use Rattle.prelude.proofs.Filling.{fill_start, fill_turn, fill_end}
-use Rattle.cert_instances.specs.Instance.{single}
+use borrow.Author.Rules.{rules}
+use lib.ListN.{length, length-set, length-replicate}
+use Rattle.packed_arcs.specs.Entries.{zero_list}
+use Rattle.packed_arcs.proofs.LentParts.{zero_at}
+use Rattle.packed_arcs.proofs.ListLoops.{set_cases}
+use Rattle.cert_instances.proofs.Standing.{stands, stands_nowhere}
 use Rattle.cert_instances.proofs.vertices.stand.Goals as goal
 
-pub loop-v-init : goal.loop-v-init
-loop-v-init c = fill_start _ _ _
+pub returns-then-k-list : goal.returns-then-k-list
+returns-then-k-list c =
+    let z : c.fill.new.self ≡ zero_list (length c.args.list.now) = search rules in
+    stands _ _ _ _ z c.from-k.ensures c.if-k-list.true
 
-pub overflow_cast-v : goal.overflow_cast-v
-overflow_cast-v c = record { fits = omega (arith, c.loop-v.invariant.len) }
-
-pub loop-v-preserved : goal.loop-v-preserved
-loop-v-preserved c = fill_turn (λ i x. x ≡ single c.args.k 1 i) 0 c.args.list.now c.loop-v.list c.loop-v.v c.single.result (omega (arith, c.loop-v.invariant.len)) c.single.ensures c.loop-v.invariant
-
-pub returns : goal.returns
-returns c = record { len = c.loop-v.invariant.len; entries = fill_end (λ i x. x ≡ single c.args.k 1 i) 0 c.args.list.now c.loop-v.list c.loop-v.v (omega (arith, c.loop-v.invariant.len)) c.loop-v.invariant }
+pub returns-else-k-list : goal.returns-else-k-list
+returns-else-k-list c =
+    let z : c.fill.new.self ≡ zero_list (length c.args.list.now) = search rules in
+    stands_nowhere _ _ _ _ z c.from-k.ensures c.if-k-list.false

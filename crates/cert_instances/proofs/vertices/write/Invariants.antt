@@ -1,6 +1,5 @@
 -- The loop's invariant: the numbers below v are written.
 use mathlib.Core.Path.{◌≡◌}
-use Prim.Native.Nat.{◌-◌}
 use lib.IntN.{pos}
 use lib.ListN.{length}
 use Rattle.prelude.proofs.Filling.{Filling}
@@ -10,6 +9,3 @@ use Rattle.cert_instances.proofs.vertices.write.Given as goal
 
 abbrev pub invariant-loop-v : goal.invariant-loop-v
 invariant-loop-v l = Filling (λ i z. z ≡ pos (number_of l.kind (entry l.from i))) (pos 0) l.initial.numbers l.numbers l.v
-
-abbrev pub decreases-loop-v : goal.decreases-loop-v
-decreases-loop-v l = length l.from - l.v

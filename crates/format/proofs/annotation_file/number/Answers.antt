@@ -4,5 +4,5 @@ use native.Mathlib.Omega.{arith}
 use Rattle.file_fields.proofs.Reading.{signed_past}
 use Rattle.format.proofs.annotation_file.number.Goals as goal
 
-pub returns-then-size-v : goal.returns-then-size-v
-returns-then-size-v c = sym (signed_past c.args.file.now (8 + 4 * c.args.v) (omega arith))
+pub returns-then-file-v : goal.returns-then-file-v
+returns-then-file-v c = sym (signed_past c.args.file.now (8 + 4 * c.args.v) (omega arith))

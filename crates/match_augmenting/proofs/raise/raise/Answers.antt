@@ -17,21 +17,9 @@ pub loop-a-preserved : goal.loop-a-preserved
 loop-a-preserved c =
     rw c.raise_pair.ensures (rising_turn c.requires.state c.loop-a.invariant c.loop-a-test.true (c.requires.d_bound.4 c.loop-a.a c.loop-a-test.true))
 
-pub bounds-pi-t : goal.bounds-pi-t
-bounds-pi-t c =
-    omega (arith, c.requires.d_bound.2, c.loop-a.invariant.len)
-
 pub overflow_add-pi : goal.overflow_add-pi
 overflow_add-pi c =
     record { fits = omega (arith, c.requires.d_bound.0, root_low c.requires.state c.loop-a.invariant c.loop-a-test.false _ c.requires.d_bound.1 c.requires.d_bound.2 c.requires.d_bound.3) }
-
-pub bounds-pi-t-2 : goal.bounds-pi-t-2
-bounds-pi-t-2 c =
-    omega (arith, c.requires.d_bound.2, c.loop-a.invariant.len)
-
-pub shape_of-pi : goal.shape_of-pi
-shape_of-pi c =
-    (raised c.requires.state c.loop-a.invariant c.loop-a-test.false _ c.requires.d_bound.1 c.requires.d_bound.2 c.requires.d_bound.3).len
 
 pub returns : goal.returns
 returns c =

@@ -1,4 +1,3 @@
-use Prim.Native.Nat.{◌-◌}
 use lib.ListN.{length}
 use Rattle.arc_index.specs.Columns.{record_tails}
 use Rattle.match_augmenting.proofs.RaiseLoop.{Rising}
@@ -6,6 +5,3 @@ use Rattle.match_augmenting.proofs.raise.raise.Given as goal
 
 abbrev pub invariant-loop-a : goal.invariant-loop-a
 invariant-loop-a l = Rising (length l.dist) (record_tails l.records) l.mate l.dist l.d l.initial.pi l.pi l.a
-
-abbrev pub decreases-loop-a : goal.decreases-loop-a
-decreases-loop-a l = length l.dist - l.a

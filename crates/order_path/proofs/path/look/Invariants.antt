@@ -6,8 +6,8 @@ use Rattle.arc_index.specs.Columns.{record_tails, record_heads}
 use Rattle.order_path.specs.Steps.{MovedOn}
 use Rattle.order_path.proofs.path.look.Given as goal
 
-abbrev pub invariant-loop-v : goal.invariant-loop-v
-invariant-loop-v l = MovedOn (record_tails l.records) (record_heads l.records) l.ranks l.initial.into l.v l.into
+abbrev pub invariant-loop-into : goal.invariant-loop-into
+invariant-loop-into l = MovedOn (record_tails l.records) (record_heads l.records) l.ranks l.initial.into l.v l.into
 
-abbrev pub decreases-loop-v : goal.decreases-loop-v
-decreases-loop-v l = no_arc - entry l.into l.v
+abbrev pub decreases-loop-into : goal.decreases-loop-into
+decreases-loop-into l = no_arc - entry l.into l.v

@@ -15,7 +15,5 @@ returns-then-point-lt8 c = leb_off Said _ _ _ 8 (length c.args.point.now) (omega
 pub returns : goal.returns
 unfolding program_answer
 returns c =
-    let net = c.counted-n.ensures.file_value in
-    let ann = c.counted-m.ensures.file_value in
     leb_on Said _ _ _ 8 (length c.args.point.now) (omega arith)
-    (c.judge.ensures ∙ (λ i. judged (net i) (ann i) (c.point_in.ensures i)))
+    (c.judge.ensures ∙ (λ i. judged (c.counted.ensures i) (c.counted-2.ensures i) (c.point_in.ensures i)))

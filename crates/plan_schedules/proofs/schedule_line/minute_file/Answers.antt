@@ -12,5 +12,5 @@ returns c =
     let ws = windows_in c.args.windows.now in
     subst
     (λ (net : List ℕ). (writer_said c.schedule.result ≡ schedule_reply net ws c.args.minute (length c.args.out.now)) × (c.schedule.new.buffer ≡ buffer_after net ws c.args.minute c.args.out.now))
-    c.counted-n.ensures.file_value
+    c.counted.ensures
     c.schedule.ensures

@@ -13,9 +13,9 @@ in_range : (c : After-in_table) →
     c.in_table.result ≡ in_table c.args.st.question (claim_number (claim_of c.args.claim)) c.args.z
 in_range c = rw c.claim_number.ensures at (simp (to_z-of_z c.ranges.z) at c.in_table.ensures)
 
-pub returns-then-not-in_table : goal.returns-then-not-in_table
-returns-then-not-in_table c = sym (check_ten_same (asked c.args.st) (claim_of c.args.claim) c.args.v c.args.z ∙ first_off _ _ (sym (in_range (goal.at.returns-then-not-in_table c).After-in_table) ∙ c.if-not-in_table.true))
+pub returns-then-in_table : goal.returns-then-in_table
+returns-then-in_table c = let rule = rw c.row_of.ensures at (simp (to_z-of_z c.ranges.z) at c.on_node.ensures) in
+    rw (check_ten_same (asked c.args.st) (claim_of c.args.claim) c.args.v c.args.z) (and_on _ _ _ (sym (in_range (goal.at.returns-then-in_table c).After-in_table) ∙ c.if-in_table.true) rule)
 
-pub returns : goal.returns
-returns c = let rule = rw c.row_of.ensures at (simp (to_z-of_z c.ranges.z) at c.on_node.ensures) in
-    rw (check_ten_same (asked c.args.st) (claim_of c.args.claim) c.args.v c.args.z) (and_on _ _ _ (sym (in_range (goal.at.returns c).After-in_table) ∙ c.if-not-in_table.false) rule)
+pub returns-else-in_table : goal.returns-else-in_table
+returns-else-in_table c = c.if-in_table.false ∙ sym (check_ten_same (asked c.args.st) (claim_of c.args.claim) c.args.v c.args.z ∙ first_off _ _ (sym (in_range (goal.at.returns-else-in_table c).After-in_table) ∙ c.if-in_table.false))

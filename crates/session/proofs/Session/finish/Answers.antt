@@ -1,12 +1,16 @@
-use mathlib.Core.Path.{◌∙◌}
+use mathlib.Core.Path.{refl, ap}
+use Rattle.refusals.specs.Refusals.{number}
+use Rattle.refusals.proofs.Exits.{number_not_0}
+use Rattle.network.specs.Question.{Answer}
+use Rattle.state.specs.Answers.{answered}
 use Rattle.session.proofs.TurnsToSteps.{finish_refused, finish_answered}
 use Rattle.session.proofs.Session.finish.Goals as goal
 
-pub returns-then-why-ne0 : goal.returns-then-why-ne0
-returns-then-why-ne0 c =
-    c.refuse.ensures ∙ finish_refused c.args.self c.finish_check-why.result c.finish_check-why.ensures c.if-why-ne0.true
+pub returns-in-Ok : goal.returns-in-Ok
+returns-in-Ok c =
+    finish_answered c.args.self 0 c.in-Ok.ensures c.ended.result _ c.ended.ensures (ap (λ (a : Answer). answered a) c.answer.ensures) refl
 
-pub returns : goal.returns
-returns c =
-    finish_answered c.args.self c.finish_check-why.result c.finish_check-why.ensures c.ended.result c.answer.result c.ended.ensures c.answer.ensures
-    c.if-why-ne0.false
+pub returns-in-Err : goal.returns-in-Err
+returns-in-Err c =
+    rw (c.refuse.ensures.session_left, c.refuse.ensures.answer_value)
+    (finish_refused c.args.self (number c.in-Err.refusal) c.in-Err.ensures (number_not_0 _))

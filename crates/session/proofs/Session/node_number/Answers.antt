@@ -1,21 +1,27 @@
-use mathlib.Core.Path.{◌∙◌, ap}
-use Rattle.prelude.specs.Choice.{pick}
-use lib.Dec.{eqb}
+use mathlib.Core.Path.{refl, ◌∙◌, ap}
 use lib.IntN.{ℤ}
 use lib.ListN.{set}
+use mathlib.Core.List.{List}
 use mir.Facts.{to_z-of_z}
+use Rattle.refusals.specs.Refusals.{number}
+use Rattle.refusals.proofs.Exits.{number_not_0}
 use Rattle.state.specs.Turns.{number_turn}
-use Rattle.session.specs.Session.{with_potentials}
-use Rattle.session.proofs.TurnsToSteps.{number_replies, touched, one_way}
+use Rattle.state.proofs.Laws.{stays, goes}
+use Rattle.session.specs.Session.{with_potentials, joined, accept}
+use Rattle.session.proofs.TurnsToSteps.{number_replies}
 use Rattle.session.proofs.Session.node_number.Goals as goal
 
-pub returns : goal.returns
-returns c =
+pub returns-in-Ok : goal.returns-in-Ok
+returns-in-Ok c =
+    let x = c.args.self in
     let back = to_z-of_z c.ranges.y in
-    let at = c.args.self.state.numbering.given in
-    let ys = c.args.self.arrays.potentials in
-    let accepted = eqb c.node_number-turn.result.why 0 in
-    one_way (number_replies c.args.self c.args.y c.node_number-turn.result (c.node_number-turn.ensures ∙ ap (number_turn c.args.self.state) back)) (with_potentials c.args.self.arrays _)
-    (touched (with_potentials c.args.self.arrays) accepted (set ys at c.args.y) ys (c.store_accepted.ensures ∙ ap (λ (z : ℤ). pick accepted (set ys at z) ys) back))
-    c.is_over-over.result c.is_over-over.ensures c.clear_numbers.ensures
-    c.clear_balances.ensures c.left-self.ensures c.answer_to.ensures
+    c.accept.ensures
+    ∙ ap (λ (ys : List ℤ). accept (joined (with_potentials x.arrays ys) c.in-Ok.next)) (c.store_number.ensures ∙ ap (λ (z : ℤ). set x.arrays.potentials x.state.numbering.given z) back)
+    ∙ (number_replies x c.args.y (goes c.in-Ok.next) (c.in-Ok.ensures ∙ ap (number_turn x.state) back)).accepted refl
+
+pub returns-in-Err : goal.returns-in-Err
+returns-in-Err c =
+    let x = c.args.self in
+    let k = number c.in-Err.refusal in
+    rw (c.refuse.ensures.session_left, c.refuse.ensures.answer_value)
+    ((number_replies x c.args.y (stays x.state k) (c.in-Err.ensures ∙ ap (number_turn x.state) (to_z-of_z c.ranges.y))).refused (number_not_0 _))

@@ -1,14 +1,24 @@
-use lib.Dec.{eqb}
+use mathlib.Core.Path.{refl, ◌∙◌, ap}
+use lib.IntN.{ℤ}
+use mathlib.Core.List.{List}
+use Rattle.refusals.specs.Refusals.{number}
+use Rattle.refusals.proofs.Exits.{number_not_0}
 use Rattle.network.specs.Network.{load_of}
-use Rattle.vertex_arrays.specs.Arrays.{moved}
-use Rattle.session.specs.Session.{with_balances}
-use Rattle.session.proofs.TurnsToSteps.{repeat_replies, touched, one_way}
+use Rattle.state.proofs.Laws.{stays, goes}
+use Rattle.session.specs.Session.{with_balances, joined, accept}
+use Rattle.session.proofs.TurnsToSteps.{repeat_replies}
 use Rattle.session.proofs.Session.repeat_channel.Goals as goal
 
-pub returns : goal.returns
-returns c =
-    let bs = c.args.self.arrays.balances in
-    one_way (repeat_replies c.args.self (load_of c.args.a c.args.b c.args.w c.args.x) c.repeat_channel-turn.result c.repeat_channel-turn.ensures) (with_balances c.args.self.arrays _)
-    (touched (with_balances c.args.self.arrays) (eqb c.repeat_channel-turn.result.why 0) (moved bs c.args.a c.args.b c.args.x) bs c.move_accepted.ensures)
-    c.is_over-over.result c.is_over-over.ensures c.clear_numbers.ensures
-    c.clear_balances.ensures c.left-self.ensures c.answer_to.ensures
+pub returns-in-Ok : goal.returns-in-Ok
+returns-in-Ok c =
+    let x = c.args.self in
+    c.accept.ensures
+    ∙ ap (λ (bs : List ℤ). accept (joined (with_balances x.arrays bs) c.in-Ok.next)) c.move_amount.ensures
+    ∙ (repeat_replies x (load_of c.args.a c.args.b c.args.w c.args.x) (goes c.in-Ok.next) c.in-Ok.ensures).accepted refl
+
+pub returns-in-Err : goal.returns-in-Err
+returns-in-Err c =
+    let x = c.args.self in
+    let k = number c.in-Err.refusal in
+    rw (c.refuse.ensures.session_left, c.refuse.ensures.answer_value)
+    ((repeat_replies x (load_of c.args.a c.args.b c.args.w c.args.x) (stays x.state k) c.in-Err.ensures).refused (number_not_0 _))

@@ -3,37 +3,36 @@ use Prim.Native.Nat.{◌≤◌}
 use native.Mathlib.Omega.{arith}
 use Rattle.checks.specs.Held.{handed}
 use Rattle.state.specs.State.{idle, open_checks, opened}
-use Rattle.state.specs.Turns.{open_turn}
-use Rattle.state.specs.declared.State.{State}
-use Rattle.state.proofs.Laws.{stays, turn_refused, turn_accepted, open_small}
+use Rattle.state.specs.Turns.{turn_of, open_turn}
+use Rattle.refusals.proofs.Exits.{exit_as, number_not_0}
+use Rattle.state.proofs.Laws.{turn_refused, turn_accepted, open_small}
 use Rattle.state.proofs.State.open.Goals as goal
-use Rattle.state.proofs.State.open.Goals.{After-open_check-why}
+use Rattle.state.proofs.State.open.Goals.{In_ok-open_check}
 
 -- what opening lets pass fits a byte each
-small : (c : After-open_check-why) → c.open_check-why.result ≡ 0
-    → let st = handed c.args.o in (st.question ≤ 255) × (st.n ≤ 255) × (st.s ≤ 255) × (st.t ≤ 255)
-small c = open_small (handed c.args.o) c.args.point c.open_check-why.result c.open_check-why.ensures
+small : (c : In_ok-open_check) → let st = handed c.args.o in (st.question ≤ 255) × (st.n ≤ 255) × (st.s ≤ 255) × (st.t ≤ 255)
+small c = open_small (handed c.args.o) c.args.point 0 c.in_ok-open_check.ensures refl
 
-pub returns-then-why-ne0 : goal.returns-then-why-ne0
+pub returns-in_err-open_check : goal.returns-in_err-open_check
 unfolding open_turn
-returns-then-why-ne0 c =
-    ap (λ (x : State). stays x c.open_check-why.result) c.idle.ensures
-    ∙ turn_refused idle (opened (handed c.args.o) c.args.point) (open_checks (handed c.args.o) c.args.point) (refl, (refl, (refl, (refl, tt)))) c.open_check-why.result c.open_check-why.ensures c.if-why-ne0.true
+returns-in_err-open_check c =
+    exit_as (turn_of idle) _ _ c.from_residual.ensures.1
+    ∙ turn_refused idle (opened (handed c.args.o) c.args.point) (open_checks (handed c.args.o) c.args.point) (refl, (refl, (refl, (refl, tt)))) _ c.in_err-open_check.ensures (number_not_0 _)
 
 pub overflow_cast-setting : goal.overflow_cast-setting
-overflow_cast-setting c = omega (arith, (small (goal.at.overflow_cast-setting c).After-open_check-why c.if-why-ne0.false).0)
+overflow_cast-setting c = omega (arith, (small (goal.at.overflow_cast-setting c).In_ok-open_check).0)
 
 pub overflow_cast-setting-2 : goal.overflow_cast-setting-2
-overflow_cast-setting-2 c = omega (arith, (small (goal.at.overflow_cast-setting-2 c).After-open_check-why c.if-why-ne0.false).1)
+overflow_cast-setting-2 c = omega (arith, (small (goal.at.overflow_cast-setting-2 c).In_ok-open_check).1)
 
 pub overflow_cast-setting-3 : goal.overflow_cast-setting-3
-overflow_cast-setting-3 c = omega (arith, (small (goal.at.overflow_cast-setting-3 c).After-open_check-why c.if-why-ne0.false).2)
+overflow_cast-setting-3 c = omega (arith, (small (goal.at.overflow_cast-setting-3 c).In_ok-open_check).2)
 
 pub overflow_cast-setting-4 : goal.overflow_cast-setting-4
-overflow_cast-setting-4 c = omega (arith, (small (goal.at.overflow_cast-setting-4 c).After-open_check-why c.if-why-ne0.false).3)
+overflow_cast-setting-4 c = omega (arith, (small (goal.at.overflow_cast-setting-4 c).In_ok-open_check).3)
 
 pub returns : goal.returns
 unfolding open_turn
 returns c =
-    turn_accepted idle (opened (handed c.args.o) c.args.point) (open_checks (handed c.args.o) c.args.point) (refl, (refl, (refl, (refl, tt)))) c.open_check-why.result c.open_check-why.ensures c.if-why-ne0.false
+    turn_accepted idle (opened (handed c.args.o) c.args.point) (open_checks (handed c.args.o) c.args.point) (refl, (refl, (refl, (refl, tt)))) 0 c.in_ok-open_check.ensures refl
     c.begun.result c.begun.ensures

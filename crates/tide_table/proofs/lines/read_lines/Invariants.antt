@@ -4,8 +4,8 @@ use lib.ListN.{length}
 use Rattle.tide_table.proofs.Tables.{Here}
 use Rattle.tide_table.proofs.lines.read_lines.Given as goal
 
-abbrev pub invariant-loop-line : goal.invariant-loop-line
-invariant-loop-line l = Here l.text l.initial.rows l.rows l.at l.number l.count
+abbrev pub invariant-loop-row : goal.invariant-loop-row
+invariant-loop-row l = Here l.text l.initial.rows l.rows l.at l.number l.count
 
-abbrev pub decreases-loop-line : goal.decreases-loop-line
-decreases-loop-line l = length l.text - l.at
+abbrev pub decreases-loop-row : goal.decreases-loop-row
+decreases-loop-row l = length l.text - l.at

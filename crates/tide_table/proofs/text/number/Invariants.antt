@@ -1,11 +1,6 @@
--- The loop's invariant: the digits from i on decide, and go on with n.
-use Prim.Native.Nat.{◌-◌}
-use lib.ListN.{length}
+-- The loop's invariant: the digits from the next on decide, and go on with n.
 use Rattle.tide_table.proofs.Numbers.{Read}
 use Rattle.tide_table.proofs.text.number.Given as goal
 
-abbrev pub invariant-loop-i : goal.invariant-loop-i
-invariant-loop-i l = Read l.word l.n l.i
-
-abbrev pub decreases-loop-i : goal.decreases-loop-i
-decreases-loop-i l = length l.word - l.i
+abbrev pub invariant-loop-c : goal.invariant-loop-c
+invariant-loop-c l = Read l.word l.n l.c-index

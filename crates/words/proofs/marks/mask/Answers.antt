@@ -1,11 +1,6 @@
-use native.Mathlib.Omega.{arith}
 use Rattle.words.specs.Masks.{mask}
 use Rattle.words.proofs.marks.mask.Goals as goal
 
-pub returns-then-below_high-below_low : goal.returns-then-below_high-below_low
-unfolding mask
-returns-then-below_high-below_low c = omega arith
-
 pub returns : goal.returns
 unfolding mask
-returns c = omega arith
+returns c = rw (c.saturating_sub.ensures, c.mask_below.ensures, c.mask_below-2.ensures)

@@ -1,8 +1,0 @@
-use Prim.Native.Nat.{◌-◌}
-use Rattle.flow_labels.proofs.clear_labels.Given as goal
-
-abbrev pub invariant-loop-v : goal.invariant-loop-v
-invariant-loop-v l = Unit {0}
-
-abbrev pub decreases-loop-v : goal.decreases-loop-v
-decreases-loop-v l = 256 - l.v

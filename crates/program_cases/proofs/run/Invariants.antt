@@ -1,9 +1,0 @@
--- `program_cases::run` is safe and ends: it goes through the script.
-use Rattle.std.proofs.Common.{◌-◌, length}
-use Rattle.program_cases.proofs.run.Given as goal
-
-abbrev pub invariant-loop-i : goal.invariant-loop-i
-invariant-loop-i g l = Unit {0}
-
-abbrev pub decreases-loop-i : goal.decreases-loop-i
-decreases-loop-i g l = length l.script - l.i

@@ -1,9 +1,0 @@
--- `random_networks::other_pumps::next` is safe and ends: it goes through the records.
-use Rattle.std.proofs.Common.{◌-◌}
-use Rattle.random_networks.proofs.other_pumps.next.Given as goal
-
-abbrev pub invariant-loop-k : goal.invariant-loop-k
-invariant-loop-k l = Unit {0}
-
-abbrev pub decreases-loop-k : goal.decreases-loop-k
-decreases-loop-k l = l.m - l.k

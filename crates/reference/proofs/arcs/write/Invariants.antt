@@ -1,9 +1,0 @@
--- `reference::arcs::write` is safe and ends: it goes through the records.
-use Rattle.std.proofs.Common.{◌-◌}
-use Rattle.reference.proofs.arcs.write.Given as goal
-
-abbrev pub invariant-loop-i : goal.invariant-loop-i
-invariant-loop-i l = Unit {0}
-
-abbrev pub decreases-loop-i : goal.decreases-loop-i
-decreases-loop-i l = l.m - l.i

@@ -1,9 +1,0 @@
--- `reference::discharges::send` is safe and ends: it takes 256 arcs at most.
-use Rattle.std.proofs.Common.{◌-◌}
-use Rattle.reference.proofs.discharges.send.Given as goal
-
-abbrev pub invariant-loop-i : goal.invariant-loop-i
-invariant-loop-i l = Unit {0}
-
-abbrev pub decreases-loop-i : goal.decreases-loop-i
-decreases-loop-i l = 256 - l.i

@@ -1,9 +1,0 @@
--- `reference::pairings::scan` is safe and ends: it goes through the pumps.
-use Rattle.std.proofs.Common.{◌-◌}
-use Rattle.reference.proofs.pairings.scan.Given as goal
-
-abbrev pub invariant-loop-p : goal.invariant-loop-p
-invariant-loop-p l = Unit {0}
-
-abbrev pub decreases-loop-p : goal.decreases-loop-p
-decreases-loop-p l = l.pumps - l.p

@@ -1,9 +1,0 @@
--- `reference::routes::passes` is safe and ends: it makes as many passes as there are vertices.
-use Rattle.std.proofs.Common.{◌-◌}
-use Rattle.reference.proofs.routes.passes.Given as goal
-
-abbrev pub invariant-loop-i : goal.invariant-loop-i
-invariant-loop-i l = Unit {0}
-
-abbrev pub decreases-loop-i : goal.decreases-loop-i
-decreases-loop-i l = l.n - l.i

@@ -1,9 +1,0 @@
--- `testing::files::copy_front` is safe and ends: it goes through the bytes.
-use Rattle.std.proofs.Common.{◌≡◌, ◌-◌, length}
-use Rattle.testing.proofs.files.copy_front.Given as goal
-
-abbrev pub invariant-loop-i : goal.invariant-loop-i
-invariant-loop-i l = length l.to ≡ length l.initial.to
-
-abbrev pub decreases-loop-i : goal.decreases-loop-i
-decreases-loop-i l = length l.initial.to - l.i

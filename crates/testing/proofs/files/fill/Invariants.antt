@@ -1,9 +1,0 @@
--- `testing::files::fill` is safe and ends: it goes through the annotation's part.
-use Rattle.std.proofs.Common.{◌-◌}
-use Rattle.testing.proofs.files.fill.Given as goal
-
-abbrev pub invariant-loop-i : goal.invariant-loop-i
-invariant-loop-i l = Unit {0}
-
-abbrev pub decreases-loop-i : goal.decreases-loop-i
-decreases-loop-i l = 65536 - l.i

@@ -1,9 +1,0 @@
--- `testing::print::counts` is safe and ends: it goes through the names.
-use Rattle.std.proofs.Common.{◌-◌, ◌≤◌}
-use Rattle.testing.proofs.print.counts.Given as goal
-
-abbrev pub invariant-loop-k : goal.invariant-loop-k
-invariant-loop-k l = l.k ≤ l.n
-
-abbrev pub decreases-loop-k : goal.decreases-loop-k
-decreases-loop-k l = l.n - l.k

@@ -1,9 +1,0 @@
--- `testing::script::item` is safe and ends: it passes k commas.
-use Rattle.std.proofs.Common.{◌-◌, ◌≤◌}
-use Rattle.testing.proofs.script.item.Given as goal
-
-abbrev pub invariant-loop-i : goal.invariant-loop-i
-invariant-loop-i l = l.i ≤ l.k
-
-abbrev pub decreases-loop-i : goal.decreases-loop-i
-decreases-loop-i l = l.k - l.i
