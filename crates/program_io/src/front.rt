@@ -40,7 +40,7 @@ pub fn read_file<R: Files>(files: &R, name: &[u8], buffer: &mut [u8]) -> Option<
     fill(&mut file, buffer).ok()
 }
 
-// The same, where a file that cannot be read counts as empty.
+// The same; 0 where nothing could be read.
 pub fn read_front<R: Files>(files: &R, name: &[u8], buffer: &mut [u8]) -> usize
     ensures { IsPrefixLen result buffer.new }
 {
