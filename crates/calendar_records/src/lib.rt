@@ -53,7 +53,7 @@ fn write_left(part: &mut [u8], k: usize, left: Option<Record>) -> usize
     }
 }
 
-// The same for the record at a position of the file.
+// The same for the record at a position of the file, with the count beside the lent part for the same reason.
 fn write_record(
     net: &[u8],
     windows: &[[u32; 3]],
@@ -71,7 +71,7 @@ fn write_record(
     write_left(part, k, left_of(asked, opened, arc))
 }
 
-// Writes what is left of all records from the front of the part on; how many there are.
+// Writes what is left of all records from the front of the part on; how many there are, beside the lent part as above.
 pub fn write_records(net: &[u8], windows: &[[u32; 3]], minute: u32, part: &mut [u8]) -> usize
     ensures { RecordsIn (arcs_at net.now (windows_in windows.now) minute) 0 part.old result part.new }
 {

@@ -33,6 +33,7 @@ fn answer_acyclicity(
     }
 }
 
+// The same, with an array of its own to work in. Much as for an assignment, but with another search and another array.
 pub fn certify_acyclicity(
     st: HeldSetting,
     records: &[u32],

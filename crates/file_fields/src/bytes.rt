@@ -55,7 +55,7 @@ pub fn low8(k: u32) -> u8
     (k % 256) as u8
 }
 
-// The low 16 bits of a number.
+// The low 16 bits of a number, by the remainder for the same reason.
 pub fn low16(k: u32) -> u16
     ensures { result ≡ k % 65536 }
 {

@@ -34,7 +34,7 @@ fn push(v: usize, len: usize, path: &mut [usize], spot: &mut [usize]) -> usize
     len + 1
 }
 
-// The path starts at the root where it is empty: how many vertices are on it then.
+// The path starts at the root where it is empty: how many vertices are on it then. Its length is a number beside it, as in `push`.
 fn start(root: usize, len: usize, path: &mut [usize], spot: &mut [usize]) -> usize
     requires { (0 < length path.old) × (root < length spot.old) }
     ensures { Started root len path.old spot.old path.new spot.new result }
@@ -45,7 +45,7 @@ fn start(root: usize, len: usize, path: &mut [usize], spot: &mut [usize]) -> usi
     push(root, 0, path, spot)
 }
 
-// The path grows, by a vertex without a rank from which an arc enters its last vertex, until there is none or it is on the path.
+// The path grows, by a vertex without a rank from which an arc enters its last vertex, until there is none or it is on the path. Its length is a number beside it, as in `push`.
 pub fn climb(
     root: usize,
     first: usize,

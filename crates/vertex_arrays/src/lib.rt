@@ -48,7 +48,7 @@ fn add_at(balances: &mut [i64], v: u32, x: u32)
     balances[i] = increase(b, x);
 }
 
-// The balance of the vertex v with x taken off.
+// The balance of the vertex v with x taken off. Apart from `add_at` for the reason given there.
 fn take_at(balances: &mut [i64], v: u32, x: u32)
     ensures { balances.new ≡ taken_at balances.old v x }
 {
