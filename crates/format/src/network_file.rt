@@ -97,7 +97,7 @@ pub fn write_header(buffer: &mut [u8], question: u8, n: u8, s: u8, t: u8, count:
 }
 
 // The arc number e into the part of a file that holds the arcs. (Much as a node number is written, but what is written has another form.)
-//  Of a field that is too large the low bytes are written.
+// Of a field that is too large the low bytes are written.
 pub fn write_arc(part: &mut [u8], e: usize, arc: Record)
     ensures { part.new ≡ sets part.old (4 * e) (arc_bytes (low_arc (arc_held arc))) }
 {
