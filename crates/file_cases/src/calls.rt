@@ -3,7 +3,7 @@ use super::files::{File, Files};
 use judging::judge;
 use points::Point;
 use std::io;
-use test_calls::writers::{Output, annotate, schedule};
+use test_calls::writers::{Output, annotate, filled, schedule};
 use testing::answers::{Answer, Reply};
 use testing::script::{number, numbers};
 
@@ -23,7 +23,8 @@ pub fn show_judged<R: Print>(rt: &R, list: &str, files: &Files) -> io::Result<()
 
 // Has the helper write the annotation into as many bytes as a word says.
 pub fn show_help<R: Print + AllocGlobal>(rt: &R, room: &str, files: &mut Files) -> io::Result<()> {
-    let output = annotate(rt.alloc(), files.net.bytes(), number(room) as usize)?;
+    let before = filled(rt.alloc(), number(room) as usize)?;
+    let output = annotate(rt.alloc(), files.net.bytes(), before.as_slice())?;
     let rest = if output.rest_kept {
         "rest kept"
     } else {
@@ -70,12 +71,13 @@ pub fn show_scheduled<R: Print + AllocGlobal>(
     windows: &[[u32; 3]],
 ) -> io::Result<()> {
     let [minute, room] = numbers::<2>(list);
+    let before = filled(rt.alloc(), room as usize)?;
     let output = schedule(
         rt.alloc(),
         files.net.bytes(),
         windows,
         minute,
-        room as usize,
+        before.as_slice(),
     )?;
     files.ann = File::new(rt.alloc(), &[])?;
     show_output(rt, &output)

@@ -4,7 +4,7 @@ use judging::judge;
 use points::Point;
 use std::alloc::{AllocError, Global};
 use std::io;
-use test_calls::writers::annotate;
+use test_calls::writers::{annotate, filled};
 use testing::answers::Judged;
 use testing::tally::add;
 
@@ -81,7 +81,8 @@ impl Counts {
 
 // What comes of the helper with a buffer of 100 bytes.
 fn helped(alloc: Global, net: &[u8]) -> Result<Outcome, AllocError> {
-    let output = annotate(alloc, net, 100)?;
+    let before = filled(alloc, 100)?;
+    let output = annotate(alloc, net, before.as_slice())?;
     Ok(match output.reply {
         _ if !output.rest_kept => Outcome::Touched,
         Ok(_) => Outcome::Annotated,

@@ -4,6 +4,11 @@ use Rattle.packed_arcs.specs.PackedArcs.{tail_of, head_of, capacity_of}
 use Rattle.flow_arcs.specs.declared.direction.Direction.{Direction}
 use Rattle.flow_arcs.specs.declared.direction.Direction.TheVariants.{Forward, Back}
 
+-- The other way.
+abbrev pub reverse : Direction → Direction
+reverse Forward = Back
+reverse Back = Forward
+
 -- The vertex that the residual arc leads from.
 abbrev pub start_of : Direction → ℕ → ℕ
 start_of Forward arc = tail_of arc

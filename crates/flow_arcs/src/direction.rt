@@ -1,6 +1,6 @@
 // Residual arcs: an arc forward, from its tail to its head, where there is room, or back, where it carries something.
 ghost use Rattle.std.specs.Prelude.{◌≡◌, ◌<◌};
-ghost use Rattle.flow_arcs.specs.Directions.{start_of, end_of, room};
+ghost use Rattle.flow_arcs.specs.Directions.{reverse, start_of, end_of, room};
 
 use packed_arcs::arcs::{capacity_of, head_of, tail_of};
 
@@ -13,7 +13,9 @@ pub enum Direction {
 
 impl Direction {
     // The other way.
-    pub fn reverse(self) -> Self {
+    pub fn reverse(self) -> Self
+        ensures { result ≡ reverse self }
+    {
         match self {
             Direction::Forward => Direction::Back,
             Direction::Back => Direction::Forward,
@@ -30,7 +32,7 @@ impl Direction {
         }
     }
 
-    // The vertex that it leads to. Not by `reverse`, which has no clause: two arms are plainer.
+    // The vertex that it leads to. Two arms are plainer than by `reverse`.
     pub fn end_of(self, arc: u64) -> usize
         ensures { (result ≡ end_of self arc) × (result < 256) }
     {

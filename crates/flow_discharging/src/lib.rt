@@ -44,6 +44,14 @@ pub fn discharge(
             guide.current[v] = walk;
             guide.labels.label[v]
         }
+        // nothing stood there: the walk is at its end
+        None if left[v] == 0 => {
+            guide.current[v] = Walk {
+                direction: Direction::Back,
+                arc: net.arcs.len(),
+            };
+            guide.labels.label[v]
+        }
         None => {
             guide.current[v] = Walk::first(Direction::Forward, v, net);
             relabel(v, left.len(), net, guide, x)

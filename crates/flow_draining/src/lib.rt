@@ -30,7 +30,8 @@ fn drain(net: Network<'_>, guide: &mut Guide, x: &mut [u16], left: &mut [u32]) -
     requires { Ready net.arcs.now x.old left.old }
     ensures { Moves net.entry.arcs.now x.old left.old x.new left.new }
 {
-    let mut l = NO_LABEL - 1;
+    // a label is below the number of vertices
+    let mut l = left.len().min(usize::from(NO_LABEL - 1)) as u8;
     for _ in 0..1000 {
         let Some(top) = guide.buckets.highest(l) else {
             return true;
@@ -40,9 +41,11 @@ fn drain(net: Network<'_>, guide: &mut Guide, x: &mut [u16], left: &mut [u32]) -
     false
 }
 
-// Every vertex starts at its first arc.
-fn start_walks(net: Network<'_>, guide: &mut Guide) {
-    for v in 0..256 {
+// Each of the n vertices starts at its first arc.
+fn start_walks(n: usize, net: Network<'_>, guide: &mut Guide)
+    requires { n ≤ 256 }
+{
+    for v in 0..n {
         guide.current[v] = Walk::first(Direction::Forward, v, net);
     }
 }
@@ -74,6 +77,6 @@ pub fn drain_all(net: Network<'_>, guide: &mut Guide, x: &mut [u16], left: &mut 
 {
     fill_buckets(guide, left);
     guide.labels.count_all(left.len());
-    start_walks(net, guide);
+    start_walks(left.len(), net, guide);
     drain(net, guide, x, left)
 }

@@ -65,9 +65,10 @@ impl Labels {
         }
     }
 
-    // Labels every vertex by how many residual arcs lead from it to the root, and orders those that are reached.
-    pub fn label_from(&mut self, root: usize, net: Network<'_>, x: &[u16])
+    // Labels every vertex by how many residual arcs lead from it to the root, and orders those that are reached: how many.
+    pub fn label_from(&mut self, root: usize, net: Network<'_>, x: &[u16]) -> usize
         requires { (root < 256) × (length x.now ≡ length net.arcs.now) }
+        ensures { result ≤ 256 }
     {
         self.label.fill(NO_LABEL);
         self.found = 0;
@@ -81,6 +82,7 @@ impl Labels {
             self.reach_starts(Direction::Back, v, l, net, x);
             done += 1;
         }
+        self.found
     }
 
     // ---- the lowest label next to a vertex
@@ -118,7 +120,7 @@ impl Labels {
         forward
             .min(back)
             .checked_add(1)
-            .filter(|l| usize::from(*l) < n)
+            .filter(|l| *l != NO_LABEL && usize::from(*l) < n)
     }
 
     // ---- how many have a label

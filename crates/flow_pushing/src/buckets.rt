@@ -46,9 +46,9 @@ impl Buckets {
 
     // The highest label from l down, but not 0, whose bucket is not empty.
     pub fn highest(&self, l: u8) -> Option<u8> {
-        for top in (1..=l).rev() {
-            if self.first[usize::from(top)] != NO_VERTEX {
-                return Some(top);
+        for top in (1..usize::from(l) + 1).rev() {
+            if self.first[top] != NO_VERTEX {
+                return Some(top as u8);
             }
         }
         None

@@ -111,7 +111,8 @@ pub fn push_from(
     requires { (v < 256) × Ready net.arcs.now x.old left.old }
     ensures { Moves net.entry.arcs.now x.old left.old x.new left.new }
 {
-    let below = guide.labels.label[v].checked_sub(1)?;
+    // no label is below 0: there it is NO_LABEL
+    let below = guide.labels.label[v].wrapping_sub(1);
     let is_below = |l: u8| l == below;
     let walk = guide.current[v];
     let stopped = give_all(walk, &is_below, net, guide, x, left);

@@ -10,7 +10,7 @@ use program_io::front::read_front;
 use program_io::line::Line;
 use refusals::Refusal;
 use std::fs::Files;
-use written_files::{line_for, save_reply};
+use written_files::{by_number, line_for, save_reply};
 
 // The annotation for what counts of a network file, in the buffer.
 fn annotation(net: &[u8], ann: &mut [u8]) -> Result<u32, Refusal>
@@ -22,7 +22,7 @@ fn annotation(net: &[u8], ann: &mut [u8]) -> Result<u32, Refusal>
 
 // How many bytes of the network file were read into its buffer, whether the annotation is in its file, and the line. The length and the flag are what the clauses
 // say the line for. The line is there whether the file is saved or not, so the flag is no Option or Result of it.
-#[derive(Drop)]
+#[derive(Clone, Copy)]
 pub struct Annotated {
     pub net: usize,
     pub saved: bool,
@@ -41,7 +41,7 @@ pub fn annotate_files<R: Files>(
     ensures { AnnotatedFiles 32768 net.new ann.old ann.new result }
 {
     let n = read_front(files, net_name, net);
-    let reply = annotation(&net[..n], ann);
+    let reply = by_number(annotation(&net[..n], ann));
     let saved = save_reply(files, ann_name, reply, ann);
     Annotated {
         net: n,

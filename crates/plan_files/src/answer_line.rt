@@ -51,7 +51,7 @@ pub fn judge_line(point: &[u8], net: &[u8], ann: &[u8]) -> Line
 
 // How many bytes of each file were read into its buffer, and the line. The lengths are what the clause says the line
 // for.
-#[derive(Drop)]
+#[derive(Clone, Copy)]
 pub struct Judged {
     pub point: usize,
     pub net: usize,

@@ -14,7 +14,7 @@ use refusals::Refusal;
 use std::fs::Files;
 use tide_table::read_table;
 use tide_table::text::number;
-use written_files::{line_for, save_reply};
+use written_files::{by_number, line_for, save_reply};
 
 // The network file of the minute for what counts of a network file, in the buffer.
 fn minute_file(
@@ -30,7 +30,7 @@ fn minute_file(
 
 // How many bytes of the network file were read into its buffer, whether the file of the minute is saved, and the line. The length and the flag are what the clauses
 // say the line for. The line is there whether the file is saved or not, so the flag is no Option or Result of it.
-#[derive(Drop)]
+#[derive(Clone, Copy)]
 pub struct Done {
     pub net: usize,
     pub saved: bool,
@@ -61,7 +61,7 @@ fn schedule_by<R: Files>(
     ensures { DoneAs (windows_outcome (windows_in windows.now) minute (length out.old)) (windows_buffer (windows_in windows.now) minute out.old) net.new out.new result }
 {
     let n = read_front(files, net_name, net);
-    let reply = minute_file(&net[..n], windows, minute, out);
+    let reply = by_number(minute_file(&net[..n], windows, minute, out));
     let saved = save_reply(files, out_name, reply, out);
     Done {
         net: n,
@@ -94,7 +94,7 @@ fn schedule_for<R: Files>(
 }
 
 // How many bytes of the tide table were read into its buffer, where it could be read, and what was done.
-#[derive(Drop)]
+#[derive(Clone, Copy)]
 pub struct Scheduled {
     pub table: Option<usize>,
     pub done: Done,

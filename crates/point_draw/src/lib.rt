@@ -72,7 +72,7 @@ fn entropy<R: RandomSource>(source: &R, random: &mut [u8]) -> usize
 }
 
 // How many random bytes count, whether the points are in their file, and the line, which is there whether they are or not: so the flag is no Option or Result of it.
-#[derive(Drop)]
+#[derive(Clone, Copy)]
 pub struct Made {
     pub random: usize,
     pub saved: bool,

@@ -1,10 +1,12 @@
 -- The decimal digits of a number.
-use mathlib.Core.Path.{◌≡◌, ap, subst}
+use mathlib.Core.Path.{◌≡◌, ◌∙◌, ap, sym, subst}
 use mathlib.Core.List.{List, [], ◌∷◌, ◌++◌}
-use Prim.Native.Nat.{ℕ, zero, suc, ◌-◌, ◌/◌, ◌%◌, ◌^◌, ◌≤◌, ◌<◌}
+use Prim.Native.Nat.{ℕ, zero, suc, ◌+◌, ◌-◌, ◌/◌, ◌%◌, ◌^◌, ◌≤◌, ◌<◌}
 use native.Mathlib.Decide.{dec_le}
 use native.Mathlib.Nat.{pow-suc, le_of_suc-le-suc, lt_of_not-le, pow-le-pow_right}
 use native.Mathlib.Omega.{arith}
+use Rattle.std.specs.Prelude.{drop, replicate}
+use Rattle.std.proofs.lemmas.List.{drop-drop, drop-replicate}
 use Rattle.io.specs.Digits.{hex_digit_ascii, last_digits, IsDigitCount}
 use Rattle.prelude.proofs.Choice.{ltb_on, ltb_off}
 use Rattle.program_io.specs.Line.{decimal_to, decimal}
@@ -57,3 +59,10 @@ few_digits n k small fewest = le_of_suc-le-suc (lt_of_not-le more)
         let p : 10 ^ (k - 1) ≤ n = fewest.2 (omega arith) in
         let q : 10 ^ 20 ≤ 10 ^ (k - 1) = pow-le-pow_right {n = 10} (omega arith) {i = 20} {j = k - 1} (omega arith) in
         omega arith
+
+-- ---- zeros behind a text
+
+-- the zeros that are left where the text grows by j bytes
+pub zeros_behind : (n k j : ℕ) (xs : List ℕ) → drop k xs ≡ replicate (n - k) 0 → drop (k + j) xs ≡ replicate (n - (k + j)) 0
+zeros_behind n k j xs zeros =
+    sym (drop-drop j k xs) ∙ ap (drop j) zeros ∙ drop-replicate j (n - k) 0 ∙ ap (λ (i : ℕ). replicate i 0) (omega arith)

@@ -1,22 +1,33 @@
 // Text in fixed memory, and the lines that the programs print.
-ghost use Rattle.std.specs.Prelude.{◌≡◌, ◌+◌, ◌≤◌, ℕ, List, [], ◌++◌, length, take};
+ghost use Rattle.std.specs.Prelude.{◌≡◌, ◌+◌, ◌≤◌, [], ◌++◌, length};
 ghost use Rattle.program_io.specs.Line.{decimal, number_line, refused_line, saved_line, fitting_text, fitting_line};
 
 use std::marker::Model;
 
-// A text of at most N bytes: no heap, so no String.
-#[derive(Drop)]
+// A text of at most N bytes: no heap, so no String. Zeros stand behind the text, so that it gives the fields back.
+#[derive(Clone, Copy)]
 pub struct Text<const N: usize> {
     bytes: [u8; N],
-    length: usize,
+    size: usize,
 }
 
 impl<const N: usize> Model for Text<N> {
+    ghost use Rattle.std.specs.Prelude.{◌≡◌, ◌≤◌, ◌-◌, ℕ, List, ◌++◌, length, take, drop, replicate};
+    ghost use Rattle.std.proofs.Common.{length-take-le, take-append-drop};
+    ghost use Rattle.std.proofs.Math.Path.{◌∙◌, ap, sym};
+
     ghost Value = { List ℕ };
 
-    ghost view = { λ t. take t.length t.bytes };
+    ghost view = { λ t. take t.size t.bytes };
 
-    ghost invariant = { λ t. t.length ≤ N };
+    ghost invariant = { λ t. (t.size ≤ length t.bytes) × (drop t.size t.bytes ≡ replicate (N - t.size) 0) };
+
+    ghost inverse = { λ text. record { bytes = text ++ replicate (N - length text) 0; size = length text } };
+
+    ghost inverse_ok = { λ t h i. record {
+      bytes = (ap (λ k. take t.size t.bytes ++ replicate (N - k) 0) (length-take-le t.size t.bytes h.0) ∙ ap (λ l. take t.size t.bytes ++ l) (sym h.1) ∙ take-append-drop t.size t.bytes) i;
+      size = length-take-le t.size t.bytes h.0 i;
+    } };
 }
 
 // A line holds a word of eleven bytes, a number of 64 bits and a line end.
@@ -28,7 +39,7 @@ impl<const N: usize> Text<N> {
     {
         Text {
             bytes: [0; N],
-            length: 0,
+            size: 0,
         }
     }
 
@@ -36,7 +47,7 @@ impl<const N: usize> Text<N> {
     pub fn as_bytes(&self) -> &[u8]
         ensures { result.now ≡ self.now }
     {
-        &self.bytes[..self.length]
+        &self.bytes[..self.size]
     }
 
     // Puts the bytes behind the text.
@@ -44,10 +55,10 @@ impl<const N: usize> Text<N> {
         requires { length self.old + length bytes.now ≤ N }
         ensures { self.new ≡ self.old ++ bytes.now }
     {
-        let end = self.length + bytes.len();
+        let end = self.size + bytes.len();
         let room = &mut self.bytes[..];
-        room[self.length..end].copy_from_slice(bytes);
-        self.length = end;
+        room[self.size..end].copy_from_slice(bytes);
+        self.size = end;
     }
 
     // Puts the number in decimal behind the text.

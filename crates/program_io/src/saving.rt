@@ -10,11 +10,12 @@ use std::{fs, str};
 // How many names of new files are tried, one after the other.
 const TRIES: u32 = 1000000;
 
-// Writes the bytes to the open file, waits until they last and closes it.
+// Writes the bytes to the open file, waits until they last and closes it. Each step is tried, whatever came of the one before.
 fn write_out<F: Write + OpenFile + Drop>(mut file: F, bytes: &[u8], mode: u32) -> io::Result<()> {
-    file.set_permissions(Permissions::from_mode(mode))?;
-    file.write_all(bytes)?;
-    file.sync_all()
+    let set = file.set_permissions(Permissions::from_mode(mode));
+    let written = file.write_all(bytes);
+    let lasting = file.sync_all();
+    set.and(written).and(lasting)
 }
 
 // The name of a new file beside the named one, by a number.

@@ -139,7 +139,8 @@ pub fn run(alloc: Global, net: Net, tally: &mut Tally) -> Result<(), AllocError>
     let all = arcs(alloc, net)?;
     let file = network_files::file(alloc, net, all.as_slice())?;
     let c = known(net, all.as_slice());
-    let mut output = annotate(alloc, file.as_slice(), LONGEST_ANNOTATION)?;
+    let before = vec![in alloc; 255u8; LONGEST_ANNOTATION]?;
+    let mut output = annotate(alloc, file.as_slice(), before.as_slice())?;
     let self_loops = all.iter().filter(|arc| arc.is_self_loop()).count();
     tally.networks.count(c.answer);
     add(&mut tally.self_loops, self_loops);

@@ -9,7 +9,7 @@ use reference::instances::{Net, Question};
 use reference::random::below;
 use reference::{network_files, truth};
 use std::alloc::{AllocError, Global};
-use test_calls::writers::{LONGEST_ANNOTATION, Output, annotate, schedule};
+use test_calls::writers::{LONGEST_ANNOTATION, Output, annotate, filled, schedule};
 use testing::bytes::get;
 
 // How many arcs are open and closed, the true answer, and how many things are wrong.
@@ -35,16 +35,28 @@ fn any_point(seed: usize, place: usize) -> u32 {
     (below(2147483647, seed, place, 5) & 0xffffffff) as u32
 }
 
-// Has the helper annotate a network, and judges at two points that look random, and at the key of an arc, where the products are 0, with
-// one of them and twice: how many answers are not the true one.
+// The key of the first arc of a network; a number below p also where there is no arc.
+fn key_of_first(net: &[u8]) -> u32 {
+    if net.len() < 15 {
+        return 1431644842;
+    }
+    Arc::from(get::<4>(net, 11)).key()
+}
+
+// Has the helper annotate a network in a buffer that begins with it, and judges at two points that look random, and at the key of an arc,
+// where the products are 0, with one of them and twice: how many answers are not the true one.
 fn wrong_answers(
     alloc: Global,
     seed: usize,
     answer: Option<u64>,
     net: &[u8],
 ) -> Result<usize, AllocError> {
-    let ann = annotate(alloc, net, LONGEST_ANNOTATION)?.file;
-    let key = Arc::from(get::<4>(net, 11)).key();
+    let mut before = filled(alloc, LONGEST_ANNOTATION)?;
+    for (byte, of_net) in before.as_mut_slice().iter_mut().zip(net) {
+        *byte = *of_net;
+    }
+    let ann = annotate(alloc, net, before.as_slice())?.file;
+    let key = key_of_first(net);
     let any = any_point(seed, 0);
     let pairs = [(any, any_point(seed, 1)), (key, any), (key, key)];
     Ok(
@@ -69,7 +81,8 @@ pub fn run(alloc: Global, net: Net) -> Result<Outcome, AllocError> {
     let open = left(alloc, all.as_slice(), gates.as_slice(), false)?;
     let answer = truth(net, open.as_slice());
     let file = network_files::file(alloc, net, all.as_slice())?;
-    let output = schedule(alloc, file.as_slice(), windows.as_slice(), minute, ROOM)?;
+    let before = filled(alloc, ROOM)?;
+    let output = schedule(alloc, file.as_slice(), windows.as_slice(), minute, before.as_slice())?;
     let stays = net.question == Question::Discharge;
     let rest = left(alloc, all.as_slice(), gates.as_slice(), stays)?;
     let right = is_file(alloc, &output, net, rest.as_slice())?;

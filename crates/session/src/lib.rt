@@ -74,7 +74,7 @@ impl Session {
         ensures answer_value { result.answer ≡ Err refusal }
     {
         let state = self.state;
-        let session = if state.is_ended_by(refusal) {
+        let session = if state.is_ended_by(u8::from(refusal)) {
             ended()
         } else {
             self

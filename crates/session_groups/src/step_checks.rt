@@ -1,7 +1,7 @@
 // The checks of a step in their order (PANEL 6), and which refusals end a session.
 ghost use Rattle.std.specs.Prelude.{◌≡◌, not, ◌&&◌, [], ◌∷◌, ◌++◌, eqb, ltb};
 ghost use Rattle.prelude.specs.Checks.{◌unless◌, first_broken};
-ghost use Rattle.refusals.specs.Refusals.{number, why};
+ghost use Rattle.refusals.specs.Refusals.{why};
 ghost use Rattle.arc_records.specs.Arcs.{arc_held};
 ghost use Rattle.network.specs.Tests.{opening_checks, arc_checks, reading_checks, claim_of, numbering_checks};
 ghost use Rattle.points.specs.Points.{point_ok};
@@ -76,9 +76,9 @@ pub fn repeat_check(
     arc_check(st, arc)
 }
 
-// Does the refusal end a session of this phase? Once a claim stands, every one but 5 does.
-pub fn is_ended_by(phase: u64, refusal: Refusal) -> bool
-    ensures { result ≡ (eqb phase phase_claimed && not (eqb (number refusal) 5)) }
+// Does the refusal of this number end a session of this phase? Once a claim stands, every one but 5 does.
+pub fn is_ended_by(phase: u64, k: u8) -> bool
+    ensures { result ≡ (eqb phase phase_claimed && not (eqb k 5)) }
 {
-    phase == CLAIMED && refusal != Refusal::NotNow
+    phase == CLAIMED && k != u8::from(Refusal::NotNow)
 }

@@ -6,7 +6,7 @@ use checks::Opening;
 use points::Point;
 use refusals::Refusal;
 use session::Session;
-use std::io::{self, Input, Read};
+use std::io::{Input, Read};
 
 // The tail, head and weight of the i-th channel; 32 of 4096 are basins.
 fn tail(i: u32) -> u32 {
@@ -71,17 +71,16 @@ fn number(answer: Result<Option<u64>, Refusal>) -> u64 {
     }
 }
 
-// One session a byte of what one read of the standard input gives.
-fn main(rt: HostRuntime) -> io::Result<()> {
+// One session a byte of what one read of the standard input gives; none where it fails. Whether a line could be printed stops nothing.
+fn main(rt: HostRuntime) {
     let mut input = [0u8; 65536];
-    let n = rt.reader().read(&mut input)?;
+    let n = rt.reader().read(&mut input).unwrap_or(0);
     let point = Point {
         first: 5,
         second: 6,
     };
     for byte in &input[..n] {
         let last = number(one(*byte, point));
-        println!(rt; "{last}")?;
+        let _ = println!(rt; "{last}");
     }
-    Ok(())
 }

@@ -3,7 +3,7 @@
 
 ghost use Rattle.std.specs.Prelude.{◌≡◌, not, ◌&&◌, ◌≤◌, ◌<◌, eqb, set};
 ghost use Rattle.prelude.specs.Checks.{first_broken};
-ghost use Rattle.refusals.specs.Refusals.{number, why};
+ghost use Rattle.refusals.specs.Refusals.{why};
 ghost use Rattle.prelude.specs.Choice.{pick};
 ghost use Rattle.prelude.specs.Lists.{at};
 ghost use Rattle.arc_records.specs.Arcs.{arc_held};
@@ -174,11 +174,11 @@ impl State {
         store(potentials, numbering.given as usize, y);
     }
 
-    // Does the refusal end the session? Once a claim stands, every one but 5 does.
-    pub fn is_ended_by(self, refusal: Refusal) -> bool
-        ensures { result ≡ (is_claimed self && not (eqb (number refusal) 5)) }
+    // Does the refusal of this number end the session? Once a claim stands, every one but 5 does.
+    pub fn is_ended_by(self, k: u8) -> bool
+        ensures { result ≡ (is_claimed self && not (eqb k 5)) }
     {
-        is_ended_by(self.phase, refusal)
+        is_ended_by(self.phase, k)
     }
 
     // The state, or that of a void session where the session is over.

@@ -5,10 +5,12 @@ use testing::answers::Written;
 // How long an annotation can be.
 pub const LONGEST_ANNOTATION: usize = 25604;
 
-// What stands in a buffer before something is written into it.
-const FILLING: u8 = 170;
+// A buffer of so many bytes before something is written into it.
+pub fn filled(alloc: Global, room: usize) -> Result<Vec<u8>, AllocError> {
+    vec![in alloc; 170u8; room]
+}
 
-// What a writer replied, what it wrote, and whether the rest of its buffer is as it was filled: all of it where it refuses.
+// What a writer replied, what it wrote, and whether the rest of its buffer is as it was: all of it where it refuses.
 #[derive(Drop)]
 pub struct Output {
     pub reply: Written,
@@ -16,18 +18,22 @@ pub struct Output {
     pub rest_kept: bool,
 }
 
-// Calls a writer with a buffer of so many bytes.
+// Calls a writer with a buffer in which these bytes stand.
 fn called<W: FnOnce(&mut [u8]) -> Written>(
     alloc: Global,
-    room: usize,
+    before: &[u8],
     writer: W,
 ) -> Result<Output, AllocError>
     requires { W.IsAlwaysCallable writer }
 {
-    let mut file = vec![in alloc; FILLING; room]?;
+    let mut file = before.to_vec(alloc)?;
     let reply = writer(file.as_mut_slice());
     let length = reply.map_or(0, |k| k as usize);
-    let rest_kept = file.iter().skip(length).all(|b| *b == FILLING);
+    let rest_kept = file
+        .iter()
+        .zip(before)
+        .skip(length)
+        .all(|(b, was)| *b == *was);
     file.truncate(length);
     Ok(Output {
         reply,
@@ -36,9 +42,9 @@ fn called<W: FnOnce(&mut [u8]) -> Written>(
     })
 }
 
-// Has the helper annotate a network.
-pub fn annotate(alloc: Global, net: &[u8], room: usize) -> Result<Output, AllocError> {
-    called(alloc, room, |buffer| helper::annotate(net, buffer))
+// Has the helper annotate a network, in a buffer in which these bytes stand.
+pub fn annotate(alloc: Global, net: &[u8], before: &[u8]) -> Result<Output, AllocError> {
+    called(alloc, before, |buffer| helper::annotate(net, buffer))
 }
 
 // Has the calendar write the network of a minute, by windows of a position, a first minute and an end.
@@ -47,11 +53,11 @@ pub fn schedule(
     net: &[u8],
     windows: &[[u32; 3]],
     minute: u32,
-    room: usize,
+    before: &[u8],
 ) -> Result<Output, AllocError> {
     called(
         alloc,
-        room,
+        before,
         |buffer| calendar::schedule(net, windows, minute, buffer),
     )
 }

@@ -49,14 +49,20 @@ pub fn subtract(a: i64, b: i64) -> i64
 pub fn increase(a: i64, x: u32) -> i64
     ensures { result ≡ bounded_sum a (pos x) }
 {
-    add(a, i64::from(x))
+    if is_small(a) {
+        return a + i64::from(x);
+    }
+    a
 }
 
 // The number a with x taken off where a is small, else a.
 pub fn decrease(a: i64, x: u32) -> i64
     ensures { result ≡ bounded_difference a (pos x) }
 {
-    subtract(a, i64::from(x))
+    if is_small(a) {
+        return a - i64::from(x);
+    }
+    a
 }
 
 // The number z, 0 where it is negative.

@@ -14,9 +14,9 @@ pub returns : goal.returns
 returns g c =
     let net = take c.read_front-n.result c.read_front-n.new.buffer in
     let size : length c.args.ann.now ≡ 32768 = omega arith in
-    let is : writer_said c.annotation-reply.result ≡ file_reply net 32768 = c.annotation-reply.ensures.result_value ∙ ap (file_reply net) size in
+    let is : writer_said c.annotation.result ≡ file_reply net 32768 = c.annotation.ensures.result_value ∙ ap (file_reply net) size in
     record {
       net_read = c.read_front-n.ensures;
-      annotation_is = subst (λ (s : WriterSaid). BufferAfter s (counted net) c.args.ann.now c.annotation-reply.new.ann) is c.annotation-reply.ensures.buffer_after;
-      line_is = c.line_for.ensures ∙ ap (λ (s : WriterSaid). reply_line s c.save_reply-saved.result) is;
+      annotation_is = subst (λ (s : WriterSaid). BufferAfter s (counted net) c.args.ann.now c.annotation.new.ann) is c.annotation.ensures.buffer_after;
+      line_is = c.line_for.ensures ∙ ap (λ (s : WriterSaid). reply_line s c.save_reply-saved.result) (c.by_number-reply.ensures ∙ is);
     }

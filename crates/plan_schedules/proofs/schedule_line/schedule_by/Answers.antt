@@ -8,6 +8,6 @@ pub returns : goal.returns
 returns g c =
     record {
       net_read = c.read_front-n.ensures;
-      out_is = c.minute_file-reply.ensures.1;
-      line_is = c.line_for.ensures ∙ ap (λ (s : WriterSaid). reply_line s c.save_reply-saved.result) c.minute_file-reply.ensures.0;
+      out_is = c.minute_file.ensures.1;
+      line_is = c.line_for.ensures ∙ ap (λ (s : WriterSaid). reply_line s c.save_reply-saved.result) (c.by_number-reply.ensures ∙ c.minute_file.ensures.0);
     }
