@@ -114,9 +114,21 @@ pub fn push_from(
     // no label is below 0: there it is NO_LABEL
     let below = guide.labels.label[v].wrapping_sub(1);
     let is_below = |l: u8| l == below;
-    let walk = guide.current[v];
-    let stopped = give_all(walk, &is_below, net, guide, x, left);
-    if stopped.is_some() || walk.direction == Direction::Back {
+    let Walk { direction, arc } = guide.current[v];
+    // each walk is told its direction outright, so that the two are compiled apart
+    if direction == Direction::Back {
+        let back = Walk {
+            direction: Direction::Back,
+            arc,
+        };
+        return give_all(back, &is_below, net, guide, x, left);
+    }
+    let forward = Walk {
+        direction: Direction::Forward,
+        arc,
+    };
+    let stopped = give_all(forward, &is_below, net, guide, x, left);
+    if stopped.is_some() {
         return stopped;
     }
     let back = Walk::first(Direction::Back, v, net);

@@ -45,10 +45,16 @@ fn ask<R: Print + AllocGlobal>(
     tally.show(rt, names)
 }
 
-fn main(rt: HostRuntime) -> io::Result<()> {
-    let names = io::read_to_string(rt.alloc(), rt.reader())?;
+// All networks; where the names cannot be read, they are empty.
+fn run(rt: &HostRuntime) -> io::Result<()> {
+    let names = io::read_to_string(rt.alloc(), rt.reader()).unwrap_or(String::new(rt.alloc()));
     for (place, question) in QUESTIONS.iter().enumerate() {
-        ask(&rt, names.as_str(), place, *question)?;
+        ask(rt, names.as_str(), place, *question)?;
     }
     Ok(())
+}
+
+// A line that cannot be printed is not told of.
+fn main(rt: HostRuntime) {
+    let _ = run(&rt);
 }

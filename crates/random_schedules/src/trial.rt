@@ -82,7 +82,13 @@ pub fn run(alloc: Global, net: Net) -> Result<Outcome, AllocError> {
     let answer = truth(net, open.as_slice());
     let file = network_files::file(alloc, net, all.as_slice())?;
     let before = filled(alloc, ROOM)?;
-    let output = schedule(alloc, file.as_slice(), windows.as_slice(), minute, before.as_slice())?;
+    let output = schedule(
+        alloc,
+        file.as_slice(),
+        windows.as_slice(),
+        minute,
+        before.as_slice(),
+    )?;
     let stays = net.question == Question::Discharge;
     let rest = left(alloc, all.as_slice(), gates.as_slice(), stays)?;
     let right = is_file(alloc, &output, net, rest.as_slice())?;

@@ -21,12 +21,7 @@ pub fn by_number(reply: Result<u32, Refusal>) -> Result<u32, u8>
 }
 
 // Saves the file that the reply tells of, at the front of the buffer, and answers whether it is saved. A refusal touches no file.
-pub fn save_reply<R: Files>(
-    files: &R,
-    name: &[u8],
-    reply: Result<u32, u8>,
-    buffer: &[u8],
-) -> bool {
+pub fn save_reply<R: Files>(files: &R, name: &[u8], reply: Result<u32, u8>, buffer: &[u8]) -> bool {
     let Ok(size) = reply else {
         return false;
     };
