@@ -1,6 +1,6 @@
 // The lines of the script, and the words of a line.
 use super::rows::Rows;
-use super::steps::{step, void};
+use super::steps::{asked_by, step, void};
 use session::Session;
 use std::io;
 use testing::script::repeated;
@@ -9,8 +9,9 @@ use testing::script::repeated;
 fn word<R: Print>(rt: &R, word: &str, from: Session, rows: &mut Rows) -> io::Result<Session> {
     let mut session = from;
     let (once, times) = repeated(word);
+    let asked = asked_by(once);
     for _ in 0..times {
-        let (then, said) = step(session, once);
+        let (then, said) = step(session, asked);
         session = then;
         rows.tell(rt, said)?;
     }

@@ -5,7 +5,7 @@ use refusals::Refusal;
 use session::{Reply, Session};
 use std::fmt;
 use testing::answers::{Answer, Judged};
-use testing::script::{number, numbers};
+use testing::script::numbers;
 
 // A step is accepted, or finishing answers, or either is refused.
 #[derive(Clone, Copy, PartialEq, Eq)]
@@ -52,26 +52,35 @@ fn extended([point, fingerprint, key]: [u32; 3]) -> Said {
     Said::Answered(Ok(Some(u64::from(print))))
 }
 
-// The step that a word stands for, by its letter and its numbers.
-pub fn step(x: Session, word: &str) -> (Session, Said) {
+// What a word asks for: a letter and the numbers behind it.
+#[derive(Clone, Copy)]
+pub struct Asked {
+    letter: Option<char>,
+    numbers: [u32; 6],
+}
+
+pub fn asked_by(word: &str) -> Asked {
     let (letter, list) = word.split_at_checked(1).unwrap_or((word, ""));
-    match letter.chars().next() {
-        Some('O') => told(opened(numbers(list))),
-        Some('R') => {
-            let [a, b, w] = numbers::<3>(list);
-            told(x.read_channel(a, b, w))
-        }
+    Asked {
+        letter: letter.chars().next(),
+        numbers: numbers(list),
+    }
+}
+
+// The step that is asked for.
+pub fn step(x: Session, asked: Asked) -> (Session, Said) {
+    let [a, b, c, d, _, _] = asked.numbers;
+    match asked.letter {
+        Some('O') => told(opened(asked.numbers)),
+        Some('R') => told(x.read_channel(a, b, c)),
         Some('E') => told(x.end_reading()),
-        Some('C') => told(x.claim(number(list))),
-        Some('Y') => told(x.node_number(number(list).cast_signed())),
-        Some('A') => {
-            let [a, b, w, amount] = numbers::<4>(list);
-            told(x.repeat_channel(a, b, w, amount))
-        }
+        Some('C') => told(x.claim(a)),
+        Some('Y') => told(x.node_number(a.cast_signed())),
+        Some('A') => told(x.repeat_channel(a, b, c, d)),
         Some('F') => {
             let reply = x.finish();
             (reply.session, Said::Answered(reply.answer))
         }
-        _ => (x, extended(numbers(list))),
+        _ => (x, extended([a, b, c])),
     }
 }
