@@ -34,7 +34,7 @@ impl<'a> Network<'a> {
 
     // The first arc that starts at the vertex v.
     pub fn first_from(self, direction: Direction, v: usize) -> usize
-        requires { v < 256 }
+        requires { v < 256 + length self.arcs.now }
     {
         usize::from(self.links(direction)[v])
     }
