@@ -25,13 +25,12 @@ fn serve_first(top: u8, net: Network<'_>, guide: &mut Guide, x: &mut [u16], left
     discharge(v, net, guide, x, left)
 }
 
-// Serves the vertices with something to push, highest label first, and stops in any case after 1000 of them: whether nobody waits.
-fn drain(net: Network<'_>, guide: &mut Guide, x: &mut [u16], left: &mut [u32]) -> bool
+// Serves the vertices with something to push, highest label first, from the label top down, and stops in any case after 1000 of them: whether nobody waits.
+fn drain(top: u8, net: Network<'_>, guide: &mut Guide, x: &mut [u16], left: &mut [u32]) -> bool
     requires { Ready net.arcs.now x.old left.old }
     ensures { Moves net.entry.arcs.now x.old left.old x.new left.new }
 {
-    // a label is below the number of vertices
-    let mut l = left.len().min(usize::from(NO_LABEL - 1)) as u8;
+    let mut l = top;
     for _ in 0..1000 {
         let Some(top) = guide.buckets.highest(l) else {
             return true;
@@ -50,24 +49,28 @@ fn start_walks(n: usize, net: Network<'_>, guide: &mut Guide)
     }
 }
 
-// Puts v into the bucket of its label, where something stands there and it has a label.
-fn await_turn(v: usize, stands: u32, guide: &mut Guide)
+// Puts v into the bucket of its label, where something stands there and it has a label: that label, else 0.
+fn await_turn(v: usize, stands: u32, guide: &mut Guide) -> u8
     requires { v < 256 }
 {
     let l = guide.labels.label[v];
-    if l != NO_LABEL && stands != 0 {
-        guide.buckets.put(v, l);
+    if l == NO_LABEL || stands == 0 {
+        return 0;
     }
+    guide.buckets.put(v, l);
+    l
 }
 
-// Every vertex with a label where something stands is put into its bucket.
-fn fill_buckets(guide: &mut Guide, left: &[u32])
+// Every vertex with a label where something stands is put into its bucket: the highest of these labels. Labels may be of a network with more vertices.
+fn fill_buckets(guide: &mut Guide, left: &[u32]) -> u8
     requires { length left.now ≤ 256 }
 {
     guide.buckets.clear();
+    let mut top = 0;
     for (v, stands) in left.iter().enumerate() {
-        await_turn(v, *stands, guide);
+        top = await_turn(v, *stands, guide).max(top);
     }
+    top
 }
 
 // Pushes what stands at the vertices towards the root of the labels: whether nothing that has a label is left.
@@ -75,8 +78,8 @@ pub fn drain_all(net: Network<'_>, guide: &mut Guide, x: &mut [u16], left: &mut 
     requires { Ready net.arcs.now x.old left.old }
     ensures { Moves net.entry.arcs.now x.old left.old x.new left.new }
 {
-    fill_buckets(guide, left);
+    let top = fill_buckets(guide, left);
     guide.labels.count_all(left.len());
     start_walks(left.len(), net, guide);
-    drain(net, guide, x, left)
+    drain(top, net, guide, x, left)
 }
