@@ -16,6 +16,8 @@ use limits::is_preflowable;
 use packed_arcs::OutOfLimits;
 
 mod limits;
+#[cfg(test)]
+mod tests;
 
 // Moves what stands at s as far as it goes to t, and what is left over at other vertices back to s.
 fn push_all(s: usize, t: usize, net: Network<'_>, x: &mut [u16], left: &mut [u32])
