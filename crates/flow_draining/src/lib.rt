@@ -25,12 +25,13 @@ fn serve_first(top: u8, net: Network<'_>, guide: &mut Guide, x: &mut [u16], left
     discharge(v, net, guide, x, left)
 }
 
-// Serves the vertices with something to push, highest label first, from the label top down, and stops in any case after 1000 of them: whether nobody waits.
-fn drain(top: u8, net: Network<'_>, guide: &mut Guide, x: &mut [u16], left: &mut [u32]) -> bool
+// Serves the vertices with something to push, of which none has a label above highest, highest label first, and stops in any case after 1000 of them: whether nobody
+// waits.
+fn drain(highest: u8, net: Network<'_>, guide: &mut Guide, x: &mut [u16], left: &mut [u32]) -> bool
     requires { Ready net.arcs.now x.old left.old }
     ensures { Moves net.entry.arcs.now x.old left.old x.new left.new }
 {
-    let mut l = top;
+    let mut l = highest;
     for _ in 0..1000 {
         let Some(top) = guide.buckets.highest(l) else {
             return true;
@@ -66,11 +67,11 @@ fn fill_buckets(guide: &mut Guide, left: &[u32]) -> u8
     requires { length left.now ≤ 256 }
 {
     guide.buckets.clear();
-    let mut top = 0;
+    let mut highest = 0;
     for (v, stands) in left.iter().enumerate() {
-        top = await_turn(v, *stands, guide).max(top);
+        highest = await_turn(v, *stands, guide).max(highest);
     }
-    top
+    highest
 }
 
 // Pushes what stands at the vertices towards the root of the labels: whether nothing that has a label is left.
@@ -78,8 +79,8 @@ pub fn drain_all(net: Network<'_>, guide: &mut Guide, x: &mut [u16], left: &mut 
     requires { Ready net.arcs.now x.old left.old }
     ensures { Moves net.entry.arcs.now x.old left.old x.new left.new }
 {
-    let top = fill_buckets(guide, left);
+    let highest = fill_buckets(guide, left);
     guide.labels.count_all(left.len());
     start_walks(left.len(), net, guide);
-    drain(top, net, guide, x, left)
+    drain(highest, net, guide, x, left)
 }

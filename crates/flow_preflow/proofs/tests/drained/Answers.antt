@@ -1,4 +1,3 @@
-use native.Mathlib.Omega.{arith}
 use Rattle.prelude.proofs.Tested.{not_on}
 use Rattle.flow_moves.proofs.Conserving.{out_links, into_links}
 use Rattle.flow_preflow.proofs.Outcomes.{Passed, preflow_passed, preflow_facts, by_tail, by_head, supplied}
