@@ -8,10 +8,10 @@ use Rattle.flow_moves.proofs.Conserving.{out_links, into_links}
 use Rattle.flow_preflow.specs.Outcome.{PreflowOutcome}
 
 pub record AfterPreflow (arcs x left out into : List ℕ) : Type 0 where
-  pub by_tail : Links arcs out
-  pub by_head : Links arcs into
+  pub out_linked : Links arcs out
+  pub into_linked : Links arcs into
   pub ready : Ready arcs x left
 
 pub after_preflow : {arcs : List ℕ} {s t supply : ℕ} {x left out into x' left' out' into' : List ℕ}
     → PreflowOutcome arcs s t supply x left out into x' left' out' into' true → AfterPreflow arcs x' left' out' into'
-after_preflow (PreflowOutcome.moved e o i c) = record { by_tail = out_links o; by_head = into_links i; ready = record { start = _; holds = c } }
+after_preflow (PreflowOutcome.moved e o i c) = record { out_linked = out_links o; into_linked = into_links i; ready = record { start = _; holds = c } }

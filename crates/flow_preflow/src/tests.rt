@@ -29,7 +29,7 @@ fn drained(
     Ok(drain_all(Network { arcs, out, into }, guide, x, left))
 }
 
-// What stands at 2 goes on to 0, whatever the label of 0 is: also above the number of vertices.
+// What stands at 2 goes on to 0, whatever the label of 0 is while 2 has one: also above the number of vertices.
 #[test]
 fn labels_above_the_vertices(rt: HostRuntime) {
     for lowest in [0u8, 1, 2, 3, 100, 198, 252] {

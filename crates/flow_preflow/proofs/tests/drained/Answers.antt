@@ -4,8 +4,8 @@ use Rattle.flow_preflow.proofs.tests.drained.Goals as goal
 pub invariant_of-drain_all : goal.invariant_of-drain_all
 invariant_of-drain_all c =
     let moved = after_preflow c.in_ok-preflow.ensures in record {
-      out_links = moved.by_tail;
-      into_links = moved.by_head;
+      out_links = moved.out_linked;
+      into_links = moved.into_linked;
     }
 
 pub drain_all-requires : goal.drain_all-requires
